@@ -1,0 +1,3 @@
+pub mod BoolLaws
+pub mod LineLaws
+pub mod NumberLaws
