@@ -1,3 +1,2 @@
-pub mod BoolLaws
 pub mod LineLaws
 pub mod NumberLaws

@@ -7,14 +7,15 @@ use mathlib.Core.List.{List, [], _∷_, _++_, foldl}
 use native.Mathlib.Omega.{arith}
 use native.Mathlib.Numerals.{add-one}
 use lib.Dec.{eqb, leb}
-use lib.ListN.{length, getD, take, drop, set, length-set, drop-of-length-le}
-use lib.Seq.{drop-cons, length-take-le, take-suc-set, take-all}
+use lib.ListN.{length, getD, take, drop, set, length-set}
+use lib.Seq.{length-take-le, take-suc-set, take-all}
 use borrow.Author.Tests.{leb-true, lt-ltb, le-ltb, eq-eqb, ne-eqb}
 use Rattle.text.specs.Numbers.{Reading, start, digits, done, broken, isDigit, firstDigit, moreDigits, numberEnd, byteRead, result, numbers}
 use Rattle.text.specs.Progress.{readingOf, countOf, Goes, Steps}
 use Rattle.text.specs.declared.numbers.Progress.{Progress}
 use Rattle.text.specs.declared.numbers.Progress.the-variants.{Start, Digits, Done, Broken}
-use Rattle.text.proofs.BoolLaws.{and-left, and-right}
+use Rattle.laws.proofs.Tests.{and-left, and-right}
+use Rattle.laws.proofs.Lists.{fed-at, fed-past}
 
 pub digit-within : (b : ℕ) → isDigit b ≡ true → (48 ≤ b) × (b ≤ 57)
 digit-within b e = (leb-true 48 b (and-left (leb 48 b) (leb b 57) e), leb-true b 57 (and-right (leb 48 b) (leb b 57) e))
@@ -45,14 +46,6 @@ module _ (out : List ℕ) (k n b : ℕ) (h : k ≤ length out) where
 
   pub other-end : (b ≡ 44 → ⊥) → (b ≡ 10 → ⊥) → broken ≡ numberEnd (length out) (take k out) n b
   other-end d e = rw (ne-eqb b 44 d, ne-eqb b 10 e)
-
--- a machine that is fed a list from a place on: one element more, and none
-module _ {S A : Type 0} (f : S → A → S) (s : S) (l : List A) (i : ℕ) where
-  pub fed-at : (d : A) → i < length l → foldl f s (drop i l) ≡ foldl f (f s (getD l i d)) (drop (i + 1) l)
-  fed-at d h = rw (add-one, drop-cons l i d h)
-
-  pub fed-past : length l ≤ i → foldl f s (drop i l) ≡ s
-  fed-past h = rw (drop-of-length-le l h)
 
 -- one byte more, by the case of the progress
 module _ (p r : Progress) (b : ℕ) (out : List ℕ) (h : countOf p ≤ length out) where

@@ -1,6 +1,6 @@
 -- Laws of tests that are joined or that decide a case.
 -- Assumes nothing.
-use Prim.Native.Nat.{ℕ}
+use Prim.Native.Nat.{ℕ, suc, _≤_}
 use mathlib.Core.Path.{_≡_, refl}
 use mathlib.Core.Bool.{Bool, true, false, cond, _&&_}
 use native.Mathlib.Omega.{arith}
@@ -23,3 +23,7 @@ and-both a b e f = rw e f
 pub cond-has : {A : Type 0} (P : A → Type 0) (b : Bool) (x y : A) → (b ≡ true → P x) → (b ≡ false → P y) → P (cond b x y)
 cond-has P true x y f g = f refl
 cond-has P false x y f g = g refl
+
+-- a number that is at least n and is not n
+pub past : (n k : ℕ) → n ≤ k → (k ≡ n → ⊥) → suc n ≤ k
+past n k h e = omega (arith, e)

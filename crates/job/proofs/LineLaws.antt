@@ -1,0 +1,70 @@
+-- Laws of a line's numbers and of the reason that refuses it.
+-- Assumes nothing.
+use Prim.Native.Nat.{ℕ, _+_, _-_, _≤_, _<_}
+use mathlib.Core.Path.{_≡_, refl, sym, _∙_, ap}
+use mathlib.Core.Bool.{Bool, true, false}
+use mathlib.Core.List.{List, [], _∷_, _++_}
+use mathlib.Core.Option.{Option, none, some}
+use native.Mathlib.Omega.{arith}
+use lib.ListN.{length, getD, take}
+use Rattle.text.specs.Lines.{valueOf}
+use Rattle.text.specs.Progress.{answered}
+use Rattle.job.specs.Line.{key, width}
+use Rattle.job.specs.Fault.{fault}
+use Rattle.job.specs.Store.{listOf, numbersOf}
+use Rattle.job.specs.declared.head.Counts.{Counts}
+use Rattle.job.specs.declared.line.Line.{Line}
+use Rattle.job.specs.declared.line.Line.the-variants.{Job, Facts, Init, Formulas, Formula, Moves, Move, Effect, Goal, Program, Row, End}
+use Rattle.job.specs.declared.line.Numbers.{Numbers}
+
+-- at most four numbers
+pub width-within : (next : Line) → width next ≤ 4
+width-within Job = omega arith
+width-within Facts = omega arith
+width-within Init = omega arith
+width-within Formulas = omega arith
+width-within Formula = omega arith
+width-within Moves = omega arith
+width-within Move = omega arith
+width-within Effect = omega arith
+width-within Goal = omega arith
+width-within Program = omega arith
+width-within Row = omega arith
+width-within End = omega arith
+
+-- the value after the key of the sort that comes next
+pub value-of : {next : Line} (k : Line) {v : List ℕ} (line : List ℕ) → next ≡ k → v ≡ valueOf (key k) line → v ≡ valueOf (key next) line
+value-of k line e h = rw e h
+
+-- four numbers, of which the first were filled
+pub filled-front : (out rest : List ℕ) (w : ℕ) → length out ≡ w → w ≤ 4
+    → take w (getD (out ++ rest) 0 0 ∷ getD (out ++ rest) 1 0 ∷ getD (out ++ rest) 2 0 ∷ getD (out ++ rest) 3 0 ∷ []) ≡ out
+filled-front [] rest w e h = rw (← e)
+filled-front (a ∷ []) rest w e h = rw (← e)
+filled-front (a ∷ b ∷ []) rest w e h = rw (← e)
+filled-front (a ∷ b ∷ c ∷ []) rest w e h = rw (← e)
+filled-front (a ∷ b ∷ c ∷ d ∷ []) rest w e h = rw (← e)
+filled-front (a ∷ b ∷ c ∷ d ∷ x ∷ out) rest w e h = absurd (omega arith)
+
+-- the numbers of a line, as the fill answered
+module _ (next : Line) (r : Numbers) (out : List ℕ) where
+  pub numbers-answered : (formed : Bool) → r .formed ≡ formed → listOf next r ≡ out → numbersOf next r ≡ answered formed out
+  numbers-answered true e h = rw e (ap some h)
+  numbers-answered false e h = rw e
+
+-- the reason that refuses a well-formed line, and one of wrong form
+module _ (next : Line) (c : Counts) (r : Numbers) where
+  pub fault-of : (k : Line) → next ≡ k → r .formed ≡ true → fault next c (numbersOf next r) ≡ fault k c (some (listOf k r))
+  fault-of k e h = rw (e, h)
+
+  pub fault-form : r .formed ≡ false → fault next c (numbersOf next r) ≡ 1
+  unfolding fault
+  fault-form h = rw h
+
+  formed-case : (formed : Bool) → r .formed ≡ formed → fault next c (numbersOf next r) ≡ 0 → r .formed ≡ true
+  formed-case true e h = e
+  formed-case false e h = absurd (omega (arith, sym (fault-form e) ∙ h))
+
+  -- a line that no reason refuses is well formed
+  pub right-formed : fault next c (numbersOf next r) ≡ 0 → r .formed ≡ true
+  right-formed h = formed-case (r .formed) refl h

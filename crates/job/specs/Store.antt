@@ -1,0 +1,71 @@
+-- What the store of a job stands for: a head of numbers, and a table of rows of four numbers each, every sort of row from a place of its own on.
+use Prim.Native.Nat.{ℕ, zero, suc, _+_, _*_}
+use mathlib.Core.Path.{_≡_}
+use mathlib.Core.Bool.{cond}
+use mathlib.Core.List.{List, [], _∷_, _++_}
+use mathlib.Core.Option.{Option, none, some}
+use lib.ListN.{length, getD, take}
+use Rattle.job.specs.Job.{Job, formulaOf, moveOf, effectOf, rowOf}
+use Rattle.job.specs.Line.{width}
+use Rattle.job.specs.ReadJob.{Reading, on, Outcome, accepted, refused}
+use Rattle.job.specs.declared.head.Head.{Head}
+use Rattle.job.specs.declared.line.Line.{Line}
+use Rattle.job.specs.declared.line.Numbers.{Numbers}
+use Rattle.job.specs.declared.reading.State.{State}
+use Rattle.job.specs.declared.reading.Answer.{Answer}
+use Rattle.job.specs.declared.reading.Answer.the-variants.{Accepted, Refused}
+
+-- where the rows of each sort begin, and how many rows there are in all
+abbrev pub formulasAt : ℕ
+formulasAt = 0
+
+abbrev pub movesAt : ℕ
+movesAt = 255
+
+abbrev pub effectsAt : ℕ
+effectsAt = 319
+
+abbrev pub programAt : ℕ
+programAt = 1343
+
+abbrev pub allRows : ℕ
+allRows = 1471
+
+-- row i of a table
+abbrev pub rowAt : List ℕ → ℕ → List ℕ
+rowAt l i = getD l (i * 4) 0 ∷ getD l (i * 4 + 1) 0 ∷ getD l (i * 4 + 2) 0 ∷ getD l (i * 4 + 3) 0 ∷ []
+
+-- n rows of a table from row `first` on, as f reads them
+unfoldable pub rowsFrom : {A : Type 0} → (List ℕ → A) → List ℕ → ℕ → ℕ → List A
+rowsFrom f l first zero = []
+rowsFrom f l first (suc n) = rowsFrom f l first n ++ (f (rowAt l (first + n)) ∷ [])
+
+abbrev pub jobOf : Head → List ℕ → Job
+jobOf h l = record {
+    scalars = record { facts = h .counts .facts; init = h .init; goal = h .goal };
+    formulas = rowsFrom formulaOf l formulasAt (h .counts .formulas);
+    moves = rowsFrom moveOf l movesAt (h .counts .moves);
+    effects = rowsFrom effectOf l effectsAt (h .counts .effects);
+    program = rowsFrom rowOf l programAt (h .counts .program) }
+
+-- a head with other scalars
+abbrev pub withNumbers : Head → ℕ → ℕ → ℕ → Head
+withNumbers h facts init goal = record {
+    counts = record {
+      facts = facts; formulas = h .counts .formulas; moves = h .counts .moves; effects = h .counts .effects; program = h .counts .program };
+    init = init; goal = goal }
+
+abbrev pub readingOf : State → List ℕ → Reading
+readingOf s l = on (s .next) (s .rows) (s .effects) (jobOf (s .head) l)
+
+-- a line's numbers, as many as its sort has
+abbrev pub listOf : Line → Numbers → List ℕ
+listOf next r = take (width next) (r .a ∷ r .b ∷ r .c ∷ r .d ∷ [])
+
+abbrev pub numbersOf : Line → Numbers → Option (List ℕ)
+numbersOf next r = cond (r .formed) (some (listOf next r)) none
+
+-- the paper's number and values for each case of the answer, with the rows that the table holds
+abbrev pub outcomeOf : Answer → List ℕ → Outcome
+outcomeOf (Accepted n h) l = accepted n (jobOf h l)
+outcomeOf (Refused n p) l = refused n p

@@ -1,0 +1,60 @@
+-- What every accepted job keeps: ranges, references that fall, unused fields that are 0.
+use Prim.Native.Nat.{ℕ, _+_, _≤_, _<_}
+use mathlib.Core.List.{List, [], _∷_}
+use lib.ListN.{length, getD}
+use Rattle.job.specs.StateCount.{stateCount}
+use Rattle.job.specs.Job.{Job, Formula, Move, Effect, Row, formulaOf, moveOf, effectOf, rowOf}
+use Rattle.job.specs.Fields.{formulaFields, rowFields, Within}
+use Rattle.job.specs.declared.head.Counts.{Counts}
+
+-- P holds of each row at its number
+abbrev pub Every : {A : Type 0} → A → (ℕ → A → Type 0) → List A → Type 0
+Every d P l = (i : ℕ) → i < length l → P i (getD l i d)
+
+-- what a formula may refer to: facts, and the i formulas before it
+abbrev pub beforeFormula : ℕ → ℕ → Counts
+beforeFormula facts i = record { facts = facts; formulas = i; moves = 0; effects = 0; program = 0 }
+
+abbrev pub FormulaRows : ℕ → List Formula → Type 0
+FormulaRows facts = Every (formulaOf []) (λ i f. Within (beforeFormula facts i) (getD formulaFields (f .kind) []) (f .a ∷ f .b ∷ []))
+
+-- a move beside so many formulas and effects
+pub record MoveFits (formulas effects : ℕ) (m : Move) : Type 0 where
+  pub pre : m .pre < formulas
+  pub class : m .class ≤ 15
+  pub count : m .count ≤ 16
+  pub own : m .first + m .count ≤ effects
+
+abbrev pub MoveRows : ℕ → ℕ → List Move → Type 0
+MoveRows formulas effects = Every (moveOf []) (λ i m. MoveFits formulas effects m)
+
+-- an effect beside so many facts and formulas
+pub record EffectFits (facts formulas : ℕ) (e : Effect) : Type 0 where
+  pub cond : e .cond < formulas
+  pub fact : e .fact < facts
+  pub value : e .value ≤ 1
+
+abbrev pub EffectRows : ℕ → ℕ → List Effect → Type 0
+EffectRows facts formulas = Every (effectOf []) (λ i e. EffectFits facts formulas e)
+
+-- what a program row may refer to: facts, formulas, moves, and the i rows before it
+abbrev pub beforeRow : Job → ℕ → Counts
+beforeRow j i = record {
+    facts = j .scalars .facts; formulas = length (j .formulas); moves = length (j .moves); effects = length (j .effects); program = i }
+
+abbrev pub ProgramRows : Job → List Row → Type 0
+ProgramRows j = Every (rowOf []) (λ i r. Within (beforeRow j i) (getD rowFields (r .kind) []) (r .a ∷ r .b ∷ r .c ∷ []))
+
+pub record WellFormed (j : Job) : Type 0 where
+  pub facts : j .scalars .facts ≤ 12
+  pub init : j .scalars .init < stateCount (j .scalars .facts)
+  pub goal : j .scalars .goal < length (j .formulas)
+  pub formulas : length (j .formulas) ≤ 255
+  pub formula : FormulaRows (j .scalars .facts) (j .formulas)
+  pub moves : length (j .moves) ≤ 64
+  pub move : MoveRows (length (j .formulas)) (length (j .effects)) (j .moves)
+  pub effects : length (j .effects) ≤ 1024
+  pub effect : EffectRows (j .scalars .facts) (length (j .formulas)) (j .effects)
+  pub program : length (j .program) ≤ 128
+  pub last : 0 < length (j .program)
+  pub row : ProgramRows j (j .program)

@@ -1,0 +1,110 @@
+// What the fields of a row may refer to, by its kind.
+ghost use mathlib.Core.Path.{_≡_};
+ghost use mathlib.Core.List.{[], _∷_};
+ghost use Prim.Native.Nat.{_<_};
+ghost use lib.ListN.{getD};
+ghost use Rattle.job.specs.Fields.{formulaFields, rowFields, within};
+ghost use Rattle.job.specs.Fields.{bound as fieldBound};
+use crate::head::Counts;
+
+pub enum Field {
+    Unused,
+    Fact,
+    Formula,
+    Move,
+    Row,
+}
+
+pub struct Fields {
+    pub a: Field,
+    pub b: Field,
+    pub c: Field,
+}
+
+// A field is below this number.
+fn bound(f: Field, counts: Counts) -> u16
+    ensures { λ r. ⌜ r ≡ fieldBound counts f ⌝ }
+{
+    match f {
+        Field::Unused => 1,
+        Field::Fact => counts.facts,
+        Field::Formula => counts.formulas,
+        Field::Move => counts.moves,
+        Field::Row => counts.program,
+    }
+}
+
+// The fields of a formula of this kind; it has no c.
+fn formula_fields(kind: u16) -> Fields
+    requires { ⌜ kind < 6 ⌝ }
+    ensures { λ r. ⌜ getD formulaFields kind [] ≡ r .a ∷ r .b ∷ [] ⌝ }
+{
+    match kind {
+        0 => listed(Field::Unused, Field::Unused, Field::Unused),
+        1 => listed(Field::Unused, Field::Unused, Field::Unused),
+        2 => listed(Field::Fact, Field::Unused, Field::Unused),
+        3 => listed(Field::Formula, Field::Unused, Field::Unused),
+        4 => listed(Field::Formula, Field::Formula, Field::Unused),
+        _ => listed(Field::Formula, Field::Formula, Field::Unused),
+    }
+}
+
+// The fields of a program row of this kind.
+fn row_fields(kind: u16) -> Fields
+    requires { ⌜ kind < 9 ⌝ }
+    ensures { λ r. ⌜ getD rowFields kind [] ≡ r .a ∷ r .b ∷ r .c ∷ [] ⌝ }
+{
+    match kind {
+        0 => listed(Field::Unused, Field::Unused, Field::Unused),
+        1 => listed(Field::Move, Field::Unused, Field::Unused),
+        2 => listed(Field::Unused, Field::Unused, Field::Unused),
+        3 => listed(Field::Formula, Field::Unused, Field::Unused),
+        4 => listed(Field::Row, Field::Row, Field::Unused),
+        5 => listed(Field::Formula, Field::Row, Field::Row),
+        6 => listed(Field::Row, Field::Row, Field::Unused),
+        7 => listed(Field::Formula, Field::Row, Field::Unused),
+        _ => listed(Field::Row, Field::Unused, Field::Unused),
+    }
+}
+
+fn listed(a: Field, b: Field, c: Field) -> Fields
+    ensures { λ r. ⌜ (r .a ≡ a) × (r .b ≡ b) × (r .c ≡ c) ⌝ }
+{
+    Fields { a: a, b: b, c: c }
+}
+
+// Whether a formula refers to facts and earlier formulas alone.
+pub fn formula_right(kind: u16, a: u16, b: u16, counts: Counts) -> bool
+    ensures { λ r. ⌜ r ≡ within counts (getD formulaFields kind []) (a ∷ b ∷ []) ⌝ }
+{
+    if 5 < kind {
+        return false;
+    }
+    let f = formula_fields(kind);
+    let fa = f.a;
+    let fb = f.b;
+    if a < bound(fa, counts) {
+        return b < bound(fb, counts);
+    }
+    false
+}
+
+// Whether a program row refers to formulas, moves and earlier rows alone.
+pub fn row_right(kind: u16, a: u16, b: u16, c: u16, counts: Counts) -> bool
+    ensures { λ r. ⌜ r ≡ within counts (getD rowFields kind []) (a ∷ b ∷ c ∷ []) ⌝ }
+{
+    if 8 < kind {
+        return false;
+    }
+    let f = row_fields(kind);
+    let fa = f.a;
+    let fb = f.b;
+    let fc = f.c;
+    if a < bound(fa, counts) {
+        if b < bound(fb, counts) {
+            return c < bound(fc, counts);
+        }
+        return false;
+    }
+    false
+}

@@ -1,0 +1,24 @@
+// The table of a job's rows, four numbers a row.
+ghost use mathlib.Core.Path.{_≡_};
+ghost use mathlib.Core.List.{[], _∷_};
+ghost use Prim.Native.Nat.{_*_, _<_};
+ghost use lib.ListN.{length};
+ghost use lib.Seq.{sets};
+ghost use Rattle.job.specs.Store.{allRows};
+
+// Where the moves, the effects and the program rows begin; the formulas come first.
+pub const MOVES: u16 = 255;
+pub const EFFECTS: u16 = 319;
+pub const PROGRAM: u16 = 1343;
+
+// Row i of the table, written anew.
+pub fn put_row(table: &mut [u16], i: u16, a: u16, b: u16, c: u16, d: u16)
+    requires { ⌜ (i < allRows) × (length (now table) ≡ allRows * 4) ⌝ }
+    ensures { λ _. ⌜ now (table .exit) ≡ sets (now (table .entry)) (i * 4) (a ∷ b ∷ c ∷ d ∷ []) ⌝ }
+{
+    let at = (i as usize) * 4;
+    table[at] = a;
+    table[at + 1] = b;
+    table[at + 2] = c;
+    table[at + 3] = d;
+}
