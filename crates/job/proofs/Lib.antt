@@ -1,2 +1,5 @@
 pub mod LineLaws
 pub mod StoreLaws
+pub mod RoomLaws
+pub mod RowLaws
+pub mod ReadLaws

@@ -11,8 +11,8 @@ use lib.Seq.{sets, getD-append-seam}
 use Rattle.laws.proofs.Lists.{getD-sets-before, getD-sets-after, getD-sets-in}
 use Rattle.job.specs.Job.{Job, countsOf, formulaOf, moveOf, effectOf, rowOf, addFormula, addMove, addEffect, addRow}
 use Rattle.job.specs.ReadJob.{on, taken, takenAt}
-use Rattle.job.specs.Store.{rowAt, rowsFrom, jobOf, readingOf, listOf}
-use Rattle.job.specs.Kept.{Room}
+use Rattle.job.specs.Store.{rowAt, rowsFrom, storedMove, jobOf, readingOf, listOf}
+use Rattle.job.specs.Room.{Room}
 use Rattle.job.specs.declared.head.Counts.{Counts}
 use Rattle.job.specs.declared.head.Head.{Head}
 use Rattle.job.specs.declared.line.Line.{Line}
@@ -90,26 +90,20 @@ module _ (h : Head) (l : List ℕ) (a b c d : ℕ) (len : length l ≡ 5884)
   formula-added g =
       let i : ℕ = h .counts .formulas in
       rw (put-next formulaOf l i a b c d 0 (h .counts .formulas) (omega arith) (omega arith),
-        put-before moveOf l i a b c d 255 (h .counts .moves) (omega arith),
-        put-before effectOf l i a b c d 319 (h .counts .effects) (omega arith),
-        put-before rowOf l i a b c d 1343 (h .counts .program) (omega arith))
-
-  move-added : h .counts .moves < 64
-      → jobOf (counted h (h .counts .formulas) (h .counts .moves + 1) (h .counts .effects) (h .counts .program)) (with-row (255 + h .counts .moves))
-      ≡ addMove (jobOf h l) (moveOf (a ∷ b ∷ c ∷ d ∷ []))
-  move-added g =
-      let i : ℕ = 255 + h .counts .moves in
-      rw (put-behind formulaOf l i a b c d 0 (h .counts .formulas) (omega arith),
-        put-next moveOf l i a b c d 255 (h .counts .moves) (omega arith) (omega arith),
+        put-before storedMove l i a b c d 255 (h .counts .moves) (omega arith),
         put-before effectOf l i a b c d 319 (h .counts .effects) (omega arith),
         put-before rowOf l i a b c d 1343 (h .counts .program) (omega arith))
 
   -- a move, whose effects begin behind all others
-  pub move-behind : h .counts .moves < 64 → d ≡ h .counts .effects
+  pub move-added : h .counts .moves < 64 → d ≡ h .counts .effects
       → jobOf (counted h (h .counts .formulas) (h .counts .moves + 1) (h .counts .effects) (h .counts .program)) (with-row (255 + h .counts .moves))
-      ≡ addMove (jobOf h l) (moveOf ((a ∷ b ∷ c ∷ []) ++ (length (jobOf h l .effects) ∷ [])))
-  move-behind g e =
-      move-added g ∙ ap (λ (k : ℕ). addMove (jobOf h l) (moveOf (a ∷ b ∷ c ∷ k ∷ []))) (e ∙ sym (rows-length effectOf l 319 (h .counts .effects)))
+      ≡ addMove (jobOf h l) (moveOf (length (jobOf h l .effects)) (a ∷ b ∷ c ∷ []))
+  move-added g e =
+      let i : ℕ = 255 + h .counts .moves in
+      rw (put-behind formulaOf l i a b c d 0 (h .counts .formulas) (omega arith),
+        put-next storedMove l i a b c d 255 (h .counts .moves) (omega arith) (omega arith),
+        put-before effectOf l i a b c d 319 (h .counts .effects) (omega arith),
+        put-before rowOf l i a b c d 1343 (h .counts .program) (omega arith), rows-length effectOf l 319 (h .counts .effects), e)
 
   pub effect-added : h .counts .effects < 1024
       → jobOf (counted h (h .counts .formulas) (h .counts .moves) (h .counts .effects + 1) (h .counts .program)) (with-row (319 + h .counts .effects))
@@ -117,7 +111,7 @@ module _ (h : Head) (l : List ℕ) (a b c d : ℕ) (len : length l ≡ 5884)
   effect-added g =
       let i : ℕ = 319 + h .counts .effects in
       rw (put-behind formulaOf l i a b c d 0 (h .counts .formulas) (omega arith),
-        put-behind moveOf l i a b c d 255 (h .counts .moves) (omega arith),
+        put-behind storedMove l i a b c d 255 (h .counts .moves) (omega arith),
         put-next effectOf l i a b c d 319 (h .counts .effects) (omega arith) (omega arith),
         put-before rowOf l i a b c d 1343 (h .counts .program) (omega arith))
 
@@ -127,7 +121,7 @@ module _ (h : Head) (l : List ℕ) (a b c d : ℕ) (len : length l ≡ 5884)
   row-added g =
       let i : ℕ = 1343 + h .counts .program in
       rw (put-behind formulaOf l i a b c d 0 (h .counts .formulas) (omega arith),
-        put-behind moveOf l i a b c d 255 (h .counts .moves) (omega arith),
+        put-behind storedMove l i a b c d 255 (h .counts .moves) (omega arith),
         put-behind effectOf l i a b c d 319 (h .counts .effects) (omega arith),
         put-next rowOf l i a b c d 1343 (h .counts .program) (omega arith) (omega arith))
 

@@ -52,8 +52,8 @@ countsOf j = record {
 abbrev pub formulaOf : List ℕ → Formula
 formulaOf r = record { kind = getD r 0 0; a = getD r 1 0; b = getD r 2 0 }
 
-abbrev pub moveOf : List ℕ → Move
-moveOf r = record { pre = getD r 0 0; class = getD r 1 0; count = getD r 2 0; first = getD r 3 0 }
+abbrev pub moveOf : ℕ → List ℕ → Move
+moveOf first r = record { pre = getD r 0 0; class = getD r 1 0; count = getD r 2 0; first = first }
 
 abbrev pub effectOf : List ℕ → Effect
 effectOf r = record { cond = getD r 0 0; fact = getD r 1 0; value = getD r 2 0 }

@@ -1,7 +1,7 @@
 -- What reading a text as a job answers.
 use Prim.Native.Nat.{ℕ, _+_, _-_}
 use mathlib.Core.Bool.{Bool, true, false, cond}
-use mathlib.Core.List.{List, [], _∷_, _++_}
+use mathlib.Core.List.{List, [], _∷_}
 use mathlib.Core.Option.{Option, none, some, Option·getD}
 use lib.Dec.{eqb}
 use lib.ListN.{length, getD}
@@ -44,7 +44,7 @@ takenAt Formulas s r = on Formula (getD r 0 0) (s .effects) (s .job)
 takenAt Formula s r = on (afterFormulas (s .rows - 1)) (s .rows - 1) (s .effects) (addFormula (s .job) (formulaOf r))
 takenAt Moves s r = on (afterMoves (getD r 0 0) 0) (getD r 0 0) 0 (s .job)
 takenAt Move s r =
-    on (afterMoves (s .rows - 1) (getD r 2 0)) (s .rows - 1) (getD r 2 0) (addMove (s .job) (moveOf (r ++ (length (s .job .effects) ∷ []))))
+    on (afterMoves (s .rows - 1) (getD r 2 0)) (s .rows - 1) (getD r 2 0) (addMove (s .job) (moveOf (length (s .job .effects)) r))
 takenAt Effect s r = on (afterMoves (s .rows) (s .effects - 1)) (s .rows) (s .effects - 1) (addEffect (s .job) (effectOf r))
 takenAt Goal s r = on Program (s .rows) (s .effects) (withScalars (s .job) (s .job .scalars .facts) (s .job .scalars .init) (getD r 0 0))
 takenAt Program s r = on Row (getD r 0 0) (s .effects) (s .job)

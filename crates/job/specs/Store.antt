@@ -5,7 +5,7 @@ use mathlib.Core.Bool.{cond}
 use mathlib.Core.List.{List, [], _∷_, _++_}
 use mathlib.Core.Option.{Option, none, some}
 use lib.ListN.{length, getD, take}
-use Rattle.job.specs.Job.{Job, formulaOf, moveOf, effectOf, rowOf}
+use Rattle.job.specs.Job.{Job, Move, formulaOf, moveOf, effectOf, rowOf}
 use Rattle.job.specs.Line.{width}
 use Rattle.job.specs.ReadJob.{Reading, on, Outcome, accepted, refused}
 use Rattle.job.specs.declared.head.Head.{Head}
@@ -40,11 +40,15 @@ unfoldable pub rowsFrom : {A : Type 0} → (List ℕ → A) → List ℕ → ℕ
 rowsFrom f l first zero = []
 rowsFrom f l first (suc n) = rowsFrom f l first n ++ (f (rowAt l (first + n)) ∷ [])
 
+-- a move's row has as its last number the first of its effects
+abbrev pub storedMove : List ℕ → Move
+storedMove r = moveOf (getD r 3 0) r
+
 abbrev pub jobOf : Head → List ℕ → Job
 jobOf h l = record {
     scalars = record { facts = h .counts .facts; init = h .init; goal = h .goal };
     formulas = rowsFrom formulaOf l formulasAt (h .counts .formulas);
-    moves = rowsFrom moveOf l movesAt (h .counts .moves);
+    moves = rowsFrom storedMove l movesAt (h .counts .moves);
     effects = rowsFrom effectOf l effectsAt (h .counts .effects);
     program = rowsFrom rowOf l programAt (h .counts .program) }
 

@@ -26,7 +26,7 @@ pub record MoveFits (formulas effects : ℕ) (m : Move) : Type 0 where
   pub own : m .first + m .count ≤ effects
 
 abbrev pub MoveRows : ℕ → ℕ → List Move → Type 0
-MoveRows formulas effects = Every (moveOf []) (λ i m. MoveFits formulas effects m)
+MoveRows formulas effects = Every (moveOf 0 []) (λ i m. MoveFits formulas effects m)
 
 -- an effect beside so many facts and formulas
 pub record EffectFits (facts formulas : ℕ) (e : Effect) : Type 0 where

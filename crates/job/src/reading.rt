@@ -6,7 +6,7 @@ ghost use lib.ListN.{length};
 ghost use Rattle.job.specs.ReadJob.{afterFormulas, afterMoves, afterRows, begun, taken, takenAt, ended, readJob};
 ghost use Rattle.job.specs.ReadJob.{isEnd as atEnd};
 ghost use Rattle.job.specs.Store.{allRows, readingOf, listOf, outcomeOf, jobOf, withNumbers};
-ghost use Rattle.job.specs.Kept.{Room};
+ghost use Rattle.job.specs.Room.{Room};
 use crate::head::Counts;
 use crate::head::Head;
 use crate::line::Line;

@@ -1,6 +1,6 @@
 use mathlib.Core.Path.{_≡_, refl, sym, _∙_, ap}
 use native.Mathlib.Omega.{arith}
-use Rattle.job.proofs.StoreLaws.{reading-of, rows-within, move-behind}
+use Rattle.job.proofs.StoreLaws.{reading-of, rows-within, move-added}
 use borrow.Author.Needs.{needs}
 use Rattle.job.proofs.reading.add_move.Statement.{statement}
 use Rattle.job.proofs.reading.add_move.Tie as tie
@@ -40,7 +40,7 @@ same-length c = search needs
 
 -- src/reading.rt:99:1
 returns : tie.Need-returns
-returns c = reading-of _ _ _ _ _ _ _ (c .on .ensures) (c .before .before .before .before .before .put-row .ensures) (c .before .after-moves .ensures) (move-behind (c .before .before .before .before .before .before .before .before .before .before .args .s .head) (c .before .before .before .before .before .before .before .before .before .before .args .table .now) _ _ _ _ (c .before .before .before .before .before .before .before .before .before .before .pre .1) (rows-within (c .before .before .before .before .before .before .before .before .before .before .pre .0)) (omega (arith, c .before .before .before .before .before .before .before .before .before .before .pre .0)) refl)
+returns c = reading-of _ _ _ _ _ _ _ (c .on .ensures) (c .before .before .before .before .before .put-row .ensures) (c .before .after-moves .ensures) (move-added (c .before .before .before .before .before .before .before .before .before .before .args .s .head) (c .before .before .before .before .before .before .before .before .before .before .args .table .now) _ _ _ _ (c .before .before .before .before .before .before .before .before .before .before .pre .1) (rows-within (c .before .before .before .before .before .before .before .before .before .before .pre .0)) (omega (arith, c .before .before .before .before .before .before .before .before .before .before .pre .0)) refl)
 
 pub add-move-spec : {M : Type 1} → statement M
 add-move-spec =

@@ -1,10 +1,6 @@
--- What holds while a job is read: there is room for the rows that may still come, and the rows taken in are right.
+-- What holds while a job is read: there is room for the rows that may still come.
 use Prim.Native.Nat.{ℕ, _+_, _*_, _≤_, _<_}
 use mathlib.Core.Path.{_≡_}
-use lib.ListN.{length}
-use Rattle.job.specs.StateCount.{stateCount}
-use Rattle.job.specs.Job as J
-use Rattle.job.specs.WellFormed.{FormulaRows, MoveRows, EffectRows, ProgramRows}
 use Rattle.job.specs.declared.head.Counts.{Counts}
 use Rattle.job.specs.declared.line.Line.{Line}
 use Rattle.job.specs.declared.line.Line.the-variants.{Job, Facts, Init, Formulas, Formula, Moves, Move, Effect, Goal, Program, Row, End}

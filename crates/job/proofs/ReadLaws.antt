@@ -1,0 +1,136 @@
+-- Reading line by line; every accepted job is well formed, and its lines are counted.
+-- Assumes nothing.
+use Prim.Native.Nat.{ℕ, zero, suc, _+_, _-_, _≤_, _<_}
+use mathlib.Core.Path.{_≡_, refl, sym, _∙_, ap, subst}
+use mathlib.Core.Bool.{Bool, true, false, cond}
+use mathlib.Core.List.{List, [], _∷_}
+use mathlib.Core.Option.{Option, none, some, Option·getD}
+use native.Mathlib.Omega.{arith}
+use native.Mathlib.Nat.{add-sub-cancel-left}
+use lib.Dec.{eqb}
+use lib.ListN.{length, take, drop}
+use borrow.Author.Tests.{eq-eqb, ne-eqb, eqb-true}
+use Rattle.laws.proofs.Tests.{never}
+use Rattle.text.specs.Lines.{lines, lineLength}
+use Rattle.text.proofs.LineLaws.{lines-at, lines-past}
+use Rattle.job.specs.Job as J
+use Rattle.job.specs.Job.{countsOf}
+use Rattle.job.specs.Line.{rowNumbers}
+use Rattle.job.specs.Fault.{fault}
+use Rattle.job.specs.ReadJob.{Reading, Outcome, accepted, refused, isEnd, ended, readFrom, begun, taken, readJob}
+use Rattle.job.specs.Room.{Room}
+use Rattle.job.specs.Store.{readingOf, jobOf, listOf, numbersOf}
+use Rattle.job.specs.WellFormed.{WellFormed}
+use Rattle.job.specs.declared.line.Line.{Line}
+use Rattle.job.specs.declared.line.Line.the-variants.{Job, Facts, Init, Formulas, Formula, Moves, Move, Effect, Goal, Program, Row, End}
+use Rattle.job.specs.declared.line.Numbers.{Numbers}
+use Rattle.job.specs.declared.reading.State.{State}
+use Rattle.job.proofs.LineLaws.{right-formed}
+use Rattle.job.proofs.StoreLaws.{counts-of}
+use Rattle.job.proofs.RoomLaws.{Right, fault-right}
+use Rattle.job.proofs.RowLaws.{Kept, taken-kept, begun-kept, end-well-formed}
+
+abbrev reason : Reading → List ℕ → ℕ
+reason s line = fault (s .next) (countsOf (s .job)) (rowNumbers (s .next) line)
+
+-- one line more: it is right, or it decides
+module _ (n : ℕ) (s : Reading) (line : List ℕ) (rest : List (List ℕ)) where
+  pub line-right : (r : List ℕ) → rowNumbers (s .next) line ≡ some r → reason s line ≡ 0 → readFrom n s (line ∷ rest) ≡ readFrom (n + 1) (taken s r) rest
+  unfolding readFrom
+  line-right r e h = rw (eq-eqb _ _ h, e)
+
+  pub line-wrong : (reason s line ≡ 0 → ⊥) → readFrom n s (line ∷ rest) ≡ refused (reason s line) (n + 1)
+  unfolding readFrom
+  line-wrong h = rw (ne-eqb _ _ h)
+
+-- the text from place i on, whose first line ends at e
+module _ (text : List ℕ) (i e n : ℕ) (s : Reading) (within : i < length text) (line-end : e ≡ i + lineLength (drop i text))
+    (so-far : readJob text ≡ readFrom n s (lines (drop i text))) where
+  split : lines (drop i text) ≡ take (e - i) (drop i text) ∷ lines (drop e text)
+  split = lines-at text i within ∙ rw (line-end, add-sub-cancel-left)
+
+  pub read-on : (r : List ℕ) → rowNumbers (s .next) (take (e - i) (drop i text)) ≡ some r → reason s (take (e - i) (drop i text)) ≡ 0
+      → readJob text ≡ readFrom (n + 1) (taken s r) (lines (drop e text))
+  read-on r g h = so-far ∙ ap (readFrom n s) split ∙ line-right n s _ _ r g h
+
+  pub read-refused : (reason s (take (e - i) (drop i text)) ≡ 0 → ⊥) → readJob text ≡ refused (reason s (take (e - i) (drop i text))) (n + 1)
+  read-refused h = so-far ∙ ap (readFrom n s) split ∙ line-wrong n s _ _ h
+
+pub read-ended : (text : List ℕ) (i n : ℕ) (s : Reading) → length text ≤ i → readJob text ≡ readFrom n s (lines (drop i text)) → readJob text ≡ ended n s
+unfolding readFrom
+read-ended text i n s h e = e ∙ rw (lines-past text i h)
+
+-- the numbers of a line as the code has them
+module _ (s : State) (table line : List ℕ) (r : Numbers) (read : numbersOf (s .next) r ≡ rowNumbers (s .next) line) where
+  pub reason-of : fault (s .next) (s .head .counts) (numbersOf (s .next) r) ≡ reason (readingOf s table) line
+  reason-of = rw (counts-of (s .head) table, read)
+
+  module _ (zero-reason : fault (s .next) (s .head .counts) (numbersOf (s .next) r) ≡ 0) where
+    pub row-of : rowNumbers (s .next) line ≡ some (listOf (s .next) r)
+    row-of = sym read ∙ rw (right-formed (s .next) (s .head .counts) r zero-reason)
+
+    pub right-of : Right (s .next) (countsOf (jobOf (s .head) table)) (listOf (s .next) r)
+    right-of =
+        fault-right (s .next) (countsOf (jobOf (s .head) table)) (listOf (s .next) r)
+        (ap (fault (s .next) (countsOf (jobOf (s .head) table))) (sym row-of) ∙ sym reason-of ∙ zero-reason)
+
+pub room-of : (s : State) (table : List ℕ) → Kept (readingOf s table) → Room (s .next) (s .rows) (s .effects) (s .head .counts)
+room-of s table k = rw (counts-of (s .head) table) at (k .room)
+
+-- the end, where a text is accepted
+end-is : (k : Line) → isEnd k ≡ true → k ≡ End
+end-is Job e = never e
+end-is Facts e = never e
+end-is Init e = never e
+end-is Formulas e = never e
+end-is Formula e = never e
+end-is Moves e = never e
+end-is Move e = never e
+end-is Effect e = never e
+end-is Goal e = never e
+end-is Program e = never e
+end-is Row e = never e
+end-is End e = refl
+
+not-accepted : {A : Type 0} (a b m : ℕ) (j : J.Job) → refused a b ≡ accepted m j → A
+not-accepted a b m j e = let z : _≡_ {A = ℕ} 0 1 = cc in absurd (omega arith)
+
+record AcceptedBy (n : ℕ) (s : Reading) (ls : List (List ℕ)) (m : ℕ) (j : J.Job) : Type 0 where
+  counted : m ≡ n + length ls
+  well-formed : Kept s → WellFormed j
+
+ended-by : (n : ℕ) (s : Reading) (m : ℕ) (j : J.Job) (b : Bool) → isEnd (s .next) ≡ b → cond b (accepted n (s .job)) (refused 1 (n + 1)) ≡ accepted m j → AcceptedBy n s [] m j
+ended-by n s m j true g e =
+    let a : n ≡ m = cc in
+    let f : s .job ≡ j = cc in
+    record { counted = omega arith; well-formed = λ k. subst WellFormed f (end-well-formed s k (end-is (s .next) g)) }
+ended-by n s m j false g e = not-accepted 1 (n + 1) m j e
+
+module _ (n : ℕ) (s : Reading) (ls : List (List ℕ)) (m : ℕ) (j : J.Job) where
+  line-by : (line : List ℕ) (o : Option (List ℕ)) (b : Bool) → eqb (fault (s .next) (countsOf (s .job)) o) 0 ≡ b
+      → cond b (readFrom (n + 1) (taken s (Option·getD o [])) ls) (refused (fault (s .next) (countsOf (s .job)) o) (n + 1)) ≡ accepted m j
+      → ((q : Reading) → readFrom (n + 1) q ls ≡ accepted m j → AcceptedBy (n + 1) q ls m j) → AcceptedBy n s (line ∷ ls) m j
+  unfolding fault
+  line-by line none true g e f = never g
+  line-by line none false g e f = not-accepted _ (n + 1) m j e
+  line-by line (some r) true g e f =
+      let a = f (taken s r) e in
+      record {
+        counted = omega (arith, a .counted);
+        well-formed = λ k. a .well-formed (taken-kept s r (fault-right (s .next) (countsOf (s .job)) r (eqb-true _ 0 g)) k) }
+  line-by line (some r) false g e f = not-accepted _ (n + 1) m j e
+
+accepted-by : (n : ℕ) (s : Reading) (ls : List (List ℕ)) (m : ℕ) (j : J.Job) → readFrom n s ls ≡ accepted m j → AcceptedBy n s ls m j
+unfolding readFrom ended
+accepted-by n s [] m j e = ended-by n s m j (isEnd (s .next)) refl e
+accepted-by n s (line ∷ ls) m j e = line-by n s ls m j line (rowNumbers (s .next) line) _ refl e (λ q. accepted-by (n + 1) q ls m j)
+
+-- every accepted job is well formed
+pub accepted-well-formed : (text : List ℕ) (n : ℕ) (j : J.Job) → readJob text ≡ accepted n j → WellFormed j
+unfolding readJob
+accepted-well-formed text n j e = accepted-by 0 begun (lines text) n j e .well-formed begun-kept
+
+-- an accepted text has the lines that its answer counts
+pub accepted-lines : (text : List ℕ) (n : ℕ) (j : J.Job) → readJob text ≡ accepted n j → n ≡ length (lines text)
+unfolding readJob
+accepted-lines text n j e = omega (arith, accepted-by 0 begun (lines text) n j e .counted)
