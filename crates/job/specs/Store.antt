@@ -9,6 +9,7 @@ use Rattle.job.specs.Job.{Job, Move, formulaOf, moveOf, effectOf, rowOf}
 use Rattle.job.specs.Line.{width}
 use Rattle.job.specs.ReadJob.{Reading, on, Outcome, accepted, refused}
 use Rattle.job.specs.declared.head.Head.{Head}
+use Rattle.job.specs.declared.head.Refusal.{Refusal}
 use Rattle.job.specs.declared.line.Line.{Line}
 use Rattle.job.specs.declared.line.Numbers.{Numbers}
 use Rattle.job.specs.declared.reading.State.{State}
@@ -72,4 +73,9 @@ numbersOf next r = cond (r .formed) (some (listOf next r)) none
 -- the paper's number and values for each case of the answer, with the rows that the table holds
 abbrev pub outcomeOf : Answer → List ℕ → Outcome
 outcomeOf (Accepted n h) l = accepted n (jobOf h l)
-outcomeOf (Refused n p) l = refused n p
+outcomeOf (Refused r) l = refused (r .number) (r .place)
+
+-- the refusal that an answer is
+abbrev pub refusalOf : Answer → Refusal
+refusalOf (Accepted n h) = record { number = 0; place = 0 }
+refusalOf (Refused r) = r

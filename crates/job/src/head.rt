@@ -1,4 +1,6 @@
-// What is known of a job beside its rows.
+// What is known of a text beside a job's rows.
+
+// How many facts and rows of each sort a job has.
 pub struct Counts {
     pub facts: u16,
     pub formulas: u16,
@@ -7,8 +9,15 @@ pub struct Counts {
     pub program: u16,
 }
 
+// A job but for its rows, which stand in a table.
 pub struct Head {
     pub counts: Counts,
     pub init: u16,
     pub goal: u16,
+}
+
+// Why a text is refused: the number of the reason, and the place.
+pub struct Refusal {
+    pub number: u8,
+    pub place: usize,
 }

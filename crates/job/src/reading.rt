@@ -5,10 +5,11 @@ ghost use Prim.Native.Nat.{ℕ, _*_, _+_, _^_, _≤_, _<_};
 ghost use lib.ListN.{length};
 ghost use Rattle.job.specs.ReadJob.{afterFormulas, afterMoves, afterRows, begun, taken, takenAt, ended, readJob};
 ghost use Rattle.job.specs.ReadJob.{isEnd as atEnd};
-ghost use Rattle.job.specs.Store.{allRows, readingOf, listOf, outcomeOf, jobOf, withNumbers};
+ghost use Rattle.job.specs.Store.{allRows, readingOf, listOf, outcomeOf, jobOf, refusalOf, withNumbers};
 ghost use Rattle.job.specs.Room.{Room};
 use crate::head::Counts;
 use crate::head::Head;
+use crate::head::Refusal;
 use crate::line::Line;
 use crate::line::Numbers;
 use crate::rows::EFFECTS;
@@ -23,10 +24,33 @@ pub struct State {
     pub head: Head,
 }
 
-// The number of lines and the head of the job, whose rows the table then holds; or the refusal's number and place.
+// The number of lines and the head of the job, whose rows the table then holds; or the refusal.
 pub enum Answer {
     Accepted(usize, Head),
-    Refused(u8, usize),
+    Refused(Refusal),
+}
+
+fn refused(number: u8, place: usize) -> Answer
+    ensures { λ r. ⌜ r ≡ Answer.Refused (record { number = number; place = place }) ⌝ }
+{
+    let r = Refusal {
+        number: number,
+        place: place,
+    };
+    Answer::Refused(r)
+}
+
+// The refusal that an answer is; number 0 where it is none.
+pub fn refusal(a: Answer) -> Refusal
+    ensures { λ r. ⌜ r ≡ refusalOf a ⌝ }
+{
+    match a {
+        Answer::Accepted(_, _) => Refusal {
+            number: 0,
+            place: 0,
+        },
+        Answer::Refused(r) => r,
+    }
 }
 
 fn after_formulas(rows: u16) -> Line
@@ -227,7 +251,7 @@ fn finish(s: State, n: usize) -> Answer
     if is_end(next) {
         return Answer::Accepted(n, h);
     }
-    Answer::Refused(1, n + 1)
+    refused(1, n + 1)
 }
 
 // Reads a text as a job, whose rows go into the table.
@@ -247,7 +271,7 @@ pub fn read_job(text: &[u8], table: &mut [u16]) -> Answer
         n += 1;
         let reason = crate::fault::reason(next, row, counts);
         if reason != 0 {
-            return Answer::Refused(reason, n);
+            return refused(reason, n);
         }
         s = take_line(s, row, table);
         at = e;

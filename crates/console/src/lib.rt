@@ -1,0 +1,3 @@
+// What the programs share: texts from files, and printing.
+pub mod files;
+pub mod print;

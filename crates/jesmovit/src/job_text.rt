@@ -1,0 +1,27 @@
+// A job text read.
+ghost use mathlib.Core.Path.{_≡_};
+ghost use Rattle.job.specs.ReadJob.{readJob};
+ghost use Rattle.jesmovit.specs.JobText.{readAnswer};
+use job::head::Counts;
+use job::head::Refusal;
+use job::reading::Answer;
+
+// How many facts and rows of each sort the job has; or why the text is refused.
+pub enum ReadAnswer {
+    Read(Counts),
+    Refused(Refusal),
+}
+
+// Reads any bytes as a job text.
+pub fn read_job(text: &[u8]) -> ReadAnswer
+    ensures { λ r. ⌜ r ≡ readAnswer (readJob (now (text .entry))) ⌝ }
+{
+    let mut table = [0u16; 5884];
+    let answer = job::reading::read_job(text, &mut table);
+    let Answer::Accepted(_, head) = answer else {
+        let r = job::reading::refusal(answer);
+        return ReadAnswer::Refused(r);
+    };
+    let counts = head.counts;
+    ReadAnswer::Read(counts)
+}

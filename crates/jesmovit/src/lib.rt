@@ -1,0 +1,2 @@
+// The public operations, on any texts, lists and tables.
+pub mod job_text;

@@ -1,0 +1,35 @@
+// read_job JOB: the counts of the job in the file that the argument names (job.txt without one), a line each, or its refusal.
+use console::print;
+use jesmovit::job_text::ReadAnswer;
+use job::head::Counts;
+
+fn print_line(key: &[u8], n: u16) {
+    print::text(key);
+    print::number(n as u64);
+    print::text(b"\n");
+}
+
+fn print_counts(c: Counts) {
+    print_line(b"facts=", c.facts);
+    print_line(b"formulas=", c.formulas);
+    print_line(b"moves=", c.moves);
+    print_line(b"effects=", c.effects);
+    print_line(b"program=", c.program);
+}
+
+fn print_answer(a: ReadAnswer) {
+    match a {
+        ReadAnswer::Read(c) => print_counts(c),
+        ReadAnswer::Refused(r) => print::refusal(r),
+    }
+}
+
+fn main() {
+    let mut text = io::large_buffer();
+    let got = console::files::read_argument(1, b"job.txt", &mut text);
+    let n = got.count;
+    if got.read {
+        let answer = jesmovit::job_text::read_job(&text[..n]);
+        print_answer(answer);
+    }
+}
