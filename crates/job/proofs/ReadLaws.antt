@@ -117,7 +117,8 @@ module _ (n : ℕ) (s : Reading) (ls : List (List ℕ)) (m : ℕ) (j : J.Job) wh
       let a = f (taken s r) e in
       record {
         counted = omega (arith, a .counted);
-        well-formed = λ k. a .well-formed (taken-kept s r (fault-right (s .next) (countsOf (s .job)) r (eqb-true _ 0 g)) k) }
+        well-formed = λ k. a .well-formed (taken-kept s r (fault-right (s .next) (countsOf (s .job)) r (eqb-true _ 0 g)) k);
+      }
   line-by line (some r) false g e f = not-accepted _ (n + 1) m j e
 
 accepted-by : (n : ℕ) (s : Reading) (ls : List (List ℕ)) (m : ℕ) (j : J.Job) → readFrom n s ls ≡ accepted m j → AcceptedBy n s ls m j

@@ -61,24 +61,58 @@ module _ (s : Reading) (r : List ℕ) where
 
   room-at : (k : Line) → Right k c r → Room k (s .rows) (s .effects) c → RoomOf (takenAt k s r)
   room-at Job x h = record {
-      facts = h .facts; formulas = h .formulas; moves = h .moves; effects-room = h .effects-room; program = h .program; due = tt }
+    facts = h .facts;
+    formulas = h .formulas;
+    moves = h .moves;
+    effects-room = h .effects-room;
+    program = h .program;
+    due = tt;
+  }
   room-at Facts x h = record {
-      facts = leb-true (getD r 0 0) 12 (x .range);
-      formulas = h .formulas; moves = h .moves; effects-room = h .effects-room; program = h .program; due = tt }
+    facts = leb-true (getD r 0 0) 12 (x .range);
+    formulas = h .formulas;
+    moves = h .moves;
+    effects-room = h .effects-room;
+    program = h .program;
+    due = tt;
+  }
   room-at Init x h = record {
-      facts = h .facts; formulas = h .formulas; moves = h .moves; effects-room = h .effects-room; program = h .program; due = tt }
+    facts = h .facts;
+    formulas = h .formulas;
+    moves = h .moves;
+    effects-room = h .effects-room;
+    program = h .program;
+    due = tt;
+  }
   room-at Formulas x h =
       let n = one-to (getD r 0 0) 255 (x .range) in
       record {
-        facts = h .facts; formulas = omega (arith, h .formulas, n .1); moves = h .moves; effects-room = h .effects-room; program = h .program; due = n .0 }
+        facts = h .facts;
+        formulas = omega (arith, h .formulas, n .1);
+        moves = h .moves;
+        effects-room = h .effects-room;
+        program = h .program;
+        due = n .0;
+      }
   room-at Formula x h =
       let l = length-append (s .job .formulas) (formulaOf r ∷ []) in
       cond-has (λ k. Room k (s .rows - 1) (s .effects) (countsOf (J.addFormula (s .job) (formulaOf r)))) (eqb (s .rows - 1) 0) Moves Formula
       (λ z. record {
-        facts = h .facts; formulas = omega (arith, h .formulas, h .due, l); moves = h .moves; effects-room = h .effects-room; program = h .program; due = tt })
+        facts = h .facts;
+        formulas = omega (arith, h .formulas, h .due, l);
+        moves = h .moves;
+        effects-room = h .effects-room;
+        program = h .program;
+        due = tt;
+      })
       (λ z. record {
-        facts = h .facts; formulas = omega (arith, h .formulas, h .due, l); moves = h .moves; effects-room = h .effects-room; program = h .program;
-        due = omega (arith, eqb-false (s .rows - 1) 0 z) })
+        facts = h .facts;
+        formulas = omega (arith, h .formulas, h .due, l);
+        moves = h .moves;
+        effects-room = h .effects-room;
+        program = h .program;
+        due = omega (arith, eqb-false (s .rows - 1) 0 z);
+      })
   room-at Moves x h =
       let n = leb-true (getD r 0 0) 64 (x .range) in
       moves-room c (getD r 0 0) 0 (h .facts) (omega (arith, h .formulas)) (omega (arith, h .moves)) (omega (arith, h .effects-room)) (h .program)
@@ -92,19 +126,42 @@ module _ (s : Reading) (r : List ℕ) where
       moves-room (countsOf (J.addEffect (s .job) (effectOf r))) (s .rows) (s .effects - 1) (h .facts)
       (omega (arith, h .formulas)) (h .moves) (omega (arith, h .effects-room, h .due, l)) (h .program)
   room-at Goal x h = record {
-      facts = h .facts; formulas = h .formulas; moves = h .moves; effects-room = h .effects-room; program = h .program; due = h .due }
+    facts = h .facts;
+    formulas = h .formulas;
+    moves = h .moves;
+    effects-room = h .effects-room;
+    program = h .program;
+    due = h .due;
+  }
   room-at Program x h =
       let n = one-to (getD r 0 0) 128 (x .range) in
       record {
-        facts = h .facts; formulas = h .formulas; moves = h .moves; effects-room = h .effects-room; program = omega (arith, h .program, n .1); due = (n .0, h .due) }
+        facts = h .facts;
+        formulas = h .formulas;
+        moves = h .moves;
+        effects-room = h .effects-room;
+        program = omega (arith, h .program, n .1);
+        due = (n .0, h .due);
+      }
   room-at Row x h =
       let l = length-append (s .job .program) (rowOf r ∷ []) in
       cond-has (λ k. Room k (s .rows - 1) (s .effects) (countsOf (J.addRow (s .job) (rowOf r)))) (eqb (s .rows - 1) 0) End Row
       (λ z. record {
-        facts = h .facts; formulas = h .formulas; moves = h .moves; effects-room = h .effects-room; program = omega (arith, h .program, h .due .0, l); due = h .due .1 })
+        facts = h .facts;
+        formulas = h .formulas;
+        moves = h .moves;
+        effects-room = h .effects-room;
+        program = omega (arith, h .program, h .due .0, l);
+        due = h .due .1;
+      })
       (λ z. record {
-        facts = h .facts; formulas = h .formulas; moves = h .moves; effects-room = h .effects-room; program = omega (arith, h .program, h .due .0, l);
-        due = (omega (arith, eqb-false (s .rows - 1) 0 z), h .due .1) })
+        facts = h .facts;
+        formulas = h .formulas;
+        moves = h .moves;
+        effects-room = h .effects-room;
+        program = omega (arith, h .program, h .due .0, l);
+        due = (omega (arith, eqb-false (s .rows - 1) 0 z), h .due .1);
+      })
   room-at End x h = never (x .form)
 
   pub taken-room : Right (s .next) c r → RoomOf s → RoomOf (taken s r)

@@ -89,8 +89,11 @@ module _ (s : Reading) (r : List ℕ) where
       let j′ : J.Job = J.addFormula j (formulaOf r) in
       record {
         formula = every-more (formulaOf []) (λ i f. Within (beforeFormula (j .scalars .facts) i) (getD formulaFields (f .kind) []) (f .a ∷ f .b ∷ [])) (j .formulas) (formulaOf r)
-          (f .formula) (rw e (within-true c (getD formulaFields (getD r 0 0) []) (getD r 1 0 ∷ getD r 2 0 ∷ []) (x .fields)));
-        move = no-move j′ (length (j .effects) + s .effects) (sym a); effect = no-effect j′ (sym b); row = no-row j′ (sym d) }
+            (f .formula) (rw e (within-true c (getD formulaFields (getD r 0 0) []) (getD r 1 0 ∷ getD r 2 0 ∷ []) (x .fields)));
+        move = no-move j′ (length (j .effects) + s .effects) (sym a);
+        effect = no-effect j′ (sym b);
+        row = no-row j′ (sym d);
+      }
   fits-at Moves x h f =
       let a : length (j .moves) ≡ 0 = omega (arith, h .moves) in
       record { formula = f .formula; move = no-move j (length (j .effects) + 0) a; effect = f .effect; row = f .row }
@@ -100,12 +103,16 @@ module _ (s : Reading) (r : List ℕ) where
       record {
         formula = f .formula;
         move = every-more (moveOf 0 []) (λ i m. MoveFits (length (j .formulas)) (length (j .effects) + getD r 2 0) m) (j .moves) m
-          (λ i g. let o = f .move i g in record { pre = o .pre; class = o .class; count = o .count; own = omega (arith, o .own, h .due .1) })
-          (record {
-            pre = ltb-true (getD r 0 0) (c .formulas) (and-left (ltb (getD r 0 0) (c .formulas)) (leb (getD r 1 0) 15) (x .fields));
-            class = leb-true (getD r 1 0) 15 (and-right (ltb (getD r 0 0) (c .formulas)) (leb (getD r 1 0) 15) (x .fields));
-            count = leb-true (getD r 2 0) 16 (x .range); own = omega arith });
-        effect = f .effect; row = no-row (J.addMove j m) d }
+            (λ i g. let o = f .move i g in record { pre = o .pre; class = o .class; count = o .count; own = omega (arith, o .own, h .due .1) })
+            (record {
+              pre = ltb-true (getD r 0 0) (c .formulas) (and-left (ltb (getD r 0 0) (c .formulas)) (leb (getD r 1 0) 15) (x .fields));
+              class = leb-true (getD r 1 0) 15 (and-right (ltb (getD r 0 0) (c .formulas)) (leb (getD r 1 0) 15) (x .fields));
+              count = leb-true (getD r 2 0) 16 (x .range);
+              own = omega arith;
+            });
+        effect = f .effect;
+        row = no-row (J.addMove j m) d;
+      }
   fits-at Effect x h f =
       let l = length-append (j .effects) (effectOf r ∷ []) in
       let d : length (j .program) ≡ 0 = omega (arith, h .program) in
@@ -115,17 +122,22 @@ module _ (s : Reading) (r : List ℕ) where
         formula = f .formula;
         move = λ i g. let o = f .move i g in record { pre = o .pre; class = o .class; count = o .count; own = omega (arith, o .own, h .due, l) };
         effect = every-more (effectOf []) (λ i e. EffectFits (j .scalars .facts) (length (j .formulas)) e) (j .effects) (effectOf r) (f .effect)
-          (record {
-            cond = ltb-true (getD r 0 0) (c .formulas) (and-left (ltb (getD r 0 0) (c .formulas)) _ q);
-            fact = ltb-true (getD r 1 0) (c .facts) (and-left (ltb (getD r 1 0) (c .facts)) _ q′);
-            value = leb-true (getD r 2 0) 1 (and-right (ltb (getD r 1 0) (c .facts)) _ q′) });
-        row = no-row (J.addEffect j (effectOf r)) d }
+            (record {
+              cond = ltb-true (getD r 0 0) (c .formulas) (and-left (ltb (getD r 0 0) (c .formulas)) _ q);
+              fact = ltb-true (getD r 1 0) (c .facts) (and-left (ltb (getD r 1 0) (c .facts)) _ q′);
+              value = leb-true (getD r 2 0) 1 (and-right (ltb (getD r 1 0) (c .facts)) _ q′);
+            });
+        row = no-row (J.addEffect j (effectOf r)) d;
+      }
   fits-at Goal x h f = record { formula = f .formula; move = f .move; effect = f .effect; row = f .row }
   fits-at Program x h f = f
   fits-at Row x h f = record {
-      formula = f .formula; move = f .move; effect = f .effect;
-      row = every-more (rowOf []) (λ i w. Within (beforeRow j i) (getD rowFields (w .kind) []) (w .a ∷ w .b ∷ w .c ∷ [])) (j .program) (rowOf r) (f .row)
-        (within-true c (getD rowFields (getD r 0 0) []) (getD r 1 0 ∷ getD r 2 0 ∷ getD r 3 0 ∷ []) (x .fields)) }
+    formula = f .formula;
+    move = f .move;
+    effect = f .effect;
+    row = every-more (rowOf []) (λ i w. Within (beforeRow j i) (getD rowFields (w .kind) []) (w .a ∷ w .b ∷ w .c ∷ [])) (j .program) (rowOf r) (f .row)
+        (within-true c (getD rowFields (getD r 0 0) []) (getD r 1 0 ∷ getD r 2 0 ∷ getD r 3 0 ∷ []) (x .fields));
+  }
   fits-at End x h f = f
 
   settled-at : (k : Line) → Right k c r → Settled k j → Settled (takenAt k s r .next) (takenAt k s r .job)
@@ -155,15 +167,17 @@ pub record Kept (s : Reading) : Type 0 where
 pub taken-kept : (s : Reading) (r : List ℕ) → Right (s .next) (countsOf (s .job)) r → Kept s → Kept (taken s r)
 unfolding taken
 taken-kept s r x k = record {
-    room = unfold taken in taken-room s r x (k .room);
-    rows = fits-at s r (s .next) x (k .room) (k .rows);
-    settled = settled-at s r (s .next) x (k .settled) }
+  room = unfold taken in taken-room s r x (k .room);
+  rows = fits-at s r (s .next) x (k .room) (k .rows);
+  settled = settled-at s r (s .next) x (k .settled);
+}
 
 pub begun-kept : Kept begun
 begun-kept = record {
-    room = record { facts = omega arith; formulas = omega arith; moves = omega arith; effects-room = omega arith; program = omega arith; due = tt };
-    rows = record { formula = λ i h. absurd (omega arith); move = λ i h. absurd (omega arith); effect = λ i h. absurd (omega arith); row = λ i h. absurd (omega arith) };
-    settled = tt }
+  room = record { facts = omega arith; formulas = omega arith; moves = omega arith; effects-room = omega arith; program = omega arith; due = tt };
+  rows = record { formula = λ i h. absurd (omega arith); move = λ i h. absurd (omega arith); effect = λ i h. absurd (omega arith); row = λ i h. absurd (omega arith) };
+  settled = tt;
+}
 
 -- at the end all is settled
 pub end-well-formed : (s : Reading) → Kept s → s .next ≡ End → WellFormed (s .job)
@@ -171,9 +185,16 @@ end-well-formed s k e =
     let h : Room End (s .rows) (s .effects) (countsOf (s .job)) = rw e at (k .room) in
     let t : Settled End (s .job) = rw e at (k .settled) in
     record {
-      facts = h .facts; init = t .0; goal = t .1;
-      formulas = omega (arith, h .formulas); formula = k .rows .formula;
+      facts = h .facts;
+      init = t .0;
+      goal = t .1;
+      formulas = omega (arith, h .formulas);
+      formula = k .rows .formula;
       moves = omega (arith, h .moves);
       move = λ i g. let o = k .rows .move i g in record { pre = o .pre; class = o .class; count = o .count; own = omega (arith, o .own, h .due) };
-      effects = omega (arith, h .effects-room); effect = k .rows .effect;
-      program = omega (arith, h .program); last = t .2; row = k .rows .row }
+      effects = omega (arith, h .effects-room);
+      effect = k .rows .effect;
+      program = omega (arith, h .program);
+      last = t .2;
+      row = k .rows .row;
+    }

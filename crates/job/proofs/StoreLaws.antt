@@ -30,11 +30,12 @@ module _ {A : Type 0} (f : List ℕ → A) (l : List ℕ) (first : ℕ) where
   unfolding rowsFrom
   rows-at d zero i h = absurd (omega arith)
   rows-at d (suc n) i h = elim (decLt i n) [
-      yes k ↦ List·getD-append (rowsFrom f l first n) _ d i (omega (arith, rows-length n)) ∙ rows-at d n i k
+    | yes k ↦ List·getD-append (rowsFrom f l first n) _ d i (omega (arith, rows-length n)) ∙ rows-at d n i k
     | no k ↦ (let e : i ≡ length (rowsFrom f l first n) = omega (arith, rows-length n) in
         let g : n ≡ i = omega arith in
         ap (λ (x : ℕ). getD (rowsFrom f l first n ++ (f (rowAt l (first + n)) ∷ [])) x d) e
-        ∙ getD-append-seam (rowsFrom f l first n) _ [] d ∙ ap (λ (x : ℕ). f (rowAt l (first + x))) g) ]
+        ∙ getD-append-seam (rowsFrom f l first n) _ [] d ∙ ap (λ (x : ℕ). f (rowAt l (first + x))) g)
+  ]
 
 -- tables that agree on a sort's rows hold the same rows of it
 pub rows-same : {A : Type 0} (f : List ℕ → A) (l m : List ℕ) (first n : ℕ)
@@ -43,9 +44,13 @@ unfolding rowsFrom
 rows-same f l m first zero h = refl
 rows-same f l m first (suc n) h =
     let i : ℕ = first + n in
-    rw (rows-same f l m first n (λ k p q. h k p (omega arith)),
-      h (i * 4) (omega arith) (omega arith), h (i * 4 + 1) (omega arith) (omega arith),
-      h (i * 4 + 2) (omega arith) (omega arith), h (i * 4 + 3) (omega arith) (omega arith))
+    rw (
+      rows-same f l m first n (λ k p q. h k p (omega arith)),
+      h (i * 4) (omega arith) (omega arith),
+      h (i * 4 + 1) (omega arith) (omega arith),
+      h (i * 4 + 2) (omega arith) (omega arith),
+      h (i * 4 + 3) (omega arith) (omega arith),
+    )
 
 -- row i written as v
 module _ {A : Type 0} (f : List ℕ → A) (l : List ℕ) (i a b c d : ℕ) (first n : ℕ) where
@@ -61,7 +66,7 @@ module _ {A : Type 0} (f : List ℕ → A) (l : List ℕ) (i a b c d : ℕ) (fir
   put-row : i * 4 + 4 ≤ length l → rowAt put i ≡ a ∷ b ∷ c ∷ d ∷ []
   put-row h =
       let at : (j : ℕ) → j < 4 → getD put (i * 4 + j) 0 ≡ getD (a ∷ b ∷ c ∷ d ∷ []) j 0 =
-          λ j g. getD-sets-in 0 (a ∷ b ∷ c ∷ d ∷ []) l (i * 4) j g h in
+      λ j g. getD-sets-in 0 (a ∷ b ∷ c ∷ d ∷ []) l (i * 4) j g h in
       let z : i * 4 + 0 ≡ i * 4 = omega arith in
       let e : getD put (i * 4) 0 ≡ a = ap (λ (k : ℕ). getD put k 0) (sym z) ∙ at 0 (omega arith) in
       rw (e, at 1 (omega arith), at 2 (omega arith), at 3 (omega arith))
@@ -76,7 +81,10 @@ counts-of h l = simp rows-length
 
 abbrev counted : Head → ℕ → ℕ → ℕ → ℕ → Head
 counted h f m e p = record {
-    counts = record { facts = h .counts .facts; formulas = f; moves = m; effects = e; program = p }; init = h .init; goal = h .goal }
+  counts = record { facts = h .counts .facts; formulas = f; moves = m; effects = e; program = p };
+  init = h .init;
+  goal = h .goal;
+}
 
 -- a row that is written behind those of its sort is added to the job
 module _ (h : Head) (l : List ℕ) (a b c d : ℕ) (len : length l ≡ 5884)
@@ -89,10 +97,12 @@ module _ (h : Head) (l : List ℕ) (a b c d : ℕ) (len : length l ≡ 5884)
       ≡ addFormula (jobOf h l) (formulaOf (a ∷ b ∷ c ∷ d ∷ []))
   formula-added g =
       let i : ℕ = h .counts .formulas in
-      rw (put-next formulaOf l i a b c d 0 (h .counts .formulas) (omega arith) (omega arith),
+      rw (
+        put-next formulaOf l i a b c d 0 (h .counts .formulas) (omega arith) (omega arith),
         put-before storedMove l i a b c d 255 (h .counts .moves) (omega arith),
         put-before effectOf l i a b c d 319 (h .counts .effects) (omega arith),
-        put-before rowOf l i a b c d 1343 (h .counts .program) (omega arith))
+        put-before rowOf l i a b c d 1343 (h .counts .program) (omega arith),
+      )
 
   -- a move, whose effects begin behind all others
   pub move-added : h .counts .moves < 64 → d ≡ h .counts .effects
@@ -100,30 +110,38 @@ module _ (h : Head) (l : List ℕ) (a b c d : ℕ) (len : length l ≡ 5884)
       ≡ addMove (jobOf h l) (moveOf (length (jobOf h l .effects)) (a ∷ b ∷ c ∷ []))
   move-added g e =
       let i : ℕ = 255 + h .counts .moves in
-      rw (put-behind formulaOf l i a b c d 0 (h .counts .formulas) (omega arith),
+      rw (
+        put-behind formulaOf l i a b c d 0 (h .counts .formulas) (omega arith),
         put-next storedMove l i a b c d 255 (h .counts .moves) (omega arith) (omega arith),
         put-before effectOf l i a b c d 319 (h .counts .effects) (omega arith),
-        put-before rowOf l i a b c d 1343 (h .counts .program) (omega arith), rows-length effectOf l 319 (h .counts .effects), e)
+        put-before rowOf l i a b c d 1343 (h .counts .program) (omega arith),
+        rows-length effectOf l 319 (h .counts .effects),
+        e,
+      )
 
   pub effect-added : h .counts .effects < 1024
       → jobOf (counted h (h .counts .formulas) (h .counts .moves) (h .counts .effects + 1) (h .counts .program)) (with-row (319 + h .counts .effects))
       ≡ addEffect (jobOf h l) (effectOf (a ∷ b ∷ c ∷ d ∷ []))
   effect-added g =
       let i : ℕ = 319 + h .counts .effects in
-      rw (put-behind formulaOf l i a b c d 0 (h .counts .formulas) (omega arith),
+      rw (
+        put-behind formulaOf l i a b c d 0 (h .counts .formulas) (omega arith),
         put-behind storedMove l i a b c d 255 (h .counts .moves) (omega arith),
         put-next effectOf l i a b c d 319 (h .counts .effects) (omega arith) (omega arith),
-        put-before rowOf l i a b c d 1343 (h .counts .program) (omega arith))
+        put-before rowOf l i a b c d 1343 (h .counts .program) (omega arith),
+      )
 
   pub row-added : h .counts .program < 128
       → jobOf (counted h (h .counts .formulas) (h .counts .moves) (h .counts .effects) (h .counts .program + 1)) (with-row (1343 + h .counts .program))
       ≡ addRow (jobOf h l) (rowOf (a ∷ b ∷ c ∷ d ∷ []))
   row-added g =
       let i : ℕ = 1343 + h .counts .program in
-      rw (put-behind formulaOf l i a b c d 0 (h .counts .formulas) (omega arith),
+      rw (
+        put-behind formulaOf l i a b c d 0 (h .counts .formulas) (omega arith),
         put-behind storedMove l i a b c d 255 (h .counts .moves) (omega arith),
         put-behind effectOf l i a b c d 319 (h .counts .effects) (omega arith),
-        put-next rowOf l i a b c d 1343 (h .counts .program) (omega arith) (omega arith))
+        put-next rowOf l i a b c d 1343 (h .counts .program) (omega arith) (omega arith),
+      )
 
 -- what a state stands for, by its parts
 pub reading-of : {r : State} {t : List ℕ} (next : Line) (rows effects : ℕ) (h : Head) (u : List ℕ) (n : Line) (j : Job)

@@ -45,8 +45,12 @@ pub record Job : Type 0 where
 -- how many there are of each
 abbrev pub countsOf : Job → Counts
 countsOf j = record {
-    facts = j .scalars .facts; formulas = length (j .formulas); moves = length (j .moves);
-    effects = length (j .effects); program = length (j .program) }
+  facts = j .scalars .facts;
+  formulas = length (j .formulas);
+  moves = length (j .moves);
+  effects = length (j .effects);
+  program = length (j .program);
+}
 
 -- rows from their numbers
 abbrev pub formulaOf : List ℕ → Formula
@@ -64,21 +68,45 @@ rowOf r = record { kind = getD r 0 0; a = getD r 1 0; b = getD r 2 0; c = getD r
 -- a job with a row more, or with other scalars
 abbrev pub addFormula : Job → Formula → Job
 addFormula j f = record {
-    scalars = j .scalars; formulas = j .formulas ++ (f ∷ []); moves = j .moves; effects = j .effects; program = j .program }
+  scalars = j .scalars;
+  formulas = j .formulas ++ (f ∷ []);
+  moves = j .moves;
+  effects = j .effects;
+  program = j .program;
+}
 
 abbrev pub addMove : Job → Move → Job
 addMove j m = record {
-    scalars = j .scalars; formulas = j .formulas; moves = j .moves ++ (m ∷ []); effects = j .effects; program = j .program }
+  scalars = j .scalars;
+  formulas = j .formulas;
+  moves = j .moves ++ (m ∷ []);
+  effects = j .effects;
+  program = j .program;
+}
 
 abbrev pub addEffect : Job → Effect → Job
 addEffect j e = record {
-    scalars = j .scalars; formulas = j .formulas; moves = j .moves; effects = j .effects ++ (e ∷ []); program = j .program }
+  scalars = j .scalars;
+  formulas = j .formulas;
+  moves = j .moves;
+  effects = j .effects ++ (e ∷ []);
+  program = j .program;
+}
 
 abbrev pub addRow : Job → Row → Job
 addRow j r = record {
-    scalars = j .scalars; formulas = j .formulas; moves = j .moves; effects = j .effects; program = j .program ++ (r ∷ []) }
+  scalars = j .scalars;
+  formulas = j .formulas;
+  moves = j .moves;
+  effects = j .effects;
+  program = j .program ++ (r ∷ []);
+}
 
 abbrev pub withScalars : Job → ℕ → ℕ → ℕ → Job
 withScalars j facts init goal = record {
-    scalars = record { facts = facts; init = init; goal = goal };
-    formulas = j .formulas; moves = j .moves; effects = j .effects; program = j .program }
+  scalars = record { facts = facts; init = init; goal = goal };
+  formulas = j .formulas;
+  moves = j .moves;
+  effects = j .effects;
+  program = j .program;
+}

@@ -47,18 +47,26 @@ storedMove r = moveOf (getD r 3 0) r
 
 abbrev pub jobOf : Head → List ℕ → Job
 jobOf h l = record {
-    scalars = record { facts = h .counts .facts; init = h .init; goal = h .goal };
-    formulas = rowsFrom formulaOf l formulasAt (h .counts .formulas);
-    moves = rowsFrom storedMove l movesAt (h .counts .moves);
-    effects = rowsFrom effectOf l effectsAt (h .counts .effects);
-    program = rowsFrom rowOf l programAt (h .counts .program) }
+  scalars = record { facts = h .counts .facts; init = h .init; goal = h .goal };
+  formulas = rowsFrom formulaOf l formulasAt (h .counts .formulas);
+  moves = rowsFrom storedMove l movesAt (h .counts .moves);
+  effects = rowsFrom effectOf l effectsAt (h .counts .effects);
+  program = rowsFrom rowOf l programAt (h .counts .program);
+}
 
 -- a head with other scalars
 abbrev pub withNumbers : Head → ℕ → ℕ → ℕ → Head
 withNumbers h facts init goal = record {
-    counts = record {
-      facts = facts; formulas = h .counts .formulas; moves = h .counts .moves; effects = h .counts .effects; program = h .counts .program };
-    init = init; goal = goal }
+  counts = record {
+    facts = facts;
+    formulas = h .counts .formulas;
+    moves = h .counts .moves;
+    effects = h .counts .effects;
+    program = h .counts .program;
+  };
+  init = init;
+  goal = goal;
+}
 
 abbrev pub readingOf : State → List ℕ → Reading
 readingOf s l = on (s .next) (s .rows) (s .effects) (jobOf (s .head) l)

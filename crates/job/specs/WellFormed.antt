@@ -40,7 +40,12 @@ EffectRows facts formulas = Every (effectOf []) (λ i e. EffectFits facts formul
 -- what a program row may refer to: facts, formulas, moves, and the i rows before it
 abbrev pub beforeRow : Job → ℕ → Counts
 beforeRow j i = record {
-    facts = j .scalars .facts; formulas = length (j .formulas); moves = length (j .moves); effects = length (j .effects); program = i }
+  facts = j .scalars .facts;
+  formulas = length (j .formulas);
+  moves = length (j .moves);
+  effects = length (j .effects);
+  program = i;
+}
 
 abbrev pub ProgramRows : Job → List Row → Type 0
 ProgramRows j = Every (rowOf []) (λ i r. Within (beforeRow j i) (getD rowFields (r .kind) []) (r .a ∷ r .b ∷ r .c ∷ []))

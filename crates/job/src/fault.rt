@@ -76,7 +76,10 @@ pub fn reason(next: Line, row: Numbers, counts: Counts) -> u8
         Line::Effect => unless(effect_right(row, counts.facts, counts.formulas), 3),
         Line::Goal => unless(row.a < counts.formulas, 3),
         Line::Program => unless(one_to(128, row.a), 2),
-        Line::Row => unless(crate::fields::row_right(row.a, row.b, row.c, row.d, counts), 3),
+        Line::Row => unless(
+            crate::fields::row_right(row.a, row.b, row.c, row.d, counts),
+            3,
+        ),
         Line::End => 1,
     }
 }

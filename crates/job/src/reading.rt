@@ -56,7 +56,11 @@ pub fn refusal(a: Answer) -> Refusal
 fn after_formulas(rows: u16) -> Line
     ensures { λ r. ⌜ r ≡ afterFormulas rows ⌝ }
 {
-    if rows == 0 { Line::Moves } else { Line::Formula }
+    if rows == 0 {
+        Line::Moves
+    } else {
+        Line::Formula
+    }
 }
 
 fn after_moves(rows: u16, effects: u16) -> Line
@@ -190,14 +194,29 @@ fn take_line(s: State, row: Numbers, table: &mut [u16]) -> State
     let facts = h.counts.facts;
     match next {
         Line::Job => on(Line::Facts, rows, effects, h),
-        Line::Facts => on(Line::Init, rows, effects, with_scalars(h, row.a, h.init, h.goal)),
-        Line::Init => on(Line::Formulas, rows, effects, with_scalars(h, facts, row.a, h.goal)),
+        Line::Facts => on(
+            Line::Init,
+            rows,
+            effects,
+            with_scalars(h, row.a, h.init, h.goal),
+        ),
+        Line::Init => on(
+            Line::Formulas,
+            rows,
+            effects,
+            with_scalars(h, facts, row.a, h.goal),
+        ),
         Line::Formulas => on(Line::Formula, row.a, effects, h),
         Line::Formula => add_formula(s, row, table),
         Line::Moves => on(after_moves(row.a, 0), row.a, 0, h),
         Line::Move => add_move(s, row, table),
         Line::Effect => add_effect(s, row, table),
-        Line::Goal => on(Line::Program, rows, effects, with_scalars(h, facts, h.init, row.a)),
+        Line::Goal => on(
+            Line::Program,
+            rows,
+            effects,
+            with_scalars(h, facts, h.init, row.a),
+        ),
         Line::Program => on(Line::Row, row.a, effects, h),
         Line::Row => add_row(s, row, table),
         Line::End => s,

@@ -8,7 +8,9 @@ ghost use Rattle.job.specs.Store.{allRows};
 
 // Where the moves, the effects and the program rows begin; the formulas come first.
 pub const MOVES: u16 = 255;
+
 pub const EFFECTS: u16 = 319;
+
 pub const PROGRAM: u16 = 1343;
 
 // Row i of the table, written anew.

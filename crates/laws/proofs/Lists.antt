@@ -42,5 +42,6 @@ module _ {A : Type 0} (d : A) where
 pub every-more : {A : Type 0} (d : A) (P : ℕ → A → Type 0) (l : List A) (a : A)
     → ((i : ℕ) → i < length l → P i (getD l i d)) → P (length l) a → (i : ℕ) → i < length (l ++ (a ∷ [])) → P i (getD (l ++ (a ∷ [])) i d)
 every-more d P l a f p i h = elim (decLt i (length l)) [
-    yes k ↦ rw (List·getD-append l (a ∷ []) d i k) (f i k)
-  | no k ↦ (let e : i ≡ length l = omega (arith, length-append l (a ∷ [])) in rw (e, getD-append-seam) p) ]
+  | yes k ↦ rw (List·getD-append l (a ∷ []) d i k) (f i k)
+  | no k ↦ (let e : i ≡ length l = omega (arith, length-append l (a ∷ [])) in rw (e, getD-append-seam) p)
+]

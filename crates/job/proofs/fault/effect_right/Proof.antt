@@ -1,18 +1,13 @@
 use borrow.Author.Tests.{lt-ltb, le-ltb, lt-leb, le-leb, eq-eqb, ne-eqb}
 use Rattle.job.proofs.fault.effect_right.Statement.{statement}
 use Rattle.job.proofs.fault.effect_right.Tie as tie
-use Rattle.job.proofs.fault.effect_right.Reads as reads
-use Rattle.job.proofs.fault.effect_right.Lts as lts
 
--- src/fault.rt:46:13
 returns : tie.Need-returns
 returns c = rw (lt-ltb _ _ (c .before .before .before .if1 .taken), lt-ltb _ _ (c .before .if2 .taken))
 
--- src/fault.rt:48:9
 returns-2 : tie.Need-returns-2
 returns-2 c = rw (lt-ltb _ _ (c .before .before .if1 .taken), le-ltb _ _ (c .if2 .left))
 
--- src/fault.rt:41:1
 returns-3 : tie.Need-returns-3
 returns-3 c = rw (le-ltb _ _ (c .if1 .left))
 

@@ -1,14 +1,10 @@
 use borrow.Author.Tests.{lt-ltb, le-ltb, lt-leb, le-leb, eq-eqb, ne-eqb}
 use Rattle.job.proofs.fault.one_to.Statement.{statement}
 use Rattle.job.proofs.fault.one_to.Tie as tie
-use Rattle.job.proofs.fault.one_to.Reads as reads
-use Rattle.job.proofs.fault.one_to.Lts as lts
 
--- src/fault.rt:24:9
 returns : tie.Need-returns
 returns c = rw (lt-leb 1 _ (c .if1 .taken))
 
--- src/fault.rt:20:1
 returns-2 : tie.Need-returns-2
 returns-2 c = rw (le-leb 1 _ (c .if1 .left))
 

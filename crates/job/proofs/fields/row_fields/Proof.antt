@@ -1,84 +1,35 @@
 use mathlib.Core.Path.{_≡_, refl, sym, _∙_, ap}
 use native.Mathlib.Omega.{arith}
 use mathlib.Core.Bool.{true, false}
-
 use Rattle.laws.proofs.Tests.{past}
 use borrow.Author.Needs.{needs}
 use Rattle.job.proofs.fields.row_fields.Statement.{statement}
 use Rattle.job.proofs.fields.row_fields.Tie as tie
-use Rattle.job.proofs.fields.row_fields.Reads as reads
-use Rattle.job.proofs.fields.row_fields.Lts as lts
-use Rattle.job.proofs.fields.listed.Reads as listed-reads
 
--- src/fields.rt:58:14
-listed-requires : tie.Need-listed-requires
-listed-requires c κs = search needs
-
--- src/fields.rt:59:14
-listed-requires-2 : tie.Need-listed-requires-2
-listed-requires-2 c κs = search needs
-
--- src/fields.rt:60:14
-listed-requires-3 : tie.Need-listed-requires-3
-listed-requires-3 c κs = search needs
-
--- src/fields.rt:61:14
-listed-requires-4 : tie.Need-listed-requires-4
-listed-requires-4 c κs = search needs
-
--- src/fields.rt:62:14
-listed-requires-5 : tie.Need-listed-requires-5
-listed-requires-5 c κs = search needs
-
--- src/fields.rt:63:14
-listed-requires-6 : tie.Need-listed-requires-6
-listed-requires-6 c κs = search needs
-
--- src/fields.rt:64:14
-listed-requires-7 : tie.Need-listed-requires-7
-listed-requires-7 c κs = search needs
-
--- src/fields.rt:65:14
-listed-requires-8 : tie.Need-listed-requires-8
-listed-requires-8 c κs = search needs
-
--- src/fields.rt:66:14
-listed-requires-9 : tie.Need-listed-requires-9
-listed-requires-9 c κs = search needs
-
--- src/fields.rt:53:1
 returns : tie.Need-returns
 returns c = rw (c .before .match .keys1, c .listed .ensures .0, c .listed .ensures .1, c .listed .ensures .2)
 
--- src/fields.rt:53:1
 returns-2 : tie.Need-returns-2
 returns-2 c = rw (c .before .match .keys2, c .listed2 .ensures .0, c .listed2 .ensures .1, c .listed2 .ensures .2)
 
--- src/fields.rt:53:1
 returns-3 : tie.Need-returns-3
 returns-3 c = rw (c .before .match .keys3, c .listed3 .ensures .0, c .listed3 .ensures .1, c .listed3 .ensures .2)
 
--- src/fields.rt:53:1
 returns-4 : tie.Need-returns-4
 returns-4 c = rw (c .before .match .keys4, c .listed4 .ensures .0, c .listed4 .ensures .1, c .listed4 .ensures .2)
 
--- src/fields.rt:53:1
 returns-5 : tie.Need-returns-5
 returns-5 c = rw (c .before .match .keys5, c .listed5 .ensures .0, c .listed5 .ensures .1, c .listed5 .ensures .2)
 
--- src/fields.rt:53:1
 returns-6 : tie.Need-returns-6
 returns-6 c = rw (c .before .match .keys6, c .listed6 .ensures .0, c .listed6 .ensures .1, c .listed6 .ensures .2)
 
--- src/fields.rt:53:1
 returns-7 : tie.Need-returns-7
 returns-7 c = rw (c .before .match .keys7, c .listed7 .ensures .0, c .listed7 .ensures .1, c .listed7 .ensures .2)
 
--- src/fields.rt:53:1
 returns-8 : tie.Need-returns-8
 returns-8 c = rw (c .before .match .keys8, c .listed8 .ensures .0, c .listed8 .ensures .1, c .listed8 .ensures .2)
 
--- src/fields.rt:53:1
 returns-9 : tie.Need-returns-9
 returns-9 c = let p0 = past 0 (c .before .before .args .kind) (omega arith) (c .before .match .rest .0 .0 .0 .0 .0 .0 .0 .1) in let p1 = past 1 (c .before .before .args .kind) (p0) (c .before .match .rest .0 .0 .0 .0 .0 .0 .1) in let p2 = past 2 (c .before .before .args .kind) (p1) (c .before .match .rest .0 .0 .0 .0 .0 .1) in let p3 = past 3 (c .before .before .args .kind) (p2) (c .before .match .rest .0 .0 .0 .0 .1) in let p4 = past 4 (c .before .before .args .kind) (p3) (c .before .match .rest .0 .0 .0 .1) in let p5 = past 5 (c .before .before .args .kind) (p4) (c .before .match .rest .0 .0 .1) in let p6 = past 6 (c .before .before .args .kind) (p5) (c .before .match .rest .0 .1) in let p7 = past 7 (c .before .before .args .kind) (p6) (c .before .match .rest .1) in let e : c .before .before .args .kind ≡ 8 = omega (arith, c .before .before .pre, p7) in rw (e, c .listed9 .ensures .0, c .listed9 .ensures .1, c .listed9 .ensures .2)
 
@@ -86,15 +37,15 @@ pub row-fields-spec : {M : Type 1} → statement M
 row-fields-spec =
     tie.close
     (tie.spec
-    listed-requires
-    listed-requires-2
-    listed-requires-3
-    listed-requires-4
-    listed-requires-5
-    listed-requires-6
-    listed-requires-7
-    listed-requires-8
-    listed-requires-9
+    (λ c κs. search needs)
+    (λ c κs. search needs)
+    (λ c κs. search needs)
+    (λ c κs. search needs)
+    (λ c κs. search needs)
+    (λ c κs. search needs)
+    (λ c κs. search needs)
+    (λ c κs. search needs)
+    (λ c κs. search needs)
     returns
     returns-2
     returns-3

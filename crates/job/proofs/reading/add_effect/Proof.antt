@@ -4,41 +4,7 @@ use Rattle.job.proofs.StoreLaws.{reading-of, rows-within, effect-added}
 use borrow.Author.Needs.{needs}
 use Rattle.job.proofs.reading.add_effect.Statement.{statement}
 use Rattle.job.proofs.reading.add_effect.Tie as tie
-use Rattle.job.proofs.reading.add_effect.Reads as reads
-use Rattle.job.proofs.reading.add_effect.Lts as lts
-use Rattle.job.proofs.reading.after_moves.Reads as after-moves-reads
-use Rattle.job.proofs.reading.on.Reads as on-reads
-use Rattle.job.proofs.rows.put_row.Reads as put-row-reads
 
--- src/reading.rt:126:33
-add-put-row : tie.Need-add-put-row
-add-put-row c = search needs
-
--- src/reading.rt:126:5
-put-row-requires : tie.Need-put-row-requires
-put-row-requires c κs = search needs
-
--- src/reading.rt:127:17
-add-c : tie.Need-add-c
-add-c c = search needs
-
--- src/reading.rt:133:19
-sub-effects : tie.Need-sub-effects
-sub-effects c = search needs
-
--- src/reading.rt:134:8
-after-moves-requires : tie.Need-after-moves-requires
-after-moves-requires c κs = search needs
-
--- src/reading.rt:134:5
-on-requires : tie.Need-on-requires
-on-requires c κs = search needs
-
--- src/reading.rt:118:1
-same-length : tie.Need-same-length
-same-length c = search needs
-
--- src/reading.rt:118:1
 returns : tie.Need-returns
 returns c = reading-of _ _ _ _ _ _ _ (c .on .ensures) (c .before .before .before .before .before .put-row .ensures) (c .before .after-moves .ensures) (effect-added (c .before .before .before .before .before .before .before .before .before .before .args .s .head) (c .before .before .before .before .before .before .before .before .before .before .args .table .now) _ _ _ _ (c .before .before .before .before .before .before .before .before .before .before .pre .1) (rows-within (c .before .before .before .before .before .before .before .before .before .before .pre .0)) (omega (arith, c .before .before .before .before .before .before .before .before .before .before .pre .0)))
 
@@ -46,11 +12,11 @@ pub add-effect-spec : {M : Type 1} → statement M
 add-effect-spec =
     tie.close
     (tie.spec
-    add-put-row
-    put-row-requires
-    add-c
-    sub-effects
-    after-moves-requires
-    on-requires
-    same-length
+    (λ c. search needs)
+    (λ c κs. search needs)
+    (λ c. search needs)
+    (λ c. search needs)
+    (λ c κs. search needs)
+    (λ c κs. search needs)
+    (λ c. search needs)
     returns)

@@ -1,14 +1,10 @@
 use borrow.Author.Tests.{lt-ltb, le-ltb, lt-leb, le-leb, eq-eqb, ne-eqb}
 use Rattle.job.proofs.reading.after_formulas.Statement.{statement}
 use Rattle.job.proofs.reading.after_formulas.Tie as tie
-use Rattle.job.proofs.reading.after_formulas.Reads as reads
-use Rattle.job.proofs.reading.after_formulas.Lts as lts
 
--- src/reading.rt:32:1
 returns : tie.Need-returns
 returns c = rw (eq-eqb _ _ (c .if1 .taken))
 
--- src/reading.rt:32:1
 returns-2 : tie.Need-returns-2
 returns-2 c = rw (ne-eqb _ _ (c .if1 .left))
 

@@ -1,18 +1,13 @@
 use borrow.Author.Tests.{lt-ltb, le-ltb, lt-leb, le-leb, eq-eqb, ne-eqb}
 use Rattle.job.proofs.reading.after_moves.Statement.{statement}
 use Rattle.job.proofs.reading.after_moves.Tie as tie
-use Rattle.job.proofs.reading.after_moves.Reads as reads
-use Rattle.job.proofs.reading.after_moves.Lts as lts
 
--- src/reading.rt:43:13
 returns : tie.Need-returns
 returns c = rw (eq-eqb _ _ (c .before .if1 .taken), eq-eqb _ _ (c .if2 .taken))
 
--- src/reading.rt:45:9
 returns-2 : tie.Need-returns-2
 returns-2 c = rw (eq-eqb _ _ (c .before .if1 .taken), ne-eqb _ _ (c .if2 .left))
 
--- src/reading.rt:38:1
 returns-3 : tie.Need-returns-3
 returns-3 c = rw (ne-eqb _ _ (c .if1 .left))
 

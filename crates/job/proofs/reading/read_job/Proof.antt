@@ -11,15 +11,6 @@ use Rattle.job.proofs.ReadLaws.{read-on, read-refused, read-ended, reas
 use borrow.Author.Needs.{needs}
 use Rattle.job.proofs.reading.read_job.Statement.{statement}
 use Rattle.job.proofs.reading.read_job.Tie as tie
-use Rattle.job.proofs.reading.read_job.Reads as reads
-use Rattle.job.proofs.reading.read_job.Lts as lts
-use Rattle.job.proofs.fault.reason.Reads as reason-reads
-use Rattle.job.proofs.line.read_line.Reads as read-line-reads
-use Rattle.job.proofs.reading.finish.Reads as finish-reads
-use Rattle.job.proofs.reading.refused.Reads as refused-reads
-use Rattle.job.proofs.reading.start.Reads as start-reads
-use Rattle.job.proofs.reading.take_line.Reads as take-line-reads
-use Rattle.text.proofs.lines.line_end.Reads as line-end-reads
 
 abbrev Inv-loop : tie.InvT-loop
 Inv-loop text table₀ s₀ at₀ n₀ table s at n = (at ≤ length text) × (n ≤ at) × (length table ≡ 5884) × Kept (readingOf s table) × (readJob text ≡ readFrom n (readingOf s table) (lines (drop at text)))
@@ -27,80 +18,53 @@ Inv-loop text table₀ s₀ at₀ n₀ table s at n = (at ≤ length text) × (n
 abbrev μ-loop : tie.MeasureT-loop
 μ-loop text table₀ s₀ at₀ n₀ table s at n = length text - at
 
--- src/reading.rt:262:9
-start-requires : tie.Need-start-requires Inv-loop μ-loop
-start-requires c κs = search needs
-
--- src/reading.rt:265:5
 loop-holds : tie.Need-loop-holds Inv-loop μ-loop
 unfolding readJob
 loop-holds c = let e = c .start .ensures (c .before .before .before .args .table .now) in (search needs, search needs, c .before .before .before .pre, subst Kept (sym e) begun-kept, ap (λ q. readFrom 0 q (lines (c .before .before .before .args .text .now))) (sym e))
 
--- src/reading.rt:266:13
-line-end-requires : tie.Need-line-end-requires Inv-loop μ-loop
-line-end-requires c κs = search needs
-
--- src/reading.rt:267:20
 sub-line : tie.Need-sub-line Inv-loop μ-loop
 sub-line c = omega (arith, c .line-end .ensures, line-within (c .before .before .before .before .before .before .args .text .now) (c .before .before .loop .at) (c .before .loop-test .taken) .0)
 
--- src/reading.rt:267:20
 part-line-start : tie.Need-part-line-start Inv-loop μ-loop
 part-line-start c = omega (arith, c .line-end .ensures, line-within (c .before .before .before .before .before .before .args .text .now) (c .before .before .loop .at) (c .before .loop-test .taken) .0)
 
--- src/reading.rt:267:20
 part-line-end : tie.Need-part-line-end Inv-loop μ-loop
 part-line-end c = omega (arith, c .line-end .ensures, line-within (c .before .before .before .before .before .before .args .text .now) (c .before .before .loop .at) (c .before .loop-test .taken) .1)
 
--- src/reading.rt:269:13
-read-line-requires : tie.Need-read-line-requires Inv-loop μ-loop
-read-line-requires c κs = search needs
-
--- src/reading.rt:271:9
 add-n : tie.Need-add-n Inv-loop μ-loop
 add-n c = omega (arith, c .before .before .before .before .before .loop .inv .1, c .before .before .before .before .loop-test .taken, c .before .before .before .before .before .before .before .before .before .good .0 .1)
 
--- src/reading.rt:272:13
 reason-requires : tie.Need-reason-requires Inv-loop μ-loop
 reason-requires c κs = room-of (c .before .before .before .before .before .loop .s) (c .before .before .before .before .before .loop .table) (c .before .before .before .before .before .loop .inv .3) .facts
 
--- src/reading.rt:274:13
-refused-requires : tie.Need-refused-requires Inv-loop μ-loop
-refused-requires c κs = search needs
-
--- src/reading.rt:274:13
 same-length : tie.Need-same-length Inv-loop μ-loop
 same-length c = omega (arith, c .before .before .before .before .before .before .before .before .loop .inv .2, c .before .before .before .before .before .before .before .before .before .before .before .before .pre)
 
--- src/reading.rt:274:13
 returns : tie.Need-returns Inv-loop μ-loop
 returns c = let l = c .before .before .before .before .before .before .before .before .loop in let t = c .before .before .before .before .before .before .before .before .before .before .before .before .args .text .now in let e = reason-of (l .s) (l .table) _ (c .before .before .before .before .read-line .result) (c .before .before .before .before .read-line .ensures) in let g = c .before .before .reason .ensures ∙ e in ap (λ a. outcomeOf a (l .table)) (c .refused .ensures) ∙ ap (λ k. refused k (l .n + 1)) g ∙ sym (read-refused t (l .at) _ (l .n) (readingOf (l .s) (l .table)) (c .before .before .before .before .before .before .before .loop-test .taken) (c .before .before .before .before .before .before .line-end .ensures) (l .inv .4) (λ z. c .before .if1 .taken (g ∙ z)))
 
--- src/reading.rt:276:9
 take-line-requires : tie.Need-take-line-requires Inv-loop μ-loop
 take-line-requires c κs = (room-of (c .before .before .before .before .before .before .before .before .loop .s) (c .before .before .before .before .before .before .before .before .loop .table) (c .before .before .before .before .before .before .before .before .loop .inv .3), c .before .before .before .before .before .before .before .before .loop .inv .2)
 
--- src/reading.rt:265:5
 loop-less : tie.Need-loop-less Inv-loop μ-loop
 loop-less c = omega (arith, c .before .before .before .before .before .before .before .before .before .line-end .ensures, line-within (c .before .before .before .before .before .before .before .before .before .before .before .before .before .before .before .args .text .now) (c .before .before .before .before .before .before .before .before .before .before .before .loop .at) (c .before .before .before .before .before .before .before .before .before .before .loop-test .taken) .0, line-within (c .before .before .before .before .before .before .before .before .before .before .before .before .before .before .before .args .text .now) (c .before .before .before .before .before .before .before .before .before .before .before .loop .at) (c .before .before .before .before .before .before .before .before .before .before .loop-test .taken) .1)
 
--- src/reading.rt:265:5
 loop-again : tie.Need-loop-again Inv-loop μ-loop
-loop-again c = let l = c .before .before .before .before .before .before .before .before .before .before .before .loop in let t = c .before .before .before .before .before .before .before .before .before .before .before .before .before .before .before .args .text .now in let e = reason-of (l .s) (l .table) _ (c .before .before .before .before .before .before .before .read-line .result) (c .before .before .before .before .before .before .before .read-line .ensures) in let z = sym (c .before .before .before .before .before .reason .ensures) ∙ c .before .before .before .before .if1 .left in let f = c .before .before .take-line .ensures in
-    (omega (arith, c .before .before .before .before .before .before .before .before .before .line-end .ensures, line-within (c .before .before .before .before .before .before .before .before .before .before .before .before .before .before .before .args .text .now) (c .before .before .before .before .before .before .before .before .before .before .before .loop .at) (c .before .before .before .before .before .before .before .before .before .before .loop-test .taken) .1), omega (arith, l .inv .1, c .before .before .before .before .before .before .before .before .before .line-end .ensures, line-within (c .before .before .before .before .before .before .before .before .before .before .before .before .before .before .before .args .text .now) (c .before .before .before .before .before .before .before .before .before .before .before .loop .at) (c .before .before .before .before .before .before .before .before .before .before .loop-test .taken) .0), omega (arith, l .inv .2, c .before .before .take-line .kept .1 .1 .0),
-     subst Kept (sym f) (taken-kept (readingOf (l .s) (l .table)) _ (right-of (l .s) (l .table) _ (c .before .before .before .before .before .before .before .read-line .result) (c .before .before .before .before .before .before .before .read-line .ensures) z) (l .inv .3)),
-     read-on t (l .at) _ (l .n) (readingOf (l .s) (l .table)) (c .before .before .before .before .before .before .before .before .before .before .loop-test .taken) (c .before .before .before .before .before .before .before .before .before .line-end .ensures) (l .inv .4) _ (row-of (l .s) (l .table) _ (c .before .before .before .before .before .before .before .read-line .result) (c .before .before .before .before .before .before .before .read-line .ensures) z) (sym e ∙ z)
-     ∙ ap (λ q. readFrom (l .n + 1) q (lines (drop (c .before .before .before .before .before .before .before .before .before .line-end .result) t))) (sym f))
+loop-again c = let l = c .before .before .before .before .before .before .before .before .before .before .before .loop in let t = c .before .before .before .before .before .before .before .before .before .before .before .before .before .before .before .args .text .now in let e = reason-of (l .s) (l .table) _ (c .before .before .before .before .before .before .before .read-line .result) (c .before .before .before .before .before .before .before .read-line .ensures) in let z = sym (c .before .before .before .before .before .reason .ensures) ∙ c .before .before .before .before .if1 .left in let f = c .before .before .take-line .ensures in (
+  omega (arith, c .before .before .before .before .before .before .before .before .before .line-end .ensures, line-within (c .before .before .before .before .before .before .before .before .before .before .before .before .before .before .before .args .text .now) (c .before .before .before .before .before .before .before .before .before .before .before .loop .at) (c .before .before .before .before .before .before .before .before .before .before .loop-test .taken) .1),
+  omega (arith, l .inv .1, c .before .before .before .before .before .before .before .before .before .line-end .ensures, line-within (c .before .before .before .before .before .before .before .before .before .before .before .before .before .before .before .args .text .now) (c .before .before .before .before .before .before .before .before .before .before .before .loop .at) (c .before .before .before .before .before .before .before .before .before .before .loop-test .taken) .0),
+  omega (arith, l .inv .2, c .before .before .take-line .kept .1 .1 .0),
+  subst Kept (sym f) (taken-kept (readingOf (l .s) (l .table)) _ (right-of (l .s) (l .table) _ (c .before .before .before .before .before .before .before .read-line .result) (c .before .before .before .before .before .before .before .read-line .ensures) z) (l .inv .3)),
+  read-on t (l .at) _ (l .n) (readingOf (l .s) (l .table)) (c .before .before .before .before .before .before .before .before .before .before .loop-test .taken) (c .before .before .before .before .before .before .before .before .before .line-end .ensures) (l .inv .4) _ (row-of (l .s) (l .table) _ (c .before .before .before .before .before .before .before .read-line .result) (c .before .before .before .before .before .before .before .read-line .ensures) z) (sym e ∙ z)
+      ∙ ap (λ q. readFrom (l .n + 1) q (lines (drop (c .before .before .before .before .before .before .before .before .before .line-end .result) t))) (sym f),
+)
 
--- src/reading.rt:279:5
 finish-requires : tie.Need-finish-requires Inv-loop μ-loop
 finish-requires c κs = omega (arith, c .before .loop .inv .0, c .before .loop .inv .1, c .before .before .before .before .before .good .0 .1)
 
--- src/reading.rt:258:1
 same-length-2 : tie.Need-same-length-2 Inv-loop μ-loop
 same-length-2 c = omega (arith, c .before .before .loop .inv .2, c .before .before .before .before .before .before .pre)
 
--- src/reading.rt:258:1
 returns-2 : tie.Need-returns-2 Inv-loop μ-loop
 returns-2 c = c .finish .ensures (c .before .before .loop .table) ∙ sym (read-ended (c .before .before .before .before .before .before .args .text .now) (c .before .before .loop .at) (c .before .before .loop .n) (readingOf (c .before .before .loop .s) (c .before .before .loop .table)) (c .before .loop-test .left) (c .before .before .loop .inv .4))
 
@@ -110,16 +74,16 @@ read-job-spec =
     (tie.spec
     Inv-loop
     μ-loop
-    start-requires
+    (λ c κs. search needs)
     loop-holds
-    line-end-requires
+    (λ c κs. search needs)
     sub-line
     part-line-start
     part-line-end
-    read-line-requires
+    (λ c κs. search needs)
     add-n
     reason-requires
-    refused-requires
+    (λ c κs. search needs)
     same-length
     returns
     take-line-requires

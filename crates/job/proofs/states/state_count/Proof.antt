@@ -11,24 +11,13 @@ use Rattle.laws.proofs.Tables.{entry-passes}
 use borrow.Author.Needs.{needs}
 use Rattle.job.proofs.states.state_count.Statement.{statement}
 use Rattle.job.proofs.states.state_count.Tie as tie
-use Rattle.job.proofs.states.state_count.Reads as reads
-use Rattle.job.proofs.states.state_count.Lts as lts
 
 counts : List ℕ
 counts = 1 ∷ 2 ∷ 4 ∷ 8 ∷ 16 ∷ 32 ∷ 64 ∷ 128 ∷ 256 ∷ 512 ∷ 1024 ∷ 2048 ∷ 4096 ∷ []
 
--- src/states.rt:13:5
-mul-result : tie.Need-mul-result
-mul-result c = search needs
-
--- src/states.rt:13:5
-array-read-result : tie.Need-array-read-result
-array-read-result c = search needs
-
--- src/states.rt:8:1
 returns : tie.Need-returns
 unfolding counts
 returns c = let i = c .args .facts in eqb-true (getD counts i 0) (2 ^ i) (entry-passes (λ k x. eqb x (2 ^ k)) counts refl i (omega arith))
 
 pub state-count-spec : {M : Type 1} → statement M
-state-count-spec = tie.close (tie.spec mul-result array-read-result returns)
+state-count-spec = tie.close (tie.spec (λ c. search needs) (λ c. search needs) returns)
