@@ -3,3 +3,5 @@ pub mod StoreLaws
 pub mod RoomLaws
 pub mod RowLaws
 pub mod ReadLaws
+pub mod LongTexts
+pub mod Examples

@@ -1,13 +1,13 @@
 -- Laws of lists: a fold from a place on, and stores over a list.
 -- Assumes nothing.
-use Prim.Native.Nat.{ℕ, zero, suc, _+_, _≤_, _<_}
+use Prim.Native.Nat.{ℕ, zero, suc, _+_, _-_, _≤_, _<_}
 use mathlib.Core.Path.{_≡_, refl, sym, _∙_, ap}
 use mathlib.Core.List.{List, [], _∷_, _++_, foldl}
 use native.Mathlib.Omega.{arith}
 use native.Mathlib.Numerals.{add-one}
 use native.Mathlib.Decide.{decLt}
-use lib.ListN.{length, getD, drop, set, length-append, length-set, drop-of-length-le, List·getD-append}
-use lib.Seq.{drop-cons, getD-set-same, getD-set-other, getD-append-seam, sets}
+use lib.ListN.{length, getD, take, drop, set, length-append, length-set, drop-of-length-le, List·getD-append}
+use lib.Seq.{drop-cons, take-nil, getD-set-same, getD-set-other, getD-append-seam, sets}
 
 -- a machine that is fed a list from a place on: one element more, and none
 module _ {S A : Type 0} (f : S → A → S) (s : S) (l : List A) (i : ℕ) where
@@ -45,3 +45,11 @@ every-more d P l a f p i h = elim (decLt i (length l)) [
   | yes k ↦ rw (List·getD-append l (a ∷ []) d i k) (f i k)
   | no k ↦ (let e : i ≡ length l = omega (arith, length-append l (a ∷ [])) in rw (e, getD-append-seam) p)
 ]
+
+-- a part of a front is a front of that part
+pub drop-take : {A : Type 0} (i m : ℕ) (l : List A) → i ≤ m → drop i (take m l) ≡ take (m - i) (drop i l)
+drop-take zero m l h = let e : m ≡ m - 0 = omega arith in ap (λ (k : ℕ). take k l) e
+drop-take (suc i) zero l h = absurd (omega arith)
+drop-take (suc i) (suc m) [] h = sym (take-nil (suc m - suc i))
+drop-take (suc i) (suc m) (a ∷ l) h =
+    let e : m - i ≡ suc m - suc i = omega arith in drop-take i m l (omega arith) ∙ ap (λ (k : ℕ). take k (drop i l)) e

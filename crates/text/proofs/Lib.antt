@@ -1,2 +1,4 @@
 pub mod LineLaws
 pub mod NumberLaws
+pub mod WrittenLaws
+pub mod LineText

@@ -1,6 +1,6 @@
 -- Laws of the lines of a text and of a line's key, at a place.
 -- Assumes nothing.
-use Prim.Native.Nat.{ℕ, suc, _+_, _≤_, _<_}
+use Prim.Native.Nat.{ℕ, zero, suc, _+_, _≤_, _<_, min}
 use mathlib.Core.Path.{_≡_, refl, ap}
 use mathlib.Core.Bool.{Bool, true, false, cond}
 use mathlib.Core.List.{List, [], _∷_}
@@ -70,7 +70,12 @@ lines-cons : (b : ℕ) (t : List ℕ) → lines (b ∷ t) ≡ take (lineLength (
 lines-cons b [] = line-step b [] (eqb b 10) refl (unfold lines lineLength in refl)
 lines-cons b (x ∷ t) = line-step b (x ∷ t) (eqb b 10) refl (ap (onto b) (lines-cons x t))
 
--- the first line of a text from a place on, and the lines after it
+-- the first line of a text, and the lines after it
+pub lines-first : (s : List ℕ) → 0 < length s → lines s ≡ take (lineLength s) s ∷ lines (drop (lineLength s) s)
+lines-first [] h = absurd (not-suc-le-zero h)
+lines-first (b ∷ t) h = lines-cons b t
+
+-- the same from a place on
 pub lines-at : (s : List ℕ) (i : ℕ) → i < length s
     → lines (drop i s) ≡ take (lineLength (drop i s)) (drop i s) ∷ lines (drop (i + lineLength (drop i s)) s)
 lines-at s i h = rw (← drop-drop (lineLength (drop i s)) i s, drop-cons s i 0 h) (lines-cons (getD s i 0) (drop (suc i) s))
@@ -84,11 +89,11 @@ unfolding lineLength
 length-step b t true e h = rw e (omega arith)
 length-step b t false e h = rw e (omega arith)
 
-length-le : (s : List ℕ) → lineLength s ≤ length s
+pub length-le : (s : List ℕ) → lineLength s ≤ length s
 length-le [] = unfold lineLength in omega arith
 length-le (b ∷ t) = length-step b t (eqb b 10) refl (length-le t) .1
 
-length-pos : (s : List ℕ) → 0 < length s → 0 < lineLength s
+pub length-pos : (s : List ℕ) → 0 < length s → 0 < lineLength s
 length-pos [] h = absurd (not-suc-le-zero h)
 length-pos (b ∷ t) h = length-step b t (eqb b 10) refl (length-le t) .0
 
@@ -96,3 +101,14 @@ length-pos (b ∷ t) h = length-step b t (eqb b 10) refl (length-le t) .0
 pub line-within : (s : List ℕ) (i : ℕ) → i < length s → (i < i + lineLength (drop i s)) × (i + lineLength (drop i s) ≤ length s)
 line-within s i h =
     (omega (arith, length-pos (drop i s) (simp length-drop (omega arith))), omega (arith, simp length-drop at (length-le (drop i s))))
+
+-- the first line of a text's front: the text's own, as far as it goes
+front-step : (b m k l : ℕ) (z : Bool) → k ≡ min l m → cond z 1 (suc k) ≡ min (cond z 1 (suc l)) (suc m)
+front-step b m k l true e = omega arith
+front-step b m k l false e = omega arith
+
+pub front-length : (m : ℕ) (s : List ℕ) → m ≤ length s → lineLength (take m s) ≡ min (lineLength s) m
+unfolding lineLength
+front-length zero s h = omega arith
+front-length (suc m) [] h = absurd (not-suc-le-zero h)
+front-length (suc m) (b ∷ t) h = front-step b m (lineLength (take m t)) (lineLength t) (eqb b 10) (front-length m t (omega arith))

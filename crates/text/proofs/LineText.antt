@@ -1,0 +1,93 @@
+-- A line is read as numbers just where it is the text of its key and of these numbers; so it is short.
+-- Assumes nothing.
+use Prim.Native.Nat.{ℕ, zero, suc, _+_, _*_, _/_, _%_, _≤_, _<_}
+use mathlib.Core.Path.{_≡_, refl, sym, _∙_, ap}
+use mathlib.Core.Bool.{Bool, true, false, cond}
+use mathlib.Core.List.{List, [], _∷_, _++_}
+use mathlib.Core.Option.{Option, none, some}
+use native.Mathlib.Omega.{arith}
+use native.Mathlib.Decide.{decLt}
+use lib.Dec.{eqb, ltb}
+use lib.ListN.{length, drop, length-append}
+use lib.Seq.{drop-append-add}
+use borrow.Author.Tests.{eqb-true, eq-eqb, lt-ltb, le-ltb}
+use Rattle.laws.proofs.Tests.{never}
+use Rattle.text.specs.Lines.{hasKey, valueOf}
+use Rattle.text.specs.Numbers.{numbers}
+use Rattle.text.specs.Written.{digitsWithin, decimal, written, Small, IsValue}
+use Rattle.text.proofs.WrittenLaws.{numbers-sound, numbers-complete}
+
+both : (b k : ℕ) (rest same : Bool) → eqb b k ≡ same → cond same rest false ≡ true → (b ≡ k) × (rest ≡ true)
+both b k rest true e h = (eqb-true b k e, h)
+both b k rest false e h = never h
+
+-- a line that has a key begins with it and an equals sign
+pub key-front : (k l : List ℕ) → hasKey k l ≡ true → l ≡ k ++ (61 ∷ drop (length k + 1) l)
+unfolding hasKey
+key-front [] [] e = never e
+key-front [] (b ∷ l) e = rw (eqb-true b 61 e)
+key-front (k ∷ ks) [] e = never e
+key-front (k ∷ ks) (b ∷ l) e =
+    let h = both b k (hasKey ks l) (eqb b k) refl e in
+    let n : suc (length ks) + 1 ≡ suc (length ks + 1) = omega arith in
+    rw (h .0, n) (ap (λ r. k ∷ r) (key-front ks l (h .1)))
+
+pub key-has : (k v : List ℕ) → hasKey k (k ++ (61 ∷ v)) ≡ true
+unfolding hasKey
+key-has [] v = refl
+key-has (k ∷ ks) v = rw (eq-eqb k k refl) (key-has ks v)
+
+-- the text of a line with this key and these numbers
+abbrev pub lineText : List ℕ → List ℕ → List ℕ
+lineText key ns = key ++ (61 ∷ written ns)
+
+pub line-sound : (key : List ℕ) (want : ℕ) (ns line : List ℕ) → numbers want (valueOf key line) ≡ some ns → IsValue want ns (valueOf key line) × (line ≡ lineText key ns)
+unfolding valueOf numbers
+line-sound key want ns line e = sound (hasKey key line) refl e
+  where
+    sound : (b : Bool) → hasKey key line ≡ b → numbers want (cond b (drop (length key + 1) line) []) ≡ some ns
+        → IsValue want ns (cond (hasKey key line) (drop (length key + 1) line) []) × (line ≡ lineText key ns)
+    sound true h e = let v = numbers-sound want ns (drop (length key + 1) line) e in (rw h v, key-front key line h ∙ ap (λ r. key ++ (61 ∷ r)) (v .text))
+    sound false h e = let z : _≡_ {A = ℕ} 0 1 = cc in absurd (omega arith)
+
+pub line-complete : (key : List ℕ) (want n : ℕ) (ns : List ℕ) → length (n ∷ ns) ≡ want → Small (n ∷ ns) → numbers want (valueOf key (lineText key (n ∷ ns))) ≡ some (n ∷ ns)
+unfolding valueOf
+line-complete key want n ns h s =
+    let d : drop (length key + 1) (key ++ (61 ∷ written (n ∷ ns))) ≡ written (n ∷ ns) = drop-append-add key (61 ∷ written (n ∷ ns)) 1 in
+    rw (key-has key (written (n ∷ ns)), d) (numbers-complete want n ns (written (n ∷ ns)) (record { count = h; small = s; text = refl }))
+
+-- numbers below a limit have so many digits at the most; ten times the limit, one more
+Short : ℕ → ℕ → Type 0
+Short limit j = (k n : ℕ) → n < limit → length (digitsWithin k n) ≤ j
+
+short-first : Short 10 1
+unfolding Short digitsWithin
+short-first zero n h = omega arith
+short-first (suc k) n h = rw (lt-ltb n 10 h) (omega arith)
+
+short-more : (limit j : ℕ) → Short limit j → Short (10 * limit) (suc j)
+unfolding Short digitsWithin
+short-more limit j f zero n h = omega arith
+short-more limit j f (suc k) n h = elim (decLt n 10) [
+    yes d ↦ rw (lt-ltb n 10 d) (omega arith)
+  | no d ↦ (let e : 10 ≤ n = omega arith in
+      rw (le-ltb n 10 e) (simp length-append (omega (arith, f k (n / 10) (omega arith))))) ]
+
+decimal-short : (n : ℕ) → n ≤ 65535 → length (decimal n) ≤ 5
+unfolding Short
+decimal-short n h = short-more 10000 4 (short-more 1000 3 (short-more 100 2 (short-more 10 1 short-first))) (suc n) n (omega arith)
+
+written-short : (n : ℕ) (ns : List ℕ) → Small (n ∷ ns) → length (written (n ∷ ns)) ≤ 6 * length (n ∷ ns)
+unfolding written
+written-short n [] s = simp length-append (omega (arith, decimal-short n (s .0)))
+written-short n (m ∷ ns) s = simp length-append (omega (arith, decimal-short n (s .0), written-short m ns (s .1)))
+
+values-short : (ns : List ℕ) → Small ns → length (written ns) ≤ 6 * length ns + 1
+values-short [] s = unfold written in omega arith
+values-short (n ∷ ns) s = omega (arith, written-short n ns s)
+
+-- a line of so many numbers has six bytes at the most for each, beside its key, the equals sign and, without numbers, its line feed
+pub line-short : (key : List ℕ) (want : ℕ) (ns line : List ℕ) → numbers want (valueOf key line) ≡ some ns → length line ≤ length key + 2 + 6 * want
+line-short key want ns line e =
+    let v = line-sound key want ns line e in
+    omega (arith, ap length (v .1) ∙ length-append key (61 ∷ written ns), values-short ns (v .0 .small), v .0 .count)

@@ -1,0 +1,30 @@
+-- Numbers as text: "decimal numbers 0 to 65,535, no leading zeros, commas between", ended by the line feed.
+use Prim.Native.Nat.{ℕ, zero, suc, _+_, _/_, _%_, _≤_}
+use mathlib.Core.Path.{_≡_}
+use mathlib.Core.Bool.{cond}
+use mathlib.Core.List.{List, [], _∷_, _++_}
+use lib.Dec.{ltb}
+use lib.ListN.{length}
+
+-- a number's decimal digits, of which it has fewer than `most`
+unfoldable pub digitsWithin : ℕ → ℕ → List ℕ
+digitsWithin zero n = []
+digitsWithin (suc most) n = cond (ltb n 10) ((48 + n) ∷ []) (digitsWithin most (n / 10) ++ ((48 + n % 10) ∷ []))
+
+abbrev pub decimal : ℕ → List ℕ
+decimal n = digitsWithin (suc n) n
+
+unfoldable pub written : List ℕ → List ℕ
+written [] = 10 ∷ []
+written (n ∷ []) = decimal n ++ (10 ∷ [])
+written (n ∷ m ∷ ns) = decimal n ++ (44 ∷ written (m ∷ ns))
+
+abbrev pub Small : List ℕ → Type 0
+Small [] = Unit {0}
+Small (n ∷ ns) = (n ≤ 65535) × Small ns
+
+-- a value is just the text of these numbers, so many
+pub record IsValue (want : ℕ) (ns value : List ℕ) : Type 0 where
+  pub count : length ns ≡ want
+  pub small : Small ns
+  pub text : value ≡ written ns
