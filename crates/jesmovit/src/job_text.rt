@@ -5,6 +5,7 @@ ghost use Rattle.jesmovit.specs.JobText.{readAnswer};
 use job::head::Counts;
 use job::head::Refusal;
 use job::reading::Answer;
+use job::rows::TABLE;
 
 // How many facts and rows of each sort the job has; or why the text is refused.
 pub enum ReadAnswer {
@@ -16,7 +17,7 @@ pub enum ReadAnswer {
 pub fn read_job(text: &[u8]) -> ReadAnswer
     ensures { λ r. ⌜ r ≡ readAnswer (readJob (now (text .entry))) ⌝ }
 {
-    let mut table = [0u16; 5884];
+    let mut table = [0u16; TABLE];
     let answer = job::reading::read_job(text, &mut table);
     let Answer::Accepted(_, head) = answer else {
         let r = job::reading::refusal(answer);

@@ -1,21 +1,20 @@
 -- A text of 65,536 bytes or more is refused just as its first 65,536 bytes are: right lines are short, and no job has many.
 -- Assumes nothing.
-use Prim.Native.Nat.{ℕ, zero, suc, _+_, _-_, _*_, _≤_, _<_, min}
+use Prim.Native.Nat.{ℕ, zero, suc, _+_, _-_, _*_, _≤_, _<_}
 use mathlib.Core.Path.{_≡_, refl, sym, _∙_, ap}
-use mathlib.Core.Bool.{Bool, true, false, cond, _&&_}
-use mathlib.Core.List.{List, [], _∷_}
+use mathlib.Core.List.{List, _∷_}
 use mathlib.Core.Option.{Option, none, some}
 use native.Mathlib.Omega.{arith}
 use native.Mathlib.Decide.{decLt}
 use lib.Dec.{eqb, leb}
 use lib.ListN.{length, getD, take, drop, length-drop}
 use lib.Seq.{length-take-le, take-take}
-use borrow.Author.Tests.{eqb-true, eqb-false, leb-true}
-use Rattle.laws.proofs.Tests.{never, and-left, and-right, cond-has}
+use borrow.Author.Tests.{leb-true}
+use Rattle.laws.proofs.Tests.{never, and-right, cond-has}
 use Rattle.laws.proofs.Lists.{drop-take}
 use Rattle.text.specs.Bytes.{bytes}
 use Rattle.text.specs.Lines.{lines, lineLength}
-use Rattle.text.proofs.LineLaws.{lines-first, length-le, length-pos, front-length}
+use Rattle.text.proofs.LineLaws.{lines-first, length-le, front-length}
 use Rattle.text.proofs.LineText.{line-short}
 use Rattle.job.specs.Job.{countsOf}
 use Rattle.job.specs.Line.{key, width, rowNumbers}
@@ -131,11 +130,12 @@ module _ (n : ℕ) (s : Reading) where
     unfolding fault
     both-by none e f = both-wrong (λ z. let y : _≡_ {A = ℕ} 0 1 = sym z ∙ ap (fault (s .next) (countsOf (s .job))) e in omega arith)
     both-by (some r) e f = elim (decLt 0 (reason line)) [
-        yes h ↦ both-wrong (λ z. omega arith)
+      | yes h ↦ both-wrong (λ z. omega arith)
       | no h ↦ (let z : reason line ≡ 0 = omega arith in
           line-right n s line rest r e z
           ∙ f r e (fault-right (s .next) (countsOf (s .job)) r (ap (fault (s .next) (countsOf (s .job))) (sym e) ∙ z))
-          ∙ sym (line-right n s line other r e z)) ]
+          ∙ sym (line-right n s line other r e z))
+    ]
 
     -- the same line before two rests: what is read of them decides
     pub both-lines : After → readFrom n s (line ∷ rest) ≡ readFrom n s (line ∷ other)
@@ -166,19 +166,21 @@ module _ (m n : ℕ) (s : Reading) (text : List ℕ) (some-bytes : 27 < m) (with
       let same : lines (take m text) ≡ take l text ∷ lines (take (m - l) (drop l text)) = front ∙ rw (e, take-take l m text h, drop-take l m text h) in
       ap (readFrom n s) (lines-first text (omega arith))
       ∙ both-lines n s (take l text) _ _
-        (λ r g x. again (taken s r) (taken-kept s r x k) (ahead-falls s r x k) (omega (arith, row-short (s .next) (take l text) r g, length-take-le l text (length-le text))))
+      (λ r g x. again (taken s r) (taken-kept s r x k) (ahead-falls s r x k) (omega (arith, row-short (s .next) (take l text) r g, length-take-le l text (length-le text))))
       ∙ sym (ap (readFrom n s) same)
 
 -- the front decides, where it has more bytes than all the lines that may still come
 cut : (fuel m n : ℕ) (s : Reading) (text : List ℕ) → Kept s → aheadOf s ≤ fuel → 28 + 27 * fuel ≤ m → m ≤ length text
     → readFrom n s (lines text) ≡ readFrom n s (lines (take m text))
 cut zero m n s text k a h g = elim (decLt m (lineLength text)) [
-    yes p ↦ cut-within m n s text (omega arith) g p
-  | no p ↦ cut-after m n s text (omega arith) g (omega arith) k (λ q j b d. absurd (omega arith)) ]
+  | yes p ↦ cut-within m n s text (omega arith) g p
+  | no p ↦ cut-after m n s text (omega arith) g (omega arith) k (λ q j b d. absurd (omega arith))
+]
 cut (suc fuel) m n s text k a h g = elim (decLt m (lineLength text)) [
-    yes p ↦ cut-within m n s text (omega arith) g p
+  | yes p ↦ cut-within m n s text (omega arith) g p
   | no p ↦ cut-after m n s text (omega arith) g (omega arith) k
-      (λ q j b d. cut fuel (m - lineLength text) (n + 1) q (drop (lineLength text) text) j (omega arith) (omega arith) (simp length-drop (omega arith))) ]
+      (λ q j b d. cut fuel (m - lineLength text) (n + 1) q (drop (lineLength text) text) j (omega arith) (omega arith) (simp length-drop (omega arith)))
+]
 
 -- so a program's buffer of 65,536 bytes is enough
 pub long-text : (text : List ℕ) → 65536 ≤ length text → readJob text ≡ readJob (take 65536 text)

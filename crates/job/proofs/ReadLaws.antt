@@ -1,6 +1,6 @@
 -- Reading line by line; every accepted job is well formed, and its lines are counted.
 -- Assumes nothing.
-use Prim.Native.Nat.{ℕ, zero, suc, _+_, _-_, _≤_, _<_}
+use Prim.Native.Nat.{ℕ, _+_, _-_, _≤_, _<_}
 use mathlib.Core.Path.{_≡_, refl, sym, _∙_, ap, subst}
 use mathlib.Core.Bool.{Bool, true, false, cond}
 use mathlib.Core.List.{List, [], _∷_}
@@ -17,7 +17,7 @@ use Rattle.job.specs.Job as J
 use Rattle.job.specs.Job.{countsOf}
 use Rattle.job.specs.Line.{rowNumbers}
 use Rattle.job.specs.Fault.{fault}
-use Rattle.job.specs.ReadJob.{Reading, Outcome, accepted, refused, isEnd, ended, readFrom, begun, taken, readJob}
+use Rattle.job.specs.ReadJob.{Reading, accepted, refused, isEnd, ended, readFrom, begun, taken, readJob}
 use Rattle.job.specs.Room.{Room}
 use Rattle.job.specs.Store.{readingOf, jobOf, listOf, numbersOf}
 use Rattle.job.specs.WellFormed.{WellFormed}

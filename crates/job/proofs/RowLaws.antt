@@ -1,13 +1,13 @@
 -- Every row of a job that is read keeps its ranges and references.
 -- Assumes nothing.
-use Prim.Native.Nat.{ℕ, _+_, _-_, _*_, _≤_, _<_}
-use mathlib.Core.Path.{_≡_, refl, sym, _∙_, ap, subst}
-use mathlib.Core.Bool.{Bool, true, false, cond, _&&_}
-use mathlib.Core.List.{List, [], _∷_, _++_}
+use Prim.Native.Nat.{ℕ, _+_, _-_, _<_}
+use mathlib.Core.Path.{_≡_, sym}
+use mathlib.Core.Bool.{true, cond, _&&_}
+use mathlib.Core.List.{List, [], _∷_}
 use native.Mathlib.Omega.{arith}
 use lib.Dec.{eqb, ltb, leb}
 use lib.ListN.{length, getD, length-append}
-use borrow.Author.Tests.{eqb-true, eqb-false, leb-true, ltb-true}
+use borrow.Author.Tests.{leb-true, ltb-true}
 use Rattle.laws.proofs.Tests.{never, and-left, and-right, cond-has}
 use Rattle.laws.proofs.Lists.{every-more}
 use Rattle.job.specs.StateCount.{stateCount}
@@ -15,7 +15,7 @@ use Rattle.job.specs.Job as J
 use Rattle.job.specs.Job.{countsOf, formulaOf, moveOf, effectOf, rowOf}
 use Rattle.job.specs.Fields.{bound, within, Within, formulaFields, rowFields}
 use Rattle.job.specs.ReadJob.{Reading, begun, takenAt, taken}
-use Rattle.job.specs.WellFormed.{Every, FormulaRows, MoveRows, MoveFits, EffectRows, EffectFits, ProgramRows, WellFormed, beforeFormula, beforeRow}
+use Rattle.job.specs.WellFormed.{FormulaRows, MoveRows, MoveFits, EffectRows, EffectFits, ProgramRows, WellFormed, beforeFormula, beforeRow}
 use Rattle.job.specs.Room.{Room}
 use Rattle.job.specs.declared.head.Counts.{Counts}
 use Rattle.job.specs.declared.fields.Field.{Field}

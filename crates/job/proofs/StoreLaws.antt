@@ -1,6 +1,6 @@
 -- Laws of the table of rows: what a row that is written leaves of the others, and that it stands behind those of its sort.
 -- Assumes nothing.
-use Prim.Native.Nat.{ℕ, zero, suc, _+_, _-_, _*_, _≤_, _<_}
+use Prim.Native.Nat.{ℕ, zero, suc, _+_, _*_, _≤_, _<_}
 use mathlib.Core.Path.{_≡_, refl, sym, _∙_, ap}
 use mathlib.Core.List.{List, [], _∷_, _++_}
 use native.Mathlib.Omega.{arith}
@@ -11,7 +11,7 @@ use lib.Seq.{sets, getD-append-seam}
 use Rattle.laws.proofs.Lists.{getD-sets-before, getD-sets-after, getD-sets-in}
 use Rattle.job.specs.Job.{Job, countsOf, formulaOf, moveOf, effectOf, rowOf, addFormula, addMove, addEffect, addRow}
 use Rattle.job.specs.ReadJob.{on, taken, takenAt}
-use Rattle.job.specs.Store.{rowAt, rowsFrom, storedMove, jobOf, readingOf, listOf}
+use Rattle.job.specs.Store.{formulasAt, movesAt, effectsAt, programAt, allRows, rowAt, rowsFrom, storedMove, jobOf, readingOf, listOf}
 use Rattle.job.specs.Room.{Room}
 use Rattle.job.specs.declared.head.Counts.{Counts}
 use Rattle.job.specs.declared.head.Head.{Head}
@@ -87,7 +87,7 @@ counted h f m e p = record {
 }
 
 -- a row that is written behind those of its sort is added to the job
-module _ (h : Head) (l : List ℕ) (a b c d : ℕ) (len : length l ≡ 5884)
+module _ (h : Head) (l : List ℕ) (a b c d : ℕ) (len : length l ≡ allRows * 4)
     (room : (h .counts .formulas ≤ 255) × (h .counts .moves ≤ 64) × (h .counts .effects ≤ 1024) × (h .counts .program ≤ 128)) where
   abbrev with-row : ℕ → List ℕ
   with-row i = sets l (i * 4) (a ∷ b ∷ c ∷ d ∷ [])
@@ -98,55 +98,55 @@ module _ (h : Head) (l : List ℕ) (a b c d : ℕ) (len : length l ≡ 5884)
   formula-added g =
       let i : ℕ = h .counts .formulas in
       rw (
-        put-next formulaOf l i a b c d 0 (h .counts .formulas) (omega arith) (omega arith),
-        put-before storedMove l i a b c d 255 (h .counts .moves) (omega arith),
-        put-before effectOf l i a b c d 319 (h .counts .effects) (omega arith),
-        put-before rowOf l i a b c d 1343 (h .counts .program) (omega arith),
+        put-next formulaOf l i a b c d formulasAt (h .counts .formulas) (omega arith) (omega arith),
+        put-before storedMove l i a b c d movesAt (h .counts .moves) (omega arith),
+        put-before effectOf l i a b c d effectsAt (h .counts .effects) (omega arith),
+        put-before rowOf l i a b c d programAt (h .counts .program) (omega arith),
       )
 
   -- a move, whose effects begin behind all others
   pub move-added : h .counts .moves < 64 → d ≡ h .counts .effects
-      → jobOf (counted h (h .counts .formulas) (h .counts .moves + 1) (h .counts .effects) (h .counts .program)) (with-row (255 + h .counts .moves))
+      → jobOf (counted h (h .counts .formulas) (h .counts .moves + 1) (h .counts .effects) (h .counts .program)) (with-row (movesAt + h .counts .moves))
       ≡ addMove (jobOf h l) (moveOf (length (jobOf h l .effects)) (a ∷ b ∷ c ∷ []))
   move-added g e =
-      let i : ℕ = 255 + h .counts .moves in
+      let i : ℕ = movesAt + h .counts .moves in
       rw (
-        put-behind formulaOf l i a b c d 0 (h .counts .formulas) (omega arith),
-        put-next storedMove l i a b c d 255 (h .counts .moves) (omega arith) (omega arith),
-        put-before effectOf l i a b c d 319 (h .counts .effects) (omega arith),
-        put-before rowOf l i a b c d 1343 (h .counts .program) (omega arith),
-        rows-length effectOf l 319 (h .counts .effects),
+        put-behind formulaOf l i a b c d formulasAt (h .counts .formulas) (omega arith),
+        put-next storedMove l i a b c d movesAt (h .counts .moves) (omega arith) (omega arith),
+        put-before effectOf l i a b c d effectsAt (h .counts .effects) (omega arith),
+        put-before rowOf l i a b c d programAt (h .counts .program) (omega arith),
+        rows-length effectOf l effectsAt (h .counts .effects),
         e,
       )
 
   pub effect-added : h .counts .effects < 1024
-      → jobOf (counted h (h .counts .formulas) (h .counts .moves) (h .counts .effects + 1) (h .counts .program)) (with-row (319 + h .counts .effects))
+      → jobOf (counted h (h .counts .formulas) (h .counts .moves) (h .counts .effects + 1) (h .counts .program)) (with-row (effectsAt + h .counts .effects))
       ≡ addEffect (jobOf h l) (effectOf (a ∷ b ∷ c ∷ d ∷ []))
   effect-added g =
-      let i : ℕ = 319 + h .counts .effects in
+      let i : ℕ = effectsAt + h .counts .effects in
       rw (
-        put-behind formulaOf l i a b c d 0 (h .counts .formulas) (omega arith),
-        put-behind storedMove l i a b c d 255 (h .counts .moves) (omega arith),
-        put-next effectOf l i a b c d 319 (h .counts .effects) (omega arith) (omega arith),
-        put-before rowOf l i a b c d 1343 (h .counts .program) (omega arith),
+        put-behind formulaOf l i a b c d formulasAt (h .counts .formulas) (omega arith),
+        put-behind storedMove l i a b c d movesAt (h .counts .moves) (omega arith),
+        put-next effectOf l i a b c d effectsAt (h .counts .effects) (omega arith) (omega arith),
+        put-before rowOf l i a b c d programAt (h .counts .program) (omega arith),
       )
 
   pub row-added : h .counts .program < 128
-      → jobOf (counted h (h .counts .formulas) (h .counts .moves) (h .counts .effects) (h .counts .program + 1)) (with-row (1343 + h .counts .program))
+      → jobOf (counted h (h .counts .formulas) (h .counts .moves) (h .counts .effects) (h .counts .program + 1)) (with-row (programAt + h .counts .program))
       ≡ addRow (jobOf h l) (rowOf (a ∷ b ∷ c ∷ d ∷ []))
   row-added g =
-      let i : ℕ = 1343 + h .counts .program in
+      let i : ℕ = programAt + h .counts .program in
       rw (
-        put-behind formulaOf l i a b c d 0 (h .counts .formulas) (omega arith),
-        put-behind storedMove l i a b c d 255 (h .counts .moves) (omega arith),
-        put-behind effectOf l i a b c d 319 (h .counts .effects) (omega arith),
-        put-next rowOf l i a b c d 1343 (h .counts .program) (omega arith) (omega arith),
+        put-behind formulaOf l i a b c d formulasAt (h .counts .formulas) (omega arith),
+        put-behind storedMove l i a b c d movesAt (h .counts .moves) (omega arith),
+        put-behind effectOf l i a b c d effectsAt (h .counts .effects) (omega arith),
+        put-next rowOf l i a b c d programAt (h .counts .program) (omega arith) (omega arith),
       )
 
 -- what a state stands for, by its parts
-pub reading-of : {r : State} {t : List ℕ} (next : Line) (rows effects : ℕ) (h : Head) (u : List ℕ) (n : Line) (j : Job)
-    → r ≡ record { next = next; rows = rows; effects = effects; head = h } → t ≡ u → next ≡ n → jobOf h u ≡ j → readingOf r t ≡ on n rows effects j
-reading-of next rows effects h u n j e f g k = rw (e, f, g) (ap (on n rows effects) k)
+pub reading-of : {r : State} {t : List ℕ} (next : Line) (rows effects : ℕ) (h : Head) (u : List ℕ) (n : Line) (g : Head) (j : Job)
+    → r ≡ record { next = next; rows = rows; effects = effects; head = h } → t ≡ u → next ≡ n → h ≡ g → jobOf g u ≡ j → readingOf r t ≡ on n rows effects j
+reading-of next rows effects h u n g j e f d b k = rw (e, f, d, b) (ap (on n rows effects) k)
 
 -- a line taken in, by the sort that came next
 module _ (s : State) (l : List ℕ) (r : Numbers) (k : Line) (e : s .next ≡ k) where

@@ -1,10 +1,9 @@
 -- What the store of a job stands for: a head of numbers, and a table of rows of four numbers each, every sort of row from a place of its own on.
 use Prim.Native.Nat.{ℕ, zero, suc, _+_, _*_}
-use mathlib.Core.Path.{_≡_}
 use mathlib.Core.Bool.{cond}
 use mathlib.Core.List.{List, [], _∷_, _++_}
 use mathlib.Core.Option.{Option, none, some}
-use lib.ListN.{length, getD, take}
+use lib.ListN.{getD, take}
 use Rattle.job.specs.Job.{Job, Move, formulaOf, moveOf, effectOf, rowOf}
 use Rattle.job.specs.Line.{width}
 use Rattle.job.specs.ReadJob.{Reading, on, Outcome, accepted, refused}

@@ -104,6 +104,16 @@ fn with_scalars(head: Head, facts: u16, init: u16, goal: u16) -> Head
     }
 }
 
+fn with_counts(head: Head, c: Counts) -> Head
+    ensures { λ r. ⌜ r ≡ record { counts = c; init = head .init; goal = head .goal } ⌝ }
+{
+    Head {
+        counts: c,
+        init: head.init,
+        goal: head.goal,
+    }
+}
+
 // Each line that is a row adds it to the table, behind the earlier rows of its sort.
 fn add_formula(s: State, row: Numbers, table: &mut [u16]) -> State
     requires { ⌜ Room Line.Formula (s .rows) (s .effects) (s .head .counts) ⌝ }
@@ -115,11 +125,7 @@ fn add_formula(s: State, row: Numbers, table: &mut [u16]) -> State
     let i = c.formulas;
     crate::rows::put_row(table, i, row.a, row.b, row.c, 0);
     c.formulas = i + 1;
-    let h = Head {
-        counts: c,
-        init: head.init,
-        goal: head.goal,
-    };
+    let h = with_counts(head, c);
     let rows = s.rows - 1;
     on(after_formulas(rows), rows, s.effects, h)
 }
@@ -134,11 +140,7 @@ fn add_move(s: State, row: Numbers, table: &mut [u16]) -> State
     let i = c.moves;
     crate::rows::put_row(table, MOVES + i, row.a, row.b, row.c, c.effects);
     c.moves = i + 1;
-    let h = Head {
-        counts: c,
-        init: head.init,
-        goal: head.goal,
-    };
+    let h = with_counts(head, c);
     let rows = s.rows - 1;
     on(after_moves(rows, row.c), rows, row.c, h)
 }
@@ -153,11 +155,7 @@ fn add_effect(s: State, row: Numbers, table: &mut [u16]) -> State
     let i = c.effects;
     crate::rows::put_row(table, EFFECTS + i, row.a, row.b, row.c, 0);
     c.effects = i + 1;
-    let h = Head {
-        counts: c,
-        init: head.init,
-        goal: head.goal,
-    };
+    let h = with_counts(head, c);
     let effects = s.effects - 1;
     on(after_moves(s.rows, effects), s.rows, effects, h)
 }
@@ -172,11 +170,7 @@ fn add_row(s: State, row: Numbers, table: &mut [u16]) -> State
     let i = c.program;
     crate::rows::put_row(table, PROGRAM + i, row.a, row.b, row.c, row.d);
     c.program = i + 1;
-    let h = Head {
-        counts: c,
-        init: head.init,
-        goal: head.goal,
-    };
+    let h = with_counts(head, c);
     let rows = s.rows - 1;
     on(after_rows(rows), rows, s.effects, h)
 }

@@ -13,6 +13,9 @@ pub const EFFECTS: u16 = 319;
 
 pub const PROGRAM: u16 = 1343;
 
+// How many numbers the table has.
+pub const TABLE: usize = 5884;
+
 // Row i of the table, written anew.
 pub fn put_row(table: &mut [u16], i: u16, a: u16, b: u16, c: u16, d: u16)
     requires { ⌜ (i < allRows) × (length (now table) ≡ allRows * 4) ⌝ }

@@ -1,13 +1,13 @@
 -- A line is read as numbers just where it is the text of its key and of these numbers; so it is short.
 -- Assumes nothing.
-use Prim.Native.Nat.{ℕ, zero, suc, _+_, _*_, _/_, _%_, _≤_, _<_}
-use mathlib.Core.Path.{_≡_, refl, sym, _∙_, ap}
+use Prim.Native.Nat.{ℕ, zero, suc, _+_, _*_, _/_, _≤_, _<_}
+use mathlib.Core.Path.{_≡_, refl, _∙_, ap}
 use mathlib.Core.Bool.{Bool, true, false, cond}
 use mathlib.Core.List.{List, [], _∷_, _++_}
-use mathlib.Core.Option.{Option, none, some}
+use mathlib.Core.Option.{some}
 use native.Mathlib.Omega.{arith}
 use native.Mathlib.Decide.{decLt}
-use lib.Dec.{eqb, ltb}
+use lib.Dec.{eqb}
 use lib.ListN.{length, drop, length-append}
 use lib.Seq.{drop-append-add}
 use borrow.Author.Tests.{eqb-true, eq-eqb, lt-ltb, le-ltb}
@@ -69,9 +69,10 @@ short-more : (limit j : ℕ) → Short limit j → Short (10 * limit) (suc j)
 unfolding Short digitsWithin
 short-more limit j f zero n h = omega arith
 short-more limit j f (suc k) n h = elim (decLt n 10) [
-    yes d ↦ rw (lt-ltb n 10 d) (omega arith)
+  | yes d ↦ rw (lt-ltb n 10 d) (omega arith)
   | no d ↦ (let e : 10 ≤ n = omega arith in
-      rw (le-ltb n 10 e) (simp length-append (omega (arith, f k (n / 10) (omega arith))))) ]
+      rw (le-ltb n 10 e) (simp length-append (omega (arith, f k (n / 10) (omega arith)))))
+]
 
 decimal-short : (n : ℕ) → n ≤ 65535 → length (decimal n) ≤ 5
 unfolding Short

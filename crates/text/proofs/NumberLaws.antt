@@ -1,16 +1,16 @@
 -- Laws of a value's numbers as they are read, byte by byte, into a list.
 -- Assumes nothing.
 use Prim.Native.Nat.{ℕ, _+_, _-_, _≤_, _<_}
-use mathlib.Core.Path.{_≡_, refl, sym, _∙_, ap}
-use mathlib.Core.Bool.{Bool, true, false}
+use mathlib.Core.Path.{_≡_, sym, _∙_, ap}
+use mathlib.Core.Bool.{true, false}
 use mathlib.Core.List.{List, [], _∷_, _++_, foldl}
 use native.Mathlib.Omega.{arith}
 use native.Mathlib.Numerals.{add-one}
-use lib.Dec.{eqb, leb}
+use lib.Dec.{leb}
 use lib.ListN.{length, getD, take, drop, set, length-set}
 use lib.Seq.{length-take-le, take-suc-set, take-all}
 use borrow.Author.Tests.{leb-true, lt-ltb, le-ltb, eq-eqb, ne-eqb}
-use Rattle.text.specs.Numbers.{Reading, start, digits, done, broken, isDigit, firstDigit, moreDigits, numberEnd, byteRead, result, numbers}
+use Rattle.text.specs.Numbers.{Reading, start, done, broken, isDigit, firstDigit, moreDigits, numberEnd, byteRead, result, numbers}
 use Rattle.text.specs.Progress.{readingOf, countOf, Goes, Steps}
 use Rattle.text.specs.declared.numbers.Progress.{Progress}
 use Rattle.text.specs.declared.numbers.Progress.the-variants.{Start, Digits, Done, Broken}

@@ -1,11 +1,10 @@
 -- A value is read as numbers just where it is their text.
 -- Assumes nothing.
 use Prim.Native.Nat.{ℕ, zero, suc, _+_, _-_, _*_, _/_, _%_, _≤_, _<_}
-use mathlib.Core.Path.{_≡_, refl, sym, _∙_, ap}
-use mathlib.Core.Bool.{Bool, true, false, cond}
+use mathlib.Core.Path.{_≡_, refl, _∙_, ap}
+use mathlib.Core.Bool.{true}
 use mathlib.Core.List.{List, [], _∷_, _++_, append-assoc, append-nil, foldl, foldl-append}
-use mathlib.Core.Logic.{⊎-elim}
-use mathlib.Core.Option.{Option, none, some}
+use mathlib.Core.Option.{some}
 use native.Mathlib.Omega.{arith}
 use native.Mathlib.Decide.{decLt}
 use lib.Dec.{eqb, ltb, leb}
@@ -22,9 +21,10 @@ unfolding digitsWithin
 fuel zero j n h g = absurd (omega arith)
 fuel (suc k) zero n h g = absurd (omega arith)
 fuel (suc k) (suc j) n h g = elim (decLt n 10) [
-    yes d ↦ rw (lt-ltb n 10 d)
+  | yes d ↦ rw (lt-ltb n 10 d)
   | no d ↦ (let e : 10 ≤ n = omega arith in
-      rw (le-ltb n 10 e) (ap (λ l. l ++ ((48 + n % 10) ∷ [])) (fuel k j (n / 10) (omega arith) (omega arith)))) ]
+      rw (le-ltb n 10 e) (ap (λ l. l ++ ((48 + n % 10) ∷ [])) (fuel k j (n / 10) (omega arith) (omega arith))))
+]
 
 decimal-digit : (n : ℕ) → n < 10 → decimal n ≡ (48 + n) ∷ []
 unfolding digitsWithin
@@ -77,29 +77,29 @@ module _ (want : ℕ) (v : List ℕ) (b : ℕ) where
   spelt-first : (l : List ℕ) → Spelt want (start l) v → Spelt want (firstDigit l b) v+
   spelt-first l s = cond-has (λ q. Spelt want q v+) (isDigit b) (digits l (b - 48)) broken
       (λ e.
-        let w = digit-within b e in
-        let d : 48 + (b - 48) ≡ b = omega (arith, w .0) in
-        (rw (s .0, decimal-digit (b - 48) (omega (arith, w .1)), d), s .1, omega (arith, w .1)))
+      let w = digit-within b e in
+      let d : 48 + (b - 48) ≡ b = omega (arith, w .0) in
+      (rw (s .0, decimal-digit (b - 48) (omega (arith, w .1)), d), s .1, omega (arith, w .1)))
       (λ e. tt)
 
   spelt-more : (l : List ℕ) (n : ℕ) → isDigit b ≡ true → Spelt want (digits l n) v → Spelt want (moreDigits l n b) v+
   spelt-more l n e s = cond-has (λ q. Spelt want q v+) (eqb n 0) broken _ (λ z. tt)
       (λ z. cond-has (λ q. Spelt want q v+) (ltb (n * 10 + (b - 48)) 65536) (digits l (n * 10 + (b - 48))) broken
-        (λ y.
-          let m = ltb-true (n * 10 + (b - 48)) 65536 y in
-          (rw (s .0, decimal-more n b (eqb-false n 0 z) (digit-within b e)) (append-assoc (commas l) (decimal n) (b ∷ [])), s .1, omega (arith, m)))
-        (λ y. tt))
+      (λ y.
+      let m = ltb-true (n * 10 + (b - 48)) 65536 y in
+      (rw (s .0, decimal-more n b (eqb-false n 0 z) (digit-within b e)) (append-assoc (commas l) (decimal n) (b ∷ [])), s .1, omega (arith, m)))
+      (λ y. tt))
 
   spelt-end : (l : List ℕ) (n : ℕ) → Spelt want (digits l n) v → Spelt want (numberEnd want l n b) v+
   spelt-end l n s = cond-has (λ q. Spelt want q v+) (eqb b 44) _ _
       (λ e. cond-has (λ q. Spelt want q v+) (ltb (length l + 1) want) (start (l ++ (n ∷ []))) broken
-        (λ y. (rw (commas-more l n, s .0, eqb-true b 44 e), small-more l n (s .1) (s .2))) (λ y. tt))
+      (λ y. (rw (commas-more l n, s .0, eqb-true b 44 e), small-more l n (s .1) (s .2))) (λ y. tt))
       (λ z. cond-has (λ q. Spelt want q v+) (eqb b 10) _ broken
-        (λ e. cond-has (λ q. Spelt want q v+) (eqb (length l + 1) want) (done (l ++ (n ∷ []))) broken
-          (λ y.
-            (rw (written-last l n, s .0, eqb-true b 10 e), small-more l n (s .1) (s .2), length-append l (n ∷ []) ∙ omega (arith, eqb-true (length l + 1) want y)))
-          (λ y. tt))
-        (λ e. tt))
+      (λ e. cond-has (λ q. Spelt want q v+) (eqb (length l + 1) want) (done (l ++ (n ∷ []))) broken
+      (λ y.
+      (rw (written-last l n, s .0, eqb-true b 10 e), small-more l n (s .1) (s .2), length-append l (n ∷ []) ∙ omega (arith, eqb-true (length l + 1) want y)))
+      (λ y. tt))
+      (λ e. tt))
 
   spelt-byte : (s : Reading) → Spelt want s v → Spelt want (byteRead want s b) v+
   unfolding byteRead
@@ -120,14 +120,22 @@ decimal-read : (want : ℕ) (l : List ℕ) (k n : ℕ) → n < k → n ≤ 65535
 unfolding digitsWithin byteRead
 decimal-read want l zero n h g = absurd (omega arith)
 decimal-read want l (suc k) n h g = elim (decLt n 10) [
-    yes d ↦ (let f : 48 + n - 48 ≡ n = omega arith in
+  | yes d ↦ (let f : 48 + n - 48 ≡ n = omega arith in
       rw (lt-ltb n 10 d, digit-is n d) (ap (digits l) f))
   | no d ↦ (let t : 10 ≤ n = omega arith in
       let e : isDigit (48 + n % 10) ≡ true = digit-is (n % 10) (omega arith) in
       let z : n / 10 ≡ 0 → ⊥ = λ (y : n / 10 ≡ 0). omega arith in
       let f : n / 10 * 10 + (48 + n % 10 - 48) ≡ n = omega arith in
-      rw (le-ltb n 10 t, foldl-append (byteRead want) (start l) (digitsWithin k (n / 10)) ((48 + n % 10) ∷ []), decimal-read want l k (n / 10) (omega arith) (omega arith),
-        e, ne-eqb (n / 10) 0 z, f, lt-ltb n 65536 (omega arith))) ]
+      rw (
+        le-ltb n 10 t,
+        foldl-append (byteRead want) (start l) (digitsWithin k (n / 10)) ((48 + n % 10) ∷ []),
+        decimal-read want l k (n / 10) (omega arith) (omega arith),
+        e,
+        ne-eqb (n / 10) 0 z,
+        f,
+        lt-ltb n 65536 (omega arith),
+      ))
+]
 
 module _ (want : ℕ) where
   comma-read : (l : List ℕ) (n : ℕ) → length l + 1 < want → byteRead want (digits l n) 44 ≡ start (l ++ (n ∷ []))

@@ -5,7 +5,7 @@ use mathlib.Core.Bool.{Bool, true, false}
 use mathlib.Core.List.{List}
 use mathlib.Core.Option.{Option, none, some}
 use lib.ListN.{length, take}
-use Rattle.text.specs.Numbers.{Reading, start, digits, done, broken, byteRead}
+use Rattle.text.specs.Numbers.{Reading, start, digits, done, broken}
 use Rattle.text.specs.declared.numbers.Progress.{Progress}
 use Rattle.text.specs.declared.numbers.Progress.the-variants.{Start, Digits, Done, Broken}
 

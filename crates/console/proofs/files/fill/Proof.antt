@@ -1,6 +1,6 @@
-use Prim.Native.Nat.{ℕ, _+_, _-_, _≤_}
+use Prim.Native.Nat.{_-_, _≤_}
 use mathlib.Core.Path.{_≡_}
-use lib.ListN.{length, length-drop}
+use lib.ListN.{length}
 use Rattle.io.proofs.Counting.{counts, front}
 use borrow.Author.Needs.{needs}
 use Rattle.console.proofs.files.fill.Statement.{statement}

@@ -1,5 +1,4 @@
-use mathlib.Core.Path.{_≡_, sym, _∙_, ap}
-use Rattle.job.specs.ReadJob.{readJob}
+use mathlib.Core.Path.{sym, _∙_, ap}
 use Rattle.job.specs.Store.{outcomeOf, refusalOf}
 use Rattle.job.proofs.StoreLaws.{counts-of}
 use Rattle.jesmovit.specs.JobText.{readAnswer}

@@ -1,4 +1,4 @@
-use borrow.Author.Tests.{lt-ltb, le-ltb, lt-leb, le-leb, eq-eqb, ne-eqb}
+use borrow.Author.Tests.{lt-ltb, le-ltb}
 use Rattle.job.proofs.fault.effect_right.Statement.{statement}
 use Rattle.job.proofs.fault.effect_right.Tie as tie
 

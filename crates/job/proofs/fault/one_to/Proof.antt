@@ -1,4 +1,4 @@
-use borrow.Author.Tests.{lt-ltb, le-ltb, lt-leb, le-leb, eq-eqb, ne-eqb}
+use borrow.Author.Tests.{lt-leb, le-leb}
 use Rattle.job.proofs.fault.one_to.Statement.{statement}
 use Rattle.job.proofs.fault.one_to.Tie as tie
 

@@ -1,6 +1,5 @@
-use mathlib.Core.Path.{_≡_, refl, sym, _∙_, ap}
+use mathlib.Core.Path.{_≡_}
 use native.Mathlib.Omega.{arith}
-use mathlib.Core.Bool.{true, false}
 use Rattle.laws.proofs.Tests.{past}
 use borrow.Author.Needs.{needs}
 use Rattle.job.proofs.fields.formula_fields.Statement.{statement}

@@ -1,4 +1,3 @@
-use mathlib.Core.Path.{_≡_, refl, sym, _∙_, ap}
 use native.Mathlib.Omega.{arith}
 use Rattle.job.proofs.StoreLaws.{reading-of, rows-within, effect-added}
 use borrow.Author.Needs.{needs}
@@ -6,7 +5,10 @@ use Rattle.job.proofs.reading.add_effect.Statement.{statement}
 use Rattle.job.proofs.reading.add_effect.Tie as tie
 
 returns : tie.Need-returns
-returns c = reading-of _ _ _ _ _ _ _ (c .on .ensures) (c .before .before .before .before .before .put-row .ensures) (c .before .after-moves .ensures) (effect-added (c .before .before .before .before .before .before .before .before .before .before .args .s .head) (c .before .before .before .before .before .before .before .before .before .before .args .table .now) _ _ _ _ (c .before .before .before .before .before .before .before .before .before .before .pre .1) (rows-within (c .before .before .before .before .before .before .before .before .before .before .pre .0)) (omega (arith, c .before .before .before .before .before .before .before .before .before .before .pre .0)))
+returns c =
+    let a = c .before .before .before .before .before .before .before .before .before .before .before .args in
+    reading-of _ _ _ _ _ _ _ _ (c .on .ensures) (c .before .before .before .before .before .before .put-row .ensures) (c .before .after-moves .ensures)
+    (c .before .before .before .with-counts .ensures) (effect-added (a .s .head) (a .table .now) _ _ _ _ (c .before .before .before .before .before .before .before .before .before .before .before .pre .1) (rows-within (c .before .before .before .before .before .before .before .before .before .before .before .pre .0)) (omega (arith, c .before .before .before .before .before .before .before .before .before .before .before .pre .0)))
 
 pub add-effect-spec : {M : Type 1} → statement M
 add-effect-spec =
@@ -15,6 +17,7 @@ add-effect-spec =
     (λ c. search needs)
     (λ c κs. search needs)
     (λ c. search needs)
+    (λ c κs. search needs)
     (λ c. search needs)
     (λ c κs. search needs)
     (λ c κs. search needs)

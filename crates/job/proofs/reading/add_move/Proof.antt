@@ -1,4 +1,4 @@
-use mathlib.Core.Path.{_≡_, refl, sym, _∙_, ap}
+use mathlib.Core.Path.{refl}
 use native.Mathlib.Omega.{arith}
 use Rattle.job.proofs.StoreLaws.{reading-of, rows-within, move-added}
 use borrow.Author.Needs.{needs}
@@ -6,7 +6,10 @@ use Rattle.job.proofs.reading.add_move.Statement.{statement}
 use Rattle.job.proofs.reading.add_move.Tie as tie
 
 returns : tie.Need-returns
-returns c = reading-of _ _ _ _ _ _ _ (c .on .ensures) (c .before .before .before .before .before .put-row .ensures) (c .before .after-moves .ensures) (move-added (c .before .before .before .before .before .before .before .before .before .before .args .s .head) (c .before .before .before .before .before .before .before .before .before .before .args .table .now) _ _ _ _ (c .before .before .before .before .before .before .before .before .before .before .pre .1) (rows-within (c .before .before .before .before .before .before .before .before .before .before .pre .0)) (omega (arith, c .before .before .before .before .before .before .before .before .before .before .pre .0)) refl)
+returns c =
+    let a = c .before .before .before .before .before .before .before .before .before .before .before .args in
+    reading-of _ _ _ _ _ _ _ _ (c .on .ensures) (c .before .before .before .before .before .before .put-row .ensures) (c .before .after-moves .ensures)
+    (c .before .before .before .with-counts .ensures) (move-added (a .s .head) (a .table .now) _ _ _ _ (c .before .before .before .before .before .before .before .before .before .before .before .pre .1) (rows-within (c .before .before .before .before .before .before .before .before .before .before .before .pre .0)) (omega (arith, c .before .before .before .before .before .before .before .before .before .before .before .pre .0)) refl)
 
 pub add-move-spec : {M : Type 1} → statement M
 add-move-spec =
@@ -15,6 +18,7 @@ add-move-spec =
     (λ c. search needs)
     (λ c κs. search needs)
     (λ c. search needs)
+    (λ c κs. search needs)
     (λ c. search needs)
     (λ c κs. search needs)
     (λ c κs. search needs)

@@ -1,4 +1,3 @@
-use mathlib.Core.Path.{_≡_, refl, sym, _∙_, ap}
 use native.Mathlib.Omega.{arith}
 use Rattle.job.proofs.StoreLaws.{reading-of, rows-within, row-added}
 use borrow.Author.Needs.{needs}
@@ -6,7 +5,10 @@ use Rattle.job.proofs.reading.add_row.Statement.{statement}
 use Rattle.job.proofs.reading.add_row.Tie as tie
 
 returns : tie.Need-returns
-returns c = reading-of _ _ _ _ _ _ _ (c .on .ensures) (c .before .before .before .before .before .put-row .ensures) (c .before .after-rows .ensures) (row-added (c .before .before .before .before .before .before .before .before .before .before .args .s .head) (c .before .before .before .before .before .before .before .before .before .before .args .table .now) _ _ _ _ (c .before .before .before .before .before .before .before .before .before .before .pre .1) (rows-within (c .before .before .before .before .before .before .before .before .before .before .pre .0)) (omega (arith, c .before .before .before .before .before .before .before .before .before .before .pre .0)))
+returns c =
+    let a = c .before .before .before .before .before .before .before .before .before .before .before .args in
+    reading-of _ _ _ _ _ _ _ _ (c .on .ensures) (c .before .before .before .before .before .before .put-row .ensures) (c .before .after-rows .ensures)
+    (c .before .before .before .with-counts .ensures) (row-added (a .s .head) (a .table .now) _ _ _ _ (c .before .before .before .before .before .before .before .before .before .before .before .pre .1) (rows-within (c .before .before .before .before .before .before .before .before .before .before .before .pre .0)) (omega (arith, c .before .before .before .before .before .before .before .before .before .before .before .pre .0)))
 
 pub add-row-spec : {M : Type 1} → statement M
 add-row-spec =
@@ -15,6 +17,7 @@ add-row-spec =
     (λ c. search needs)
     (λ c κs. search needs)
     (λ c. search needs)
+    (λ c κs. search needs)
     (λ c. search needs)
     (λ c κs. search needs)
     (λ c κs. search needs)

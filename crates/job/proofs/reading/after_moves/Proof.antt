@@ -1,4 +1,4 @@
-use borrow.Author.Tests.{lt-ltb, le-ltb, lt-leb, le-leb, eq-eqb, ne-eqb}
+use borrow.Author.Tests.{eq-eqb, ne-eqb}
 use Rattle.job.proofs.reading.after_moves.Statement.{statement}
 use Rattle.job.proofs.reading.after_moves.Tie as tie
 

@@ -1,4 +1,4 @@
-use mathlib.Core.Path.{_≡_, refl, sym, _∙_, ap}
+use mathlib.Core.Path.{_≡_, sym, _∙_, ap}
 use mathlib.Core.Bool.{true, false}
 use Rattle.job.specs.ReadJob.{isEnd, ended}
 use Rattle.job.specs.Store.{outcomeOf}

@@ -1,11 +1,11 @@
-use Prim.Native.Nat.{ℕ, _+_, _-_, _≤_}
-use mathlib.Core.Path.{_≡_, refl, sym, _∙_, ap, subst}
+use Prim.Native.Nat.{_+_, _-_, _*_, _≤_}
+use mathlib.Core.Path.{_≡_, sym, _∙_, ap, subst}
 use native.Mathlib.Omega.{arith}
 use lib.ListN.{length, drop}
 use Rattle.text.specs.Lines.{lines}
 use Rattle.text.proofs.LineLaws.{line-within}
-use Rattle.job.specs.ReadJob.{Reading, refused, readFrom, readJob, begun}
-use Rattle.job.specs.Store.{readingOf, listOf, outcomeOf}
+use Rattle.job.specs.ReadJob.{refused, readFrom, readJob}
+use Rattle.job.specs.Store.{allRows, readingOf, outcomeOf}
 use Rattle.job.proofs.RowLaws.{Kept, taken-kept, begun-kept}
 use Rattle.job.proofs.ReadLaws.{read-on, read-refused, read-ended, reason-of, row-of, right-of, room-of}
 use borrow.Author.Needs.{needs}
@@ -13,7 +13,7 @@ use Rattle.job.proofs.reading.read_job.Statement.{statement}
 use Rattle.job.proofs.reading.read_job.Tie as tie
 
 abbrev Inv-loop : tie.InvT-loop
-Inv-loop text table₀ s₀ at₀ n₀ table s at n = (at ≤ length text) × (n ≤ at) × (length table ≡ 5884) × Kept (readingOf s table) × (readJob text ≡ readFrom n (readingOf s table) (lines (drop at text)))
+Inv-loop text table₀ s₀ at₀ n₀ table s at n = (at ≤ length text) × (n ≤ at) × (length table ≡ allRows * 4) × Kept (readingOf s table) × (readJob text ≡ readFrom n (readingOf s table) (lines (drop at text)))
 
 abbrev μ-loop : tie.MeasureT-loop
 μ-loop text table₀ s₀ at₀ n₀ table s at n = length text - at

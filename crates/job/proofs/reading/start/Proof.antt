@@ -1,5 +1,4 @@
-use mathlib.Core.Path.{_≡_, refl, sym, _∙_, ap}
-use mathlib.Core.Bool.{true, false}
+use mathlib.Core.Path.{ap}
 use Rattle.job.specs.Store.{readingOf, rowsFrom}
 use borrow.Author.Needs.{needs}
 use Rattle.job.proofs.reading.start.Statement.{statement}

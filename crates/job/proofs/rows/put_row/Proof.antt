@@ -1,6 +1,4 @@
-use mathlib.Core.Path.{_≡_, refl, sym, _∙_, ap}
 use native.Mathlib.Omega.{arith}
-use mathlib.Core.Bool.{true, false}
 use native.Mathlib.Numerals.{unary-clauses}
 use lib.ListN.{length-set}
 use borrow.Author.Needs.{needs}

@@ -1,8 +1,7 @@
-use Prim.Native.Nat.{ℕ, _+_, _-_, _≤_}
-use mathlib.Core.Path.{_≡_, refl, sym, _∙_, ap}
+use Prim.Native.Nat.{_-_, _≤_}
+use mathlib.Core.Path.{_≡_, sym, _∙_}
 use native.Mathlib.Omega.{arith}
 use lib.ListN.{length, drop}
-use mathlib.Core.Bool.{true, false}
 use Rattle.text.specs.Lines.{hasKey}
 use Rattle.text.proofs.LineLaws.{key-at-same, key-at-other, key-past-line, key-past-both, key-at-equals}
 use borrow.Author.Needs.{needs}

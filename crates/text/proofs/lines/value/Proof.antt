@@ -1,8 +1,8 @@
-use mathlib.Core.Path.{_≡_, refl, sym, _∙_, ap}
+use mathlib.Core.Path.{_≡_, sym, _∙_}
 use native.Mathlib.Omega.{arith}
 use mathlib.Core.Bool.{true, false}
-use Prim.Native.Nat.{_≤_, _-_, _+_}
-use lib.ListN.{length, take, drop}
+use Prim.Native.Nat.{_-_, _+_}
+use lib.ListN.{length, drop}
 use lib.Seq.{take-all, take-nil, drop-length}
 use lib.ListN.{length-drop}
 use native.Mathlib.Nat.{le-refl}

@@ -1,8 +1,5 @@
-use mathlib.Core.Path.{_≡_, refl, sym, _∙_, ap}
 use native.Mathlib.Omega.{arith}
-use mathlib.Core.Bool.{true, false}
 use Rattle.text.proofs.NumberLaws.{digit-within}
-use Rattle.text.specs.Numbers.{isDigit}
 use borrow.Author.Tests.{eq-eqb, ne-eqb, lt-ltb, le-ltb}
 use borrow.Author.Needs.{needs}
 use Rattle.text.proofs.numbers.more_digits.Statement.{statement}

@@ -1,6 +1,4 @@
-use mathlib.Core.Path.{_≡_, refl, sym, _∙_, ap}
 use native.Mathlib.Omega.{arith}
-use mathlib.Core.Bool.{true, false}
 use lib.ListN.{length-set}
 use Rattle.text.proofs.NumberLaws.{comma-next, comma-last, feed-last, feed-early, other-end}
 use borrow.Author.Needs.{needs}

@@ -1,9 +1,5 @@
-use mathlib.Core.Path.{_≡_, refl, sym, _∙_, ap}
+use mathlib.Core.Path.{sym, _∙_, ap}
 use native.Mathlib.Omega.{arith}
-use mathlib.Core.Bool.{true, false}
-use Prim.Native.Nat.{_≤_, _-_, _+_}
-use lib.ListN.{length, take, drop}
-use Rattle.text.specs.Numbers.{isDigit}
 use Rattle.text.specs.Progress.{countOf}
 use Rattle.text.proofs.NumberLaws.{step-start, step-digit, step-end, step-done, step-broken}
 use borrow.Author.Needs.{needs}

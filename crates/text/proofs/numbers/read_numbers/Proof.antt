@@ -1,11 +1,10 @@
 use Rattle.text.proofs.NumberLaws.{read-again, read-all}
-use mathlib.Core.Path.{_≡_, refl, sym, _∙_, ap}
+use mathlib.Core.Path.{_≡_, sym, _∙_}
 use native.Mathlib.Omega.{arith}
-use mathlib.Core.Bool.{true, false}
-use Prim.Native.Nat.{_≤_, _-_, _+_}
-use lib.ListN.{length, take, drop}
-use mathlib.Core.List.{List, [], foldl}
-use Rattle.text.specs.Numbers.{Reading, start, byteRead, result, numbers}
+use Prim.Native.Nat.{_≤_, _-_}
+use lib.ListN.{length, drop}
+use mathlib.Core.List.{[], foldl}
+use Rattle.text.specs.Numbers.{start, byteRead}
 use Rattle.text.specs.Progress.{readingOf, countOf}
 use borrow.Author.Needs.{needs}
 use Rattle.text.proofs.numbers.read_numbers.Statement.{statement}
