@@ -9,7 +9,7 @@ use native.Mathlib.Omega.{arith}
 use lib.ListN.{length, getD, take}
 use Rattle.text.specs.Lines.{valueOf}
 use Rattle.text.specs.Progress.{answered}
-use Rattle.job.specs.Line.{key, width}
+use Rattle.job.specs.Line.{formOf}
 use Rattle.job.specs.Fault.{fault}
 use Rattle.job.specs.Store.{listOf, numbersOf}
 use Rattle.job.specs.declared.head.Counts.{Counts}
@@ -18,7 +18,7 @@ use Rattle.job.specs.declared.line.Line.the-variants.{Job, Facts, Init, 
 use Rattle.job.specs.declared.line.Numbers.{Numbers}
 
 -- at most four numbers
-pub width-within : (next : Line) → width next ≤ 4
+pub width-within : (next : Line) → formOf next .width ≤ 4
 width-within Job = omega arith
 width-within Facts = omega arith
 width-within Init = omega arith
@@ -33,7 +33,7 @@ width-within Row = omega arith
 width-within End = omega arith
 
 -- the value after the key of the sort that comes next
-pub value-of : {next : Line} (k : Line) {v : List ℕ} (line : List ℕ) → next ≡ k → v ≡ valueOf (key k) line → v ≡ valueOf (key next) line
+pub value-of : {next : Line} (k : Line) {v : List ℕ} (line : List ℕ) → next ≡ k → v ≡ valueOf (formOf k .key) line → v ≡ valueOf (formOf next .key) line
 value-of k line e h = rw e h
 
 -- four numbers, of which the first were filled

@@ -17,10 +17,10 @@ use Rattle.text.specs.Lines.{lines, lineLength}
 use Rattle.text.proofs.LineLaws.{lines-first, length-le, front-length}
 use Rattle.text.proofs.LineText.{line-short}
 use Rattle.job.specs.Job.{countsOf}
-use Rattle.job.specs.Line.{key, width, rowNumbers}
+use Rattle.job.specs.Line.{formOf, rowNumbers}
 use Rattle.job.specs.Fault.{fault}
 use Rattle.job.specs.ReadJob.{Reading, refused, begun, taken, takenAt, readFrom, readJob}
-use Rattle.job.specs.Room.{Room, formulasAhead, movesAhead, effectsAhead, programAhead}
+use Rattle.job.specs.Room.{Room, ahead}
 use Rattle.job.specs.declared.head.Counts.{Counts}
 use Rattle.job.specs.declared.line.Line.{Line}
 use Rattle.job.specs.declared.line.Line.the-variants.{Job, Facts, Init, Formulas, Formula, Moves, Move, Effect, Goal, Program, Row, End}
@@ -44,38 +44,39 @@ singlesAhead Row = 0
 singlesAhead End = 0
 
 -- how many lines may still come
-abbrev ahead : Line → ℕ → ℕ → ℕ
-ahead k rows effects = singlesAhead k + (formulasAhead k rows + (movesAhead k rows + (effectsAhead k rows effects + programAhead k rows)))
+abbrev linesAhead : Line → ℕ → ℕ → ℕ
+linesAhead k rows effects =
+    let a = ahead k rows effects in singlesAhead k + (a .formulas + (a .moves + (a .effects + a .program)))
 
 abbrev aheadOf : Reading → ℕ
-aheadOf s = ahead (s .next) (s .rows) (s .effects)
+aheadOf s = linesAhead (s .next) (s .rows) (s .effects)
 
 module _ (s : Reading) (r : List ℕ) where
   abbrev c : Counts
   c = countsOf (s .job)
 
-  falls-at : (k : Line) → Right k c r → Room k (s .rows) (s .effects) c → aheadOf (takenAt k s r) < ahead k (s .rows) (s .effects)
+  falls-at : (k : Line) → Right k c r → Room k (s .rows) (s .effects) c → aheadOf (takenAt k s r) < linesAhead k (s .rows) (s .effects)
   falls-at Job x h = omega arith
   falls-at Facts x h = omega arith
   falls-at Init x h = omega arith
   falls-at Formulas x h = omega (arith, leb-true (getD r 0 0) 255 (and-right (leb 1 (getD r 0 0)) (leb (getD r 0 0) 255) (x .range)))
   falls-at Formula x h =
-      cond-has (λ k. ahead k (s .rows - 1) (s .effects) < ahead Formula (s .rows) (s .effects)) (eqb (s .rows - 1) 0) Moves Formula
+      cond-has (λ k. linesAhead k (s .rows - 1) (s .effects) < linesAhead Formula (s .rows) (s .effects)) (eqb (s .rows - 1) 0) Moves Formula
       (λ z. omega (arith, h .due)) (λ z. omega (arith, h .due))
   falls-at Moves x h =
       let n = leb-true (getD r 0 0) 64 (x .range) in
-      moves-has (λ k. ahead k (getD r 0 0) 0 < ahead Moves (s .rows) (s .effects)) (getD r 0 0) 0 (λ y z. omega arith) (λ y z. omega arith) (λ z. omega arith)
+      moves-has (λ k. linesAhead k (getD r 0 0) 0 < linesAhead Moves (s .rows) (s .effects)) (getD r 0 0) 0 (λ y z. omega arith) (λ y z. omega arith) (λ z. omega arith)
   falls-at Move x h =
       let n = leb-true (getD r 2 0) 16 (x .range) in
-      moves-has (λ k. ahead k (s .rows - 1) (getD r 2 0) < ahead Move (s .rows) (s .effects)) (s .rows - 1) (getD r 2 0)
+      moves-has (λ k. linesAhead k (s .rows - 1) (getD r 2 0) < linesAhead Move (s .rows) (s .effects)) (s .rows - 1) (getD r 2 0)
       (λ y z. omega (arith, h .due .0)) (λ y z. omega (arith, h .due .0)) (λ z. omega (arith, h .due .0))
   falls-at Effect x h =
-      moves-has (λ k. ahead k (s .rows) (s .effects - 1) < ahead Effect (s .rows) (s .effects)) (s .rows) (s .effects - 1)
+      moves-has (λ k. linesAhead k (s .rows) (s .effects - 1) < linesAhead Effect (s .rows) (s .effects)) (s .rows) (s .effects - 1)
       (λ y z. omega (arith, h .due)) (λ y z. omega (arith, h .due)) (λ z. omega (arith, h .due))
   falls-at Goal x h = omega arith
   falls-at Program x h = omega (arith, leb-true (getD r 0 0) 128 (and-right (leb 1 (getD r 0 0)) (leb (getD r 0 0) 128) (x .range)))
   falls-at Row x h =
-      cond-has (λ k. ahead k (s .rows - 1) (s .effects) < ahead Row (s .rows) (s .effects)) (eqb (s .rows - 1) 0) End Row
+      cond-has (λ k. linesAhead k (s .rows - 1) (s .effects) < linesAhead Row (s .rows) (s .effects)) (eqb (s .rows - 1) 0) End Row
       (λ z. omega (arith, h .due .0)) (λ z. omega (arith, h .due .0))
   falls-at End x h = never (x .form)
 
@@ -84,8 +85,8 @@ module _ (s : Reading) (r : List ℕ) where
   ahead-falls x k = falls-at (s .next) x (k .room)
 
 -- a right line has 27 bytes at the most
-width-short : (k : Line) → length (key k) + 2 + 6 * width k ≤ 27
-unfolding key bytes
+width-short : (k : Line) → length (formOf k .key) + 2 + 6 * formOf k .width ≤ 27
+unfolding bytes
 width-short Job = omega arith
 width-short Facts = omega arith
 width-short Init = omega arith
@@ -101,7 +102,7 @@ width-short End = omega arith
 
 row-short : (k : Line) (line r : List ℕ) → rowNumbers k line ≡ some r → length line ≤ 27
 unfolding rowNumbers
-row-short k line r e = omega (arith, line-short (key k) (width k) r line e, width-short k)
+row-short k line r e = omega (arith, line-short (formOf k .key) (formOf k .width) r line e, width-short k)
 
 module _ (n : ℕ) (s : Reading) where
   abbrev reason : List ℕ → ℕ

@@ -12,7 +12,7 @@ use borrow.Author.Tests.{eqb-true, eqb-false, leb-true}
 use Rattle.laws.proofs.Tests.{never, and-left, and-right, cond-has}
 use Rattle.job.specs.Job as J
 use Rattle.job.specs.Job.{countsOf, formulaOf, moveOf, effectOf, rowOf}
-use Rattle.job.specs.Fault.{formed, inRange, right, fault}
+use Rattle.job.specs.Fault.{checks, fault}
 use Rattle.job.specs.ReadJob.{Reading, afterMoves, takenAt, taken}
 use Rattle.job.specs.Room.{Room}
 use Rattle.job.specs.declared.head.Counts.{Counts}
@@ -21,11 +21,11 @@ use Rattle.job.specs.declared.line.Line.the-variants.{Job, Facts, Init, 
 
 -- a line that no reason refuses
 pub record Right (k : Line) (c : Counts) (r : List ℕ) : Type 0 where
-  pub form : formed k r ≡ true
-  pub range : inRange k c r ≡ true
-  pub fields : right k c r ≡ true
+  pub form : checks k c r .form ≡ true
+  pub range : checks k c r .range ≡ true
+  pub fields : checks k c r .fields ≡ true
 
-right-by : (k : Line) (c : Counts) (r : List ℕ) (x y z : Bool) → formed k r ≡ x → inRange k c r ≡ y → right k c r ≡ z
+right-by : (k : Line) (c : Counts) (r : List ℕ) (x y z : Bool) → checks k c r .form ≡ x → checks k c r .range ≡ y → checks k c r .fields ≡ z
     → _≡_ {A = ℕ} (cond x (cond y (cond z 0 3) 2) 1) 0 → Right k c r
 right-by k c r true true true e f g h = record { form = e; range = f; fields = g }
 right-by k c r true true false e f g h = absurd (omega arith)
@@ -34,7 +34,7 @@ right-by k c r false y z e f g h = absurd (omega arith)
 
 pub fault-right : (k : Line) (c : Counts) (r : List ℕ) → fault k c (some r) ≡ 0 → Right k c r
 unfolding fault
-fault-right k c r e = right-by k c r (formed k r) (inRange k c r) (right k c r) refl refl refl e
+fault-right k c r e = right-by k c r (checks k c r .form) (checks k c r .range) (checks k c r .fields) refl refl refl e
 
 abbrev pub RoomOf : Reading → Type 0
 RoomOf s = Room (s .next) (s .rows) (s .effects) (countsOf (s .job))

@@ -5,62 +5,30 @@ use Rattle.job.specs.declared.head.Counts.{Counts}
 use Rattle.job.specs.declared.line.Line.{Line}
 use Rattle.job.specs.declared.line.Line.the-variants.{Job, Facts, Init, Formulas, Formula, Moves, Move, Effect, Goal, Program, Row, End}
 
--- how many rows of each sort may still come, with so many rows of the present sort due and so many effects of the last move
-abbrev pub formulasAhead : Line → ℕ → ℕ
-formulasAhead Job rows = 255
-formulasAhead Facts rows = 255
-formulasAhead Init rows = 255
-formulasAhead Formulas rows = 255
-formulasAhead Formula rows = rows
-formulasAhead Moves rows = 0
-formulasAhead Move rows = 0
-formulasAhead Effect rows = 0
-formulasAhead Goal rows = 0
-formulasAhead Program rows = 0
-formulasAhead Row rows = 0
-formulasAhead End rows = 0
+-- how many rows of each sort may still come
+pub record Ahead : Type 0 where
+  pub formulas : ℕ
+  pub moves : ℕ
+  pub effects : ℕ
+  pub program : ℕ
 
-abbrev pub movesAhead : Line → ℕ → ℕ
-movesAhead Job rows = 64
-movesAhead Facts rows = 64
-movesAhead Init rows = 64
-movesAhead Formulas rows = 64
-movesAhead Formula rows = 64
-movesAhead Moves rows = 64
-movesAhead Move rows = rows
-movesAhead Effect rows = rows
-movesAhead Goal rows = 0
-movesAhead Program rows = 0
-movesAhead Row rows = 0
-movesAhead End rows = 0
+abbrev may : ℕ → ℕ → ℕ → ℕ → Ahead
+may formulas moves effects program = record { formulas = formulas; moves = moves; effects = effects; program = program }
 
-abbrev pub effectsAhead : Line → ℕ → ℕ → ℕ
-effectsAhead Job rows effects = 1024
-effectsAhead Facts rows effects = 1024
-effectsAhead Init rows effects = 1024
-effectsAhead Formulas rows effects = 1024
-effectsAhead Formula rows effects = 1024
-effectsAhead Moves rows effects = 1024
-effectsAhead Move rows effects = 16 * rows
-effectsAhead Effect rows effects = effects + 16 * rows
-effectsAhead Goal rows effects = 0
-effectsAhead Program rows effects = 0
-effectsAhead Row rows effects = 0
-effectsAhead End rows effects = 0
-
-abbrev pub programAhead : Line → ℕ → ℕ
-programAhead Job rows = 128
-programAhead Facts rows = 128
-programAhead Init rows = 128
-programAhead Formulas rows = 128
-programAhead Formula rows = 128
-programAhead Moves rows = 128
-programAhead Move rows = 128
-programAhead Effect rows = 128
-programAhead Goal rows = 128
-programAhead Program rows = 128
-programAhead Row rows = rows
-programAhead End rows = 0
+-- by the line that comes next, with so many rows of its sort due and so many effects of the last move
+abbrev pub ahead : Line → ℕ → ℕ → Ahead
+ahead Job rows effects = may 255 64 1024 128
+ahead Facts rows effects = may 255 64 1024 128
+ahead Init rows effects = may 255 64 1024 128
+ahead Formulas rows effects = may 255 64 1024 128
+ahead Formula rows effects = may rows 64 1024 128
+ahead Moves rows effects = may 0 64 1024 128
+ahead Move rows effects = may 0 rows (16 * rows) 128
+ahead Effect rows effects = may 0 rows (effects + 16 * rows) 128
+ahead Goal rows effects = may 0 0 0 128
+ahead Program rows effects = may 0 0 0 128
+ahead Row rows effects = may 0 0 0 rows
+ahead End rows effects = may 0 0 0 0
 
 -- a row is due where a row's line comes next, and no effect once the next move or the goal does
 abbrev pub Due : Line → ℕ → ℕ → Type 0
@@ -79,8 +47,8 @@ Due End rows effects = effects ≡ 0
 
 pub record Room (next : Line) (rows effects : ℕ) (c : Counts) : Type 0 where
   pub facts : c .facts ≤ 12
-  pub formulas : c .formulas + formulasAhead next rows ≤ 255
-  pub moves : c .moves + movesAhead next rows ≤ 64
-  pub effects-room : c .effects + effectsAhead next rows effects ≤ 1024
-  pub program : c .program + programAhead next rows ≤ 128
+  pub formulas : c .formulas + ahead next rows effects .formulas ≤ 255
+  pub moves : c .moves + ahead next rows effects .moves ≤ 64
+  pub effects-room : c .effects + ahead next rows effects .effects ≤ 1024
+  pub program : c .program + ahead next rows effects .program ≤ 128
   pub due : Due next rows effects

@@ -5,7 +5,7 @@ use mathlib.Core.List.{List, [], _∷_, _++_}
 use mathlib.Core.Option.{Option, none, some}
 use lib.ListN.{getD, take}
 use Rattle.job.specs.Job.{Job, Move, formulaOf, moveOf, effectOf, rowOf}
-use Rattle.job.specs.Line.{width}
+use Rattle.job.specs.Line.{formOf}
 use Rattle.job.specs.ReadJob.{Reading, on, Outcome, accepted, refused}
 use Rattle.job.specs.declared.head.Head.{Head}
 use Rattle.job.specs.declared.head.Refusal.{Refusal}
@@ -72,7 +72,7 @@ readingOf s l = on (s .next) (s .rows) (s .effects) (jobOf (s .head) l)
 
 -- a line's numbers, as many as its sort has
 abbrev pub listOf : Line → Numbers → List ℕ
-listOf next r = take (width next) (r .a ∷ r .b ∷ r .c ∷ r .d ∷ [])
+listOf next r = take (formOf next .width) (r .a ∷ r .b ∷ r .c ∷ r .d ∷ [])
 
 abbrev pub numbersOf : Line → Numbers → Option (List ℕ)
 numbersOf next r = cond (r .formed) (some (listOf next r)) none

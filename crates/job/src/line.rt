@@ -1,8 +1,7 @@
 // The sorts of lines, and the numbers of a line.
 ghost use mathlib.Core.Path.{_≡_};
 ghost use Rattle.text.specs.Lines.{valueOf};
-ghost use Rattle.job.specs.Line.{key, rowNumbers};
-ghost use Rattle.job.specs.Line.{width as lineWidth};
+ghost use Rattle.job.specs.Line.{formOf, rowNumbers};
 ghost use Rattle.job.specs.Store.{numbersOf};
 
 // The sorts of lines in the order in which they first come; the end is where no line may come.
@@ -32,7 +31,7 @@ pub struct Numbers {
 
 // How many numbers a line has.
 fn width(next: Line) -> usize
-    ensures { λ r. ⌜ r ≡ lineWidth next ⌝ }
+    ensures { λ r. ⌜ r ≡ formOf next .width ⌝ }
 {
     match next {
         Line::Job => 1,
@@ -52,7 +51,7 @@ fn width(next: Line) -> usize
 
 // The value after a line's key, as a part of the line.
 fn value(next: Line, line: &[u8]) -> &[u8]
-    ensures { λ r. ⌜ now r ≡ valueOf (key next) (now (line .entry)) ⌝ }
+    ensures { λ r. ⌜ now r ≡ valueOf (formOf next .key) (now (line .entry)) ⌝ }
 {
     match next {
         Line::Job => text::lines::value(line, b"job"),

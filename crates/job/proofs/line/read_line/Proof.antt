@@ -5,7 +5,7 @@ use mathlib.Core.List.{[], _∷_}
 use lib.ListN.{length}
 use borrow.Rule.Slice.PartMut.{mid-len}
 use Rattle.text.specs.Numbers.{numbers}
-use Rattle.job.specs.Line.{width, rowNumbers}
+use Rattle.job.specs.Line.{formOf, rowNumbers}
 use Rattle.job.proofs.LineLaws.{width-within, filled-front, numbers-answered}
 use borrow.Author.Needs.{needs}
 use Rattle.job.proofs.line.read_line.Statement.{statement}
@@ -20,9 +20,9 @@ returns c =
     let next = c .before .before .before .before .before .before .args .next in
     let w = c .before .before .before .before .width .result in
     let h : w ≤ 4 = omega (arith, c .before .before .before .before .width .ensures, width-within next) in
-    let k : length (c .before .read-numbers .last .1 .0) ≡ width next = c .before .read-numbers .kept .1 .0 ∙ mid-len 0 w (0 ∷ 0 ∷ 0 ∷ 0 ∷ []) h ∙ omega (arith, c .before .before .before .before .width .ensures) in
-    numbers-answered next _ (c .before .read-numbers .last .1 .0) (c .before .read-numbers .result) refl (filled-front _ _ (width next) k (width-within next))
-    ∙ c .before .read-numbers .ensures ∙ ap (λ n. numbers n (c .before .before .before .value .result .now)) (sym (c .before .read-numbers .kept .1 .0) ∙ k) ∙ ap (numbers (width next)) (c .before .before .before .value .ensures)
+    let k : length (c .before .read-numbers .last .1 .0) ≡ formOf next .width = c .before .read-numbers .kept .1 .0 ∙ mid-len 0 w (0 ∷ 0 ∷ 0 ∷ 0 ∷ []) h ∙ omega (arith, c .before .before .before .before .width .ensures) in
+    numbers-answered next _ (c .before .read-numbers .last .1 .0) (c .before .read-numbers .result) refl (filled-front _ _ (formOf next .width) k (width-within next))
+    ∙ c .before .read-numbers .ensures ∙ ap (λ n. numbers n (c .before .before .before .value .result .now)) (sym (c .before .read-numbers .kept .1 .0) ∙ k) ∙ ap (numbers (formOf next .width)) (c .before .before .before .value .ensures)
 
 pub read-line-spec : {M : Type 1} → statement M
 read-line-spec =
