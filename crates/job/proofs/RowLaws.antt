@@ -1,9 +1,9 @@
 -- Every row of a job that is read keeps its ranges and references.
 -- Assumes nothing.
-use Prim.Native.Nat.{ℕ, _+_, _-_, _<_}
-use mathlib.Core.Path.{_≡_, sym}
+use Prim.Native.Nat.{ℕ, zero, suc, _+_, _-_, _≤_, _<_}
+use mathlib.Core.Path.{_≡_, refl, sym, _∙_, subst}
 use mathlib.Core.Bool.{true, cond, _&&_}
-use mathlib.Core.List.{List, [], _∷_}
+use mathlib.Core.List.{List, [], _∷_, _++_}
 use native.Mathlib.Omega.{arith}
 use lib.Dec.{eqb, ltb, leb}
 use lib.ListN.{length, getD, length-append}
@@ -15,7 +15,7 @@ use Rattle.job.specs.Job as J
 use Rattle.job.specs.Job.{countsOf, formulaOf, moveOf, effectOf, rowOf}
 use Rattle.job.specs.Fields.{bound, within, Within, formulaFields, rowFields}
 use Rattle.job.specs.ReadJob.{Reading, begun, takenAt, taken}
-use Rattle.job.specs.WellFormed.{FormulaRows, MoveRows, MoveFits, EffectRows, EffectFits, ProgramRows, WellFormed, beforeFormula, beforeRow}
+use Rattle.job.specs.WellFormed.{FormulaRows, MoveRows, MoveFits, Tiled, EffectRows, EffectFits, ProgramRows, WellFormed, beforeFormula, beforeRow}
 use Rattle.job.specs.Room.{Room}
 use Rattle.job.specs.declared.head.Counts.{Counts}
 use Rattle.job.specs.declared.fields.Field.{Field}
@@ -49,14 +49,15 @@ Settled End j = (j .scalars .init < stateCount (j .scalars .facts)) × (j .scala
 -- the rows so far are right, with so many effects of the last move still due
 pub record Fits (effects : ℕ) (j : J.Job) : Type 0 where
   pub formula : FormulaRows (j .scalars .facts) (j .formulas)
-  pub move : MoveRows (length (j .formulas)) (length (j .effects) + effects) (j .moves)
+  pub move : MoveRows (length (j .formulas)) (j .moves)
+  pub tiled : Tiled 0 (j .moves) (length (j .effects) + effects)
   pub effect : EffectRows (j .scalars .facts) (length (j .formulas)) (j .effects)
   pub row : ProgramRows j (j .program)
 
 -- no row is wrong where there is none
 module _ (j : J.Job) where
-  no-move : (effects : ℕ) → length (j .moves) ≡ 0 → MoveRows (length (j .formulas)) effects (j .moves)
-  no-move effects e i h = absurd (omega arith)
+  no-move : length (j .moves) ≡ 0 → MoveRows (length (j .formulas)) (j .moves)
+  no-move e i h = absurd (omega arith)
 
   no-effect : length (j .effects) ≡ 0 → EffectRows (j .scalars .facts) (length (j .formulas)) (j .effects)
   no-effect e i h = absurd (omega arith)
@@ -64,9 +65,24 @@ module _ (j : J.Job) where
   no-row : length (j .program) ≡ 0 → ProgramRows j (j .program)
   no-row e i h = absurd (omega arith)
 
-  no-rows : (effects : ℕ) → length (j .formulas) ≡ 0 → length (j .moves) ≡ 0 → length (j .effects) ≡ 0 → length (j .program) ≡ 0 → Fits effects j
-  no-rows effects a b d e =
-      record { formula = λ i h. absurd (omega arith); move = no-move (length (j .effects) + effects) b; effect = no-effect d; row = no-row e }
+-- one move more behind, with its effects to come
+tiled-more : (first last : ℕ) (ms : List J.Move) (m : J.Move) → Tiled first ms last → m .first ≡ last → Tiled first (ms ++ (m ∷ [])) (last + m .count)
+tiled-more first last [] m t e = (e ∙ sym t, omega (arith, t))
+tiled-more first last (k ∷ ms) m t e = (t .0, tiled-more (first + k .count) last ms m (t .1) e)
+
+tiled-none : (ms : List J.Move) (last : ℕ) → length ms ≡ 0 → last ≡ 0 → Tiled 0 ms last
+tiled-none [] last e h = sym h
+tiled-none (m ∷ ms) last e h = absurd (omega arith)
+
+-- a move's effects are among all of them
+pub tiled-own : (d : J.Move) (first last : ℕ) (ms : List J.Move) → Tiled first ms last → (i : ℕ) → i < length ms → getD ms i d .first + getD ms i d .count ≤ last
+tiled-own d first last [] t i h = absurd (omega arith)
+tiled-own d first last (m ∷ ms) t zero h = omega (arith, t .0, tiled-le (first + m .count) last ms (t .1))
+  where
+    tiled-le : (first last : ℕ) (ms : List J.Move) → Tiled first ms last → first ≤ last
+    tiled-le first last [] t = omega arith
+    tiled-le first last (m ∷ ms) t = omega (arith, tiled-le (first + m .count) last ms (t .1))
+tiled-own d first last (m ∷ ms) t (suc i) h = tiled-own d (first + m .count) last ms (t .1) i (omega arith)
 
 module _ (s : Reading) (r : List ℕ) where
   abbrev j : J.Job
@@ -78,8 +94,12 @@ module _ (s : Reading) (r : List ℕ) where
   fits-at : (k : Line) → Right k c r → Room k (s .rows) (s .effects) c → Fits (s .effects) j → Fits (takenAt k s r .effects) (takenAt k s r .job)
   fits-at Job x h f = f
   fits-at Facts x h f =
-      no-rows (takenAt Facts s r .job) (s .effects) (omega (arith, h .formulas)) (omega (arith, h .moves)) (omega (arith, h .effects-room)) (omega (arith, h .program))
-  fits-at Init x h f = record { formula = f .formula; move = f .move; effect = f .effect; row = f .row }
+      let j′ : J.Job = takenAt Facts s r .job in
+      let a : length (j .formulas) ≡ 0 = omega (arith, h .formulas) in
+      let b : length (j .effects) ≡ 0 = omega (arith, h .effects-room) in
+      let d : length (j .program) ≡ 0 = omega (arith, h .program) in
+      record { formula = λ i h. absurd (omega arith); move = f .move; tiled = f .tiled; effect = no-effect j′ b; row = no-row j′ d }
+  fits-at Init x h f = record { formula = f .formula; move = f .move; tiled = f .tiled; effect = f .effect; row = f .row }
   fits-at Formulas x h f = f
   fits-at Formula x h f =
       let a : 0 ≡ length (j .moves) = omega (arith, h .moves) in
@@ -90,37 +110,40 @@ module _ (s : Reading) (r : List ℕ) where
       record {
         formula = every-more (formulaOf []) (λ i f. Within (beforeFormula (j .scalars .facts) i) (getD formulaFields (f .kind) []) (f .a ∷ f .b ∷ [])) (j .formulas) (formulaOf r)
             (f .formula) (rw e (within-true c (getD formulaFields (getD r 0 0) []) (getD r 1 0 ∷ getD r 2 0 ∷ []) (x .fields)));
-        move = no-move j′ (length (j .effects) + s .effects) (sym a);
+        move = no-move j′ (sym a);
+        tiled = f .tiled;
         effect = no-effect j′ (sym b);
         row = no-row j′ (sym d);
       }
   fits-at Moves x h f =
       let a : length (j .moves) ≡ 0 = omega (arith, h .moves) in
-      record { formula = f .formula; move = no-move j (length (j .effects) + 0) a; effect = f .effect; row = f .row }
+      let b : length (j .effects) + 0 ≡ 0 = omega (arith, h .effects-room) in
+      record { formula = f .formula; move = f .move; tiled = tiled-none (j .moves) _ a b; effect = f .effect; row = f .row }
   fits-at Move x h f =
       let m : J.Move = moveOf (length (j .effects)) r in
+      let e : length (j .effects) + s .effects ≡ length (j .effects) = omega (arith, h .due .1) in
       let d : length (j .program) ≡ 0 = omega (arith, h .program) in
       record {
         formula = f .formula;
-        move = every-more (moveOf 0 []) (λ i m. MoveFits (length (j .formulas)) (length (j .effects) + getD r 2 0) m) (j .moves) m
-            (λ i g. let o = f .move i g in record { pre = o .pre; class = o .class; count = o .count; own = omega (arith, o .own, h .due .1) })
+        move = every-more (moveOf 0 []) (λ i m. MoveFits (length (j .formulas)) m) (j .moves) m (f .move)
             (record {
               pre = ltb-true (getD r 0 0) (c .formulas) (and-left (ltb (getD r 0 0) (c .formulas)) (leb (getD r 1 0) 15) (x .fields));
               class = leb-true (getD r 1 0) 15 (and-right (ltb (getD r 0 0) (c .formulas)) (leb (getD r 1 0) 15) (x .fields));
               count = leb-true (getD r 2 0) 16 (x .range);
-              own = omega arith;
             });
+        tiled = tiled-more 0 (length (j .effects)) (j .moves) m (subst (Tiled 0 (j .moves)) e (f .tiled)) refl;
         effect = f .effect;
         row = no-row (J.addMove j m) d;
       }
   fits-at Effect x h f =
-      let l = length-append (j .effects) (effectOf r ∷ []) in
+      let e : length (j .effects) + s .effects ≡ length (j .effects ++ (effectOf r ∷ [])) + (s .effects - 1) = omega (arith, h .due, length-append (j .effects) (effectOf r ∷ [])) in
       let d : length (j .program) ≡ 0 = omega (arith, h .program) in
       let q = x .fields in
       let q′ = and-right (ltb (getD r 0 0) (c .formulas)) (ltb (getD r 1 0) (c .facts) && leb (getD r 2 0) 1) q in
       record {
         formula = f .formula;
-        move = λ i g. let o = f .move i g in record { pre = o .pre; class = o .class; count = o .count; own = omega (arith, o .own, h .due, l) };
+        move = f .move;
+        tiled = subst (Tiled 0 (j .moves)) e (f .tiled);
         effect = every-more (effectOf []) (λ i e. EffectFits (j .scalars .facts) (length (j .formulas)) e) (j .effects) (effectOf r) (f .effect)
             (record {
               cond = ltb-true (getD r 0 0) (c .formulas) (and-left (ltb (getD r 0 0) (c .formulas)) _ q);
@@ -129,11 +152,12 @@ module _ (s : Reading) (r : List ℕ) where
             });
         row = no-row (J.addEffect j (effectOf r)) d;
       }
-  fits-at Goal x h f = record { formula = f .formula; move = f .move; effect = f .effect; row = f .row }
+  fits-at Goal x h f = record { formula = f .formula; move = f .move; tiled = f .tiled; effect = f .effect; row = f .row }
   fits-at Program x h f = f
   fits-at Row x h f = record {
     formula = f .formula;
     move = f .move;
+    tiled = f .tiled;
     effect = f .effect;
     row = every-more (rowOf []) (λ i w. Within (beforeRow j i) (getD rowFields (w .kind) []) (w .a ∷ w .b ∷ w .c ∷ [])) (j .program) (rowOf r) (f .row)
         (within-true c (getD rowFields (getD r 0 0) []) (getD r 1 0 ∷ getD r 2 0 ∷ getD r 3 0 ∷ []) (x .fields));
@@ -175,7 +199,13 @@ taken-kept s r x k = record {
 pub begun-kept : Kept begun
 begun-kept = record {
   room = record { facts = omega arith; formulas = omega arith; moves = omega arith; effects-room = omega arith; program = omega arith; due = tt };
-  rows = record { formula = λ i h. absurd (omega arith); move = λ i h. absurd (omega arith); effect = λ i h. absurd (omega arith); row = λ i h. absurd (omega arith) };
+  rows = record {
+    formula = λ i h. absurd (omega arith);
+    move = λ i h. absurd (omega arith);
+    tiled = omega arith;
+    effect = λ i h. absurd (omega arith);
+    row = λ i h. absurd (omega arith);
+  };
   settled = tt;
 }
 
@@ -184,6 +214,7 @@ pub end-well-formed : (s : Reading) → Kept s → s .next ≡ End → WellForme
 end-well-formed s k e =
     let h : Room End (s .rows) (s .effects) (countsOf (s .job)) = rw e at (k .room) in
     let t : Settled End (s .job) = rw e at (k .settled) in
+    let d : length (s .job .effects) + s .effects ≡ length (s .job .effects) = omega (arith, h .due) in
     record {
       facts = h .facts;
       init = t .0;
@@ -191,7 +222,8 @@ end-well-formed s k e =
       formulas = omega (arith, h .formulas);
       formula = k .rows .formula;
       moves = omega (arith, h .moves);
-      move = λ i g. let o = k .rows .move i g in record { pre = o .pre; class = o .class; count = o .count; own = omega (arith, o .own, h .due) };
+      move = k .rows .move;
+      tiled = subst (Tiled 0 (s .job .moves)) d (k .rows .tiled);
       effects = omega (arith, h .effects-room);
       effect = k .rows .effect;
       program = omega (arith, h .program);

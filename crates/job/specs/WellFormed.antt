@@ -1,5 +1,6 @@
 -- What every accepted job keeps: ranges, references that fall, unused fields that are 0.
 use Prim.Native.Nat.{ℕ, _+_, _≤_, _<_}
+use mathlib.Core.Path.{_≡_}
 use mathlib.Core.List.{List, [], _∷_}
 use lib.ListN.{length, getD}
 use Rattle.job.specs.StateCount.{stateCount}
@@ -18,15 +19,19 @@ beforeFormula facts i = record { facts = facts; formulas = i; moves = 0; effects
 abbrev pub FormulaRows : ℕ → List Formula → Type 0
 FormulaRows facts = Every (formulaOf []) (λ i f. Within (beforeFormula facts i) (getD formulaFields (f .kind) []) (f .a ∷ f .b ∷ []))
 
--- a move beside so many formulas and effects
-pub record MoveFits (formulas effects : ℕ) (m : Move) : Type 0 where
+-- a move beside so many formulas
+pub record MoveFits (formulas : ℕ) (m : Move) : Type 0 where
   pub pre : m .pre < formulas
   pub class : m .class ≤ 15
   pub count : m .count ≤ 16
-  pub own : m .first + m .count ≤ effects
 
-abbrev pub MoveRows : ℕ → ℕ → List Move → Type 0
-MoveRows formulas effects = Every (moveOf 0 []) (λ i m. MoveFits formulas effects m)
+abbrev pub MoveRows : ℕ → List Move → Type 0
+MoveRows formulas = Every (moveOf 0 []) (λ i m. MoveFits formulas m)
+
+-- the effects of the moves stand move after move, from number `first` on, and are all before number `last`
+abbrev pub Tiled : ℕ → List Move → ℕ → Type 0
+Tiled first [] last = first ≡ last
+Tiled first (m ∷ ms) last = (m .first ≡ first) × Tiled (first + m .count) ms last
 
 -- an effect beside so many facts and formulas
 pub record EffectFits (facts formulas : ℕ) (e : Effect) : Type 0 where
@@ -57,7 +62,8 @@ pub record WellFormed (j : Job) : Type 0 where
   pub formulas : length (j .formulas) ≤ 255
   pub formula : FormulaRows (j .scalars .facts) (j .formulas)
   pub moves : length (j .moves) ≤ 64
-  pub move : MoveRows (length (j .formulas)) (length (j .effects)) (j .moves)
+  pub move : MoveRows (length (j .formulas)) (j .moves)
+  pub tiled : Tiled 0 (j .moves) (length (j .effects))
   pub effects : length (j .effects) ≤ 1024
   pub effect : EffectRows (j .scalars .facts) (length (j .formulas)) (j .effects)
   pub program : length (j .program) ≤ 128
