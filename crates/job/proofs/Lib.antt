@@ -4,4 +4,5 @@ pub mod RoomLaws
 pub mod RowLaws
 pub mod ReadLaws
 pub mod LongTexts
+pub mod TextLaws
 pub mod Examples

@@ -4,6 +4,7 @@ pub mod Line
 pub mod Fields
 pub mod Fault
 pub mod ReadJob
+pub mod JobText
 pub mod WellFormed
 pub mod Store
 pub mod Room

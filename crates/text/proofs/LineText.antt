@@ -1,6 +1,6 @@
 -- A line is read as numbers just where it is the text of its key and of these numbers; so it is short.
 -- Assumes nothing.
-use Prim.Native.Nat.{ℕ, zero, suc, _+_, _*_, _/_, _≤_, _<_}
+use Prim.Native.Nat.{ℕ, zero, suc, _+_, _*_, _/_, _%_, _≤_, _<_}
 use mathlib.Core.Path.{_≡_, refl, _∙_, ap}
 use mathlib.Core.Bool.{Bool, true, false, cond}
 use mathlib.Core.List.{List, [], _∷_, _++_}
@@ -10,9 +10,9 @@ use native.Mathlib.Decide.{decLt}
 use lib.Dec.{eqb}
 use lib.ListN.{length, drop, length-append}
 use lib.Seq.{drop-append-add}
-use borrow.Author.Tests.{eqb-true, eq-eqb, lt-ltb, le-ltb}
+use borrow.Author.Tests.{eqb-true, eq-eqb, ne-eqb, lt-ltb, le-ltb}
 use Rattle.laws.proofs.Tests.{never}
-use Rattle.text.specs.Lines.{hasKey, valueOf}
+use Rattle.text.specs.Lines.{lines, onto, hasKey, valueOf}
 use Rattle.text.specs.Numbers.{numbers}
 use Rattle.text.specs.Written.{digitsWithin, decimal, written, Small, IsValue}
 use Rattle.text.proofs.WrittenLaws.{numbers-sound, numbers-complete}
@@ -92,3 +92,55 @@ pub line-short : (key : List ℕ) (want : ℕ) (ns line : List ℕ) → numbers 
 line-short key want ns line e =
     let v = line-sound key want ns line e in
     omega (arith, ap length (v .1) ∙ length-append key (61 ∷ written ns), values-short ns (v .0 .small), v .0 .count)
+
+-- no line feed among these bytes; and one as the last of them alone
+abbrev pub plain : List ℕ → Bool
+plain [] = true
+plain (b ∷ l) = cond (eqb b 10) false (plain l)
+
+abbrev pub endsOnce : List ℕ → Bool
+endsOnce [] = false
+endsOnce (b ∷ []) = eqb b 10
+endsOnce (b ∷ c ∷ l) = cond (eqb b 10) false (endsOnce (c ∷ l))
+
+not-feed : (b : ℕ) (rest same : Bool) → eqb b 10 ≡ same → cond same false rest ≡ true → (eqb b 10 ≡ false) × (rest ≡ true)
+not-feed b rest true e h = never h
+not-feed b rest false e h = (e, h)
+
+-- such bytes are the first line of a text that they begin
+pub line-of : (l t : List ℕ) → endsOnce l ≡ true → lines (l ++ t) ≡ l ∷ lines t
+unfolding lines
+line-of [] t e = never e
+line-of (b ∷ []) t e = rw (e, eqb-true b 10 e)
+line-of (b ∷ c ∷ l) t e =
+    let h = not-feed b (endsOnce (c ∷ l)) (eqb b 10) refl e in
+    rw (h .0) (ap (onto b) (line-of (c ∷ l) t (h .1)))
+
+ends-after : (b : ℕ) (l : List ℕ) → eqb b 10 ≡ false → endsOnce l ≡ true → endsOnce (b ∷ l) ≡ true
+ends-after b [] e h = never h
+ends-after b (c ∷ l) e h = rw e h
+
+pub plain-ends : (a l : List ℕ) → plain a ≡ true → endsOnce l ≡ true → endsOnce (a ++ l) ≡ true
+plain-ends [] l e h = h
+plain-ends (b ∷ a) l e h = let g = not-feed b (plain a) (eqb b 10) refl e in ends-after b (a ++ l) (g .0) (plain-ends a l (g .1) h)
+
+plain-both : (a b : List ℕ) → plain a ≡ true → plain b ≡ true → plain (a ++ b) ≡ true
+plain-both [] b e h = h
+plain-both (x ∷ a) b e h = let g = not-feed x (plain a) (eqb x 10) refl e in rw (g .0) (plain-both a b (g .1) h)
+
+digits-plain : (k n : ℕ) → plain (digitsWithin k n) ≡ true
+unfolding digitsWithin
+digits-plain zero n = refl
+digits-plain (suc k) n = elim (decLt n 10) [
+    yes d ↦ rw (lt-ltb n 10 d, ne-eqb (48 + n) 10 (λ z. omega arith))
+  | no d ↦ (let e : 10 ≤ n = omega arith in
+      rw (le-ltb n 10 e) (plain-both (digitsWithin k (n / 10)) ((48 + n % 10) ∷ []) (digits-plain k (n / 10)) (rw (ne-eqb (48 + n % 10) 10 (λ z. omega arith))))) ]
+
+written-ends : (n : ℕ) (ns : List ℕ) → endsOnce (written (n ∷ ns)) ≡ true
+unfolding written
+written-ends n [] = plain-ends (decimal n) (10 ∷ []) (digits-plain (suc n) n) refl
+written-ends n (m ∷ ns) = plain-ends (decimal n) (44 ∷ written (m ∷ ns)) (digits-plain (suc n) n) (ends-after 44 (written (m ∷ ns)) refl (written-ends m ns))
+
+-- a line's text ends in its only line feed
+pub line-ends : (key : List ℕ) (n : ℕ) (ns : List ℕ) → plain key ≡ true → endsOnce (lineText key (n ∷ ns)) ≡ true
+line-ends key n ns e = plain-ends key (61 ∷ written (n ∷ ns)) e (ends-after 61 (written (n ∷ ns)) refl (written-ends n ns))
