@@ -5,4 +5,6 @@ pub mod RowLaws
 pub mod ReadLaws
 pub mod LongTexts
 pub mod TextLaws
+pub mod ToldLaws
+pub mod Acceptance
 pub mod Examples

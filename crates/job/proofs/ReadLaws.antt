@@ -95,43 +95,43 @@ end-is End e = refl
 not-accepted : {A : Type 0} (a b m : ℕ) (j : J.Job) → refused a b ≡ accepted m j → A
 not-accepted a b m j e = let z : _≡_ {A = ℕ} 0 1 = cc in absurd (omega arith)
 
-record AcceptedBy (n : ℕ) (s : Reading) (ls : List (List ℕ)) (m : ℕ) (j : J.Job) : Type 0 where
-  counted : m ≡ n + length ls
-  well-formed : Kept s → WellFormed j
+-- what holds at the end, and before a right line where it holds after it, holds wherever reading goes on to accept
+module _ (m : ℕ) (j : J.Job) (P : ℕ → Reading → List (List ℕ) → Type 0)
+    (at-end : (s : Reading) → s .next ≡ End → s .job ≡ j → P m s [])
+    (at-line : (n : ℕ) (s : Reading) (line r : List ℕ) (ls : List (List ℕ)) → rowNumbers (s .next) line ≡ some r → Right (s .next) (countsOf (s .job)) r
+    → P (n + 1) (taken s r) ls → P n s (line ∷ ls)) where
+  end-by : (n : ℕ) (s : Reading) (b : Bool) → isEnd (s .next) ≡ b → cond b (accepted n (s .job)) (refused 1 (n + 1)) ≡ accepted m j → P n s []
+  end-by n s true g e = let a : m ≡ n = cc in subst (λ k. P k s []) a (at-end s (end-is (s .next) g) (cc))
+  end-by n s false g e = not-accepted 1 (n + 1) m j e
 
-ended-by : (n : ℕ) (s : Reading) (m : ℕ) (j : J.Job) (b : Bool) → isEnd (s .next) ≡ b → cond b (accepted n (s .job)) (refused 1 (n + 1)) ≡ accepted m j → AcceptedBy n s [] m j
-ended-by n s m j true g e =
-    let a : n ≡ m = cc in
-    let f : s .job ≡ j = cc in
-    record { counted = omega arith; well-formed = λ k. subst WellFormed f (end-well-formed s k (end-is (s .next) g)) }
-ended-by n s m j false g e = not-accepted 1 (n + 1) m j e
-
-module _ (n : ℕ) (s : Reading) (ls : List (List ℕ)) (m : ℕ) (j : J.Job) where
-  line-by : (line : List ℕ) (o : Option (List ℕ)) (b : Bool) → eqb (fault (s .next) (countsOf (s .job)) o) 0 ≡ b
+  line-by : (n : ℕ) (s : Reading) (ls : List (List ℕ)) (line : List ℕ) (o : Option (List ℕ)) (b : Bool) → rowNumbers (s .next) line ≡ o
+      → eqb (fault (s .next) (countsOf (s .job)) o) 0 ≡ b
       → cond b (readFrom (n + 1) (taken s (Option·getD o [])) ls) (refused (fault (s .next) (countsOf (s .job)) o) (n + 1)) ≡ accepted m j
-      → ((q : Reading) → readFrom (n + 1) q ls ≡ accepted m j → AcceptedBy (n + 1) q ls m j) → AcceptedBy n s (line ∷ ls) m j
+      → ((q : Reading) → readFrom (n + 1) q ls ≡ accepted m j → P (n + 1) q ls) → P n s (line ∷ ls)
   unfolding fault
-  line-by line none true g e f = never g
-  line-by line none false g e f = not-accepted _ (n + 1) m j e
-  line-by line (some r) true g e f =
-      let a = f (taken s r) e in
-      record {
-        counted = omega (arith, a .counted);
-        well-formed = λ k. a .well-formed (taken-kept s r (fault-right (s .next) (countsOf (s .job)) r (eqb-true _ 0 g)) k);
-      }
-  line-by line (some r) false g e f = not-accepted _ (n + 1) m j e
+  line-by n s ls line none true d g e f = never g
+  line-by n s ls line none false d g e f = not-accepted _ (n + 1) m j e
+  line-by n s ls line (some r) true d g e f =
+      at-line n s line r ls d (fault-right (s .next) (countsOf (s .job)) r (eqb-true _ 0 g)) (f (taken s r) e)
+  line-by n s ls line (some r) false d g e f = not-accepted _ (n + 1) m j e
 
-accepted-by : (n : ℕ) (s : Reading) (ls : List (List ℕ)) (m : ℕ) (j : J.Job) → readFrom n s ls ≡ accepted m j → AcceptedBy n s ls m j
-unfolding readFrom ended
-accepted-by n s [] m j e = ended-by n s m j (isEnd (s .next)) refl e
-accepted-by n s (line ∷ ls) m j e = line-by n s ls m j line (rowNumbers (s .next) line) _ refl e (λ q. accepted-by (n + 1) q ls m j)
+  pub accepted-has : (n : ℕ) (s : Reading) (ls : List (List ℕ)) → readFrom n s ls ≡ accepted m j → P n s ls
+  unfolding readFrom ended
+  accepted-has n s [] e = end-by n s (isEnd (s .next)) refl e
+  accepted-has n s (line ∷ ls) e = line-by n s ls line (rowNumbers (s .next) line) _ refl refl e (λ q. accepted-has (n + 1) q ls)
 
 -- every accepted job is well formed
 pub accepted-well-formed : (text : List ℕ) (n : ℕ) (j : J.Job) → readJob text ≡ accepted n j → WellFormed j
 unfolding readJob
-accepted-well-formed text n j e = accepted-by 0 begun (lines text) n j e .well-formed begun-kept
+accepted-well-formed text n j e =
+    accepted-has n j (λ k s ls. Kept s → WellFormed j)
+    (λ s g f k. subst WellFormed f (end-well-formed s k g))
+    (λ k s line r ls d x f h. f (taken-kept s r x h))
+    0 begun (lines text) e begun-kept
 
 -- an accepted text has the lines that its answer counts
 pub accepted-lines : (text : List ℕ) (n : ℕ) (j : J.Job) → readJob text ≡ accepted n j → n ≡ length (lines text)
 unfolding readJob
-accepted-lines text n j e = omega (arith, accepted-by 0 begun (lines text) n j e .counted)
+accepted-lines text n j e =
+    let h = accepted-has n j (λ k s ls. n ≡ k + length ls) (λ s g f. omega arith) (λ k s line r ls d x f. omega (arith, f)) 0 begun (lines text) e in
+    omega (arith, h)

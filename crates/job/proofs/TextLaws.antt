@@ -1,8 +1,8 @@
 -- Every well-formed job has a text that is read as that job.
 -- Assumes nothing.
-use Prim.Native.Nat.{ℕ, zero, suc, _+_, _-_, _*_, _^_, _≤_, _<_}
+use Prim.Native.Nat.{ℕ, zero, suc, _+_, _-_, _^_, _≤_, _<_}
 use mathlib.Core.Path.{_≡_, refl, sym, _∙_, ap, subst}
-use mathlib.Core.Bool.{Bool, true, false, cond, _&&_}
+use mathlib.Core.Bool.{true, cond}
 use mathlib.Core.List.{List, [], _∷_, _++_, map, foldl, flatten, append-assoc, append-nil}
 use mathlib.Core.Option.{some}
 use native.Mathlib.Omega.{arith}
@@ -13,7 +13,7 @@ use lib.Seq.{length-take-le}
 use lib.ListN.{length, getD, take, drop, length-append, length-drop, length-map, take-append-drop, List·getD-eq-default}
 use borrow.Author.Tests.{lt-ltb, le-leb, ne-eqb}
 use Rattle.laws.proofs.Tests.{and-both}
-use Rattle.text.specs.Written.{written, Small}
+use Rattle.text.specs.Written.{Small}
 use Rattle.text.specs.Bytes.{bytes}
 use Rattle.text.specs.Lines.{lines}
 use Rattle.text.proofs.LineText.{line-complete, plain, endsOnce, line-of, line-ends}
@@ -49,8 +49,9 @@ small-within c b (f ∷ fs) (x ∷ xs) w = (omega (arith, w .0, b f), small-with
 -- a kind whose fields hold something is in the table
 pub kind-listed : (c : Counts) (table : List (List Field)) (kind x : ℕ) (xs : List ℕ) → Within c (getD table kind []) (x ∷ xs) → kind < length table
 kind-listed c table kind x xs w = elim (decLt kind (length table)) [
-    yes h ↦ h
-  | no h ↦ (let g : length table ≤ kind = omega arith in absurd (rw (List·getD-eq-default table [] {n = kind} g) at w)) ]
+  | yes h ↦ h
+  | no h ↦ (let g : length table ≤ kind = omega arith in absurd (rw (List·getD-eq-default table [] {n = kind} g) at w))
+]
 
 -- a line of right numbers is taken in
 module _ (k : Line) (rows effects : ℕ) (j : J.Job) (n a : ℕ) (ns : List ℕ) (rest : List (List ℕ)) where
@@ -89,9 +90,10 @@ EveryFrom k P (a ∷ l) = P k a × EveryFrom (k + 1) P l
 every-from : {A : Type 0} (d : A) (P : ℕ → A → Type 0) (l : List A) (k : ℕ) → ((i : ℕ) → i < length l → P (k + i) (getD l i d)) → EveryFrom k P l
 every-from d P [] k h = tt
 every-from d P (a ∷ l) k h =
-    let e : k + 0 ≡ k = omega arith in
-    (subst (λ i. P i a) e (h 0 (omega arith)),
-     every-from d P l (k + 1) (λ i g. let f : k + suc i ≡ k + 1 + i = omega arith in subst (λ m. P m (getD l i d)) f (h (suc i) (omega arith))))
+    let e : k + 0 ≡ k = omega arith in (
+      subst (λ i. P i a) e (h 0 (omega arith)),
+      every-from d P l (k + 1) (λ i g. let f : k + suc i ≡ k + 1 + i = omega arith in subst (λ m. P m (getD l i d)) f (h (suc i) (omega arith))),
+    )
 
 -- jobs that differ in the rows of one sort: `mk l` has the rows l
 module _ {A : Type 0} (put : J.Job → A → J.Job) (mk : List A → J.Job) (same : (l : List A) (a : A) → put (mk l) a ≡ mk (l ++ (a ∷ []))) where
@@ -128,7 +130,7 @@ formula-step m n j f rest q =
     let e : suc m - 1 ≡ m = omega arith in
     rw (ne-eqb (suc m) 0 (λ z. omega arith))
     (text-line Formula (suc m) 0 j n (f .kind) (f .a ∷ f .b ∷ []) rest refl (q .1) refl refl (q .0)
-     ∙ ap (λ k. readFrom (n + 1) (on (afterFormulas k) k 0 (J.addFormula j f)) rest) e)
+    ∙ ap (λ k. readFrom (n + 1) (on (afterFormulas k) k 0 (J.addFormula j f)) rest) e)
 
 -- program rows
 abbrev RowText : J.Job → J.Row → Type 0
@@ -140,7 +142,7 @@ row-step m n j r rest q =
     let e : suc m - 1 ≡ m = omega arith in
     rw (ne-eqb (suc m) 0 (λ z. omega arith))
     (text-line Row (suc m) 0 j n (r .kind) (r .a ∷ r .b ∷ r .c ∷ []) rest refl (q .1) refl refl (q .0)
-     ∙ ap (λ k. readFrom (n + 1) (on (afterRows k) k 0 (J.addRow j r)) rest) e)
+    ∙ ap (λ k. readFrom (n + 1) (on (afterRows k) k 0 (J.addRow j r)) rest) e)
 
 -- a move's effects
 abbrev EffectText : J.Job → J.Effect → Type 0
@@ -152,9 +154,9 @@ effect-step rows m n j e rest q =
     let d : suc m - 1 ≡ m = omega arith in
     rw (ne-eqb (suc m) 0 (λ z. omega arith))
     (text-line Effect rows (suc m) j n (e .cond) (e .fact ∷ e .value ∷ []) rest refl (q .1) refl refl
-      (and-both (ltb (e .cond) (length (j .formulas))) _ (lt-ltb _ _ (q .0 .cond))
-        (and-both (ltb (e .fact) (j .scalars .facts)) (leb (e .value) 1) (lt-ltb _ _ (q .0 .fact)) (le-leb _ _ (q .0 .value))))
-     ∙ ap (λ k. readFrom (n + 1) (on (afterMoves rows k) rows k (J.addEffect j e)) rest) d)
+    (and-both (ltb (e .cond) (length (j .formulas))) _ (lt-ltb _ _ (q .0 .cond))
+    (and-both (ltb (e .fact) (j .scalars .facts)) (leb (e .value) 1) (lt-ltb _ _ (q .0 .fact)) (le-leb _ _ (q .0 .value))))
+    ∙ ap (λ k. readFrom (n + 1) (on (afterMoves rows k) rows k (J.addEffect j e)) rest) d)
 
 -- each element of a list, without its place
 abbrev All : {A : Type 0} → (A → Type 0) → List A → Type 0
@@ -185,8 +187,8 @@ move-step : (rows n : ℕ) (j : J.Job) (m : J.Move) (rest : List (List ℕ)) →
 move-step rows n j m rest h f e =
     let d : suc rows - 1 ≡ rows = omega arith in
     text-line Move (suc rows) 0 j n (m .pre) (m .class ∷ m .count ∷ []) rest refl
-      (omega (arith, f .pre), (omega (arith, f .class), (omega (arith, f .count), tt))) refl (le-leb _ _ (f .count))
-      (and-both (ltb (m .pre) (length (j .formulas))) (leb (m .class) 15) (lt-ltb _ _ (f .pre)) (le-leb _ _ (f .class)))
+    (omega (arith, f .pre), (omega (arith, f .class), (omega (arith, f .count), tt))) refl (le-leb _ _ (f .count))
+    (and-both (ltb (m .pre) (length (j .formulas))) (leb (m .class) 15) (lt-ltb _ _ (f .pre)) (le-leb _ _ (f .class)))
     ∙ ap (λ k. readFrom (n + 1) (on (afterMoves k (m .count)) k (m .count) (J.addMove j (J.moveOf (length (j .effects)) (m .pre ∷ m .class ∷ m .count ∷ [])))) rest) d
     ∙ ap (λ i. readFrom (n + 1) (on (afterMoves rows (m .count)) rows (m .count) (J.addMove j (J.moveOf i (m .pre ∷ m .class ∷ m .count ∷ [])))) rest) (sym e)
 
@@ -211,17 +213,17 @@ module _ (sc : J.Scalars) (fs : List J.Formula) (few : length fs ≤ 255) where
       let mk : List J.Effect → J.Job = λ l. made sc fs (ms₀ ++ (m ∷ [])) l [] in
       let rest : List (List ℕ) = moveLines ms b ++ tail in
       let e₂ : length (es₀ ++ a) + length b ≡ length es₀ + length es =
-          omega (arith, length-append es₀ a, la, length-drop (m .count) es, own, t .0) in
+      omega (arith, length-append es₀ a, la, length-drop (m .count) es, own, t .0) in
       let e₁ : length (es₀ ++ a) ≡ length es₀ + m .count = omega (arith, length-append es₀ a, la) in
       let e₃ : n + 1 + length a + length (moveLines ms b) ≡ n + suc (length (map effectLine a ++ moveLines ms b)) =
-          omega (arith, length-append (map effectLine a) (moveLines ms b), length-map a effectLine) in
+      omega (arith, length-append (map effectLine a) (moveLines ms b), length-map a effectLine) in
       rw (ne-eqb (suc (length ms)) 0 (λ z. omega arith), append-assoc (map effectLine a) (moveLines ms b) tail)
       (move-step (length ms) n (made sc fs ms₀ es₀ []) m (map effectLine a ++ rest) few (f .0) (t .0)
-       ∙ ap (λ k. readFrom (n + 1) (on (afterMoves (length ms) k) (length ms) k (mk es₀)) (map effectLine a ++ rest)) (sym la)
-       ∙ rows-read J.addEffect mk (λ l x. refl) EffectText (λ i x. P x) (λ l x h. h) (λ k j. on (afterMoves (length ms) k) (length ms) k j) effectLine (effect-step (length ms))
-         a es₀ (n + 1) rest (all-from P a (length es₀) (all-take P (m .count) es g))
-       ∙ moves-read ms b (ms₀ ++ (m ∷ [])) (es₀ ++ a) (n + 1 + length a) tail (rw (e₂, e₁) (t .1)) (f .1) (all-drop P (m .count) es g)
-       ∙ rw (append-assoc ms₀ (m ∷ []) ms, append-assoc es₀ a b, take-append-drop (m .count) es, e₃))
+      ∙ ap (λ k. readFrom (n + 1) (on (afterMoves (length ms) k) (length ms) k (mk es₀)) (map effectLine a ++ rest)) (sym la)
+      ∙ rows-read J.addEffect mk (λ l x. refl) EffectText (λ i x. P x) (λ l x h. h) (λ k j. on (afterMoves (length ms) k) (length ms) k j) effectLine (effect-step (length ms))
+      a es₀ (n + 1) rest (all-from P a (length es₀) (all-take P (m .count) es g))
+      ∙ moves-read ms b (ms₀ ++ (m ∷ [])) (es₀ ++ a) (n + 1 + length a) tail (rw (e₂, e₁) (t .1)) (f .1) (all-drop P (m .count) es g)
+      ∙ rw (append-assoc ms₀ (m ∷ []) ms, append-assoc es₀ a b, take-append-drop (m .count) es, e₃))
 
 read-end : (n : ℕ) (j : J.Job) → readFrom n (on End 0 0 j) [] ≡ accepted n j
 unfolding readFrom ended
@@ -247,9 +249,10 @@ module _ (j : J.Job) (w : WellFormed j) where
       let f : J.Formula = getD (j .formulas) i (J.formulaOf []) in
       let e : 0 + i ≡ i = omega arith in
       let v : Within (beforeFormula facts (0 + i)) (getD formulaFields (f .kind) []) (f .a ∷ f .b ∷ []) = rw e (w .formula i h) in
-      let k = kind-listed (beforeFormula facts (0 + i)) formulaFields (f .kind) (f .a) (f .b ∷ []) v in
-      (true-within (beforeFormula facts (0 + i)) (getD formulaFields (f .kind) []) (f .a ∷ f .b ∷ []) v,
-       (omega (arith, k), small-within (beforeFormula facts (0 + i)) (bound-small _ (w .facts) (omega (arith, w .formulas)) (omega arith) (omega arith)) (getD formulaFields (f .kind) []) (f .a ∷ f .b ∷ []) v)))
+      let k = kind-listed (beforeFormula facts (0 + i)) formulaFields (f .kind) (f .a) (f .b ∷ []) v in (
+        true-within (beforeFormula facts (0 + i)) (getD formulaFields (f .kind) []) (f .a ∷ f .b ∷ []) v,
+        (omega (arith, k), small-within (beforeFormula facts (0 + i)) (bound-small _ (w .facts) (omega (arith, w .formulas)) (omega arith) (omega arith)) (getD formulaFields (f .kind) []) (f .a ∷ f .b ∷ []) v),
+      ))
 
   abbrev RowAt : ℕ → J.Row → Type 0
   RowAt i r = (within (beforeRow j i) (getD rowFields (r .kind) []) (r .a ∷ r .b ∷ r .c ∷ []) ≡ true) × Small (r .kind ∷ r .a ∷ r .b ∷ r .c ∷ [])
@@ -259,9 +262,10 @@ module _ (j : J.Job) (w : WellFormed j) where
       let r : J.Row = getD (j .program) i (J.rowOf []) in
       let e : 0 + i ≡ i = omega arith in
       let v : Within (beforeRow j (0 + i)) (getD rowFields (r .kind) []) (r .a ∷ r .b ∷ r .c ∷ []) = rw e (w .row i h) in
-      let k = kind-listed (beforeRow j (0 + i)) rowFields (r .kind) (r .a) (r .b ∷ r .c ∷ []) v in
-      (true-within (beforeRow j (0 + i)) (getD rowFields (r .kind) []) (r .a ∷ r .b ∷ r .c ∷ []) v,
-       (omega (arith, k), small-within (beforeRow j (0 + i)) (bound-small _ (w .facts) (w .formulas) (w .moves) (omega (arith, w .program))) (getD rowFields (r .kind) []) (r .a ∷ r .b ∷ r .c ∷ []) v)))
+      let k = kind-listed (beforeRow j (0 + i)) rowFields (r .kind) (r .a) (r .b ∷ r .c ∷ []) v in (
+        true-within (beforeRow j (0 + i)) (getD rowFields (r .kind) []) (r .a ∷ r .b ∷ r .c ∷ []) v,
+        (omega (arith, k), small-within (beforeRow j (0 + i)) (bound-small _ (w .facts) (w .formulas) (w .moves) (omega (arith, w .program))) (getD rowFields (r .kind) []) (r .a ∷ r .b ∷ r .c ∷ []) v),
+      ))
 
   effect-texts : All (P (j .scalars) (j .formulas) (w .formulas)) (j .effects)
   effect-texts = all-every (J.effectOf []) (P (j .scalars) (j .formulas) (w .formulas)) (j .effects) (λ i h.
@@ -289,7 +293,7 @@ module _ (j : J.Job) (w : WellFormed j) where
       ∙ text-line Facts 0 0 (begun .job) (n + 1) facts [] _ refl (omega (arith, w .facts), tt) refl (le-leb _ _ (w .facts)) refl
       ∙ text-line Init 0 0 (made (record { facts = facts; init = 0; goal = 0 }) [] [] [] []) (n + 1 + 1) (j .scalars .init) [] _ refl (init-small, tt) refl (lt-ltb _ _ (w .init)) refl
       ∙ text-line Formulas 0 0 (made sc [] [] [] []) (n + 1 + 1 + 1) (length (j .formulas)) [] tail refl (omega (arith, w .formulas), tt) refl
-        (and-both (leb 1 (length (j .formulas))) (leb (length (j .formulas)) 255) (le-leb 1 (length (j .formulas)) (omega (arith, w .goal))) (le-leb _ 255 (w .formulas))) refl
+      (and-both (leb 1 (length (j .formulas))) (leb (length (j .formulas)) 255) (le-leb 1 (length (j .formulas)) (omega (arith, w .goal))) (le-leb _ 255 (w .formulas))) refl
       ∙ rw (ne-eqb (length (j .formulas)) 0 some-formula)
 
   program-read : (n : ℕ) → readFrom n (on Goal 0 0 (made sc (j .formulas) (j .moves) (j .effects) [])) (programLines j) ≡ accepted (n + 1 + 1 + length (j .program)) j
@@ -299,9 +303,9 @@ module _ (j : J.Job) (w : WellFormed j) where
       let st : ℕ → J.Job → Reading = λ k q. on (afterRows k) k 0 q in
       let start : on Row (length (j .program)) 0 (mk []) ≡ st (length (j .program)) (mk []) = rw (ne-eqb (length (j .program)) 0 p) in
       text-line Goal 0 0 (made sc (j .formulas) (j .moves) (j .effects) []) n (j .scalars .goal) [] (lineOf Program (length (j .program) ∷ []) ∷ map rowLine (j .program))
-        refl (omega (arith, w .goal, w .formulas), tt) refl refl (lt-ltb _ _ (w .goal))
+      refl (omega (arith, w .goal, w .formulas), tt) refl refl (lt-ltb _ _ (w .goal))
       ∙ text-line Program 0 0 (mk []) (n + 1) (length (j .program)) [] (map rowLine (j .program)) refl (omega (arith, w .program), tt) refl
-        (and-both (leb 1 (length (j .program))) (leb (length (j .program)) 128) (le-leb 1 _ (w .last)) (le-leb _ 128 (w .program))) refl
+      (and-both (leb 1 (length (j .program))) (leb (length (j .program)) 128) (le-leb 1 _ (w .last)) (le-leb _ 128 (w .program))) refl
       ∙ ap (λ q. readFrom (n + 1 + 1) q (map rowLine (j .program))) start
       ∙ ap (readFrom (n + 1 + 1) (st (length (j .program)) (mk []))) (sym (append-nil (map rowLine (j .program))))
       ∙ rows-read J.addRow mk (λ l x. refl) RowText RowAt (λ l r h. h) st rowLine row-step (j .program) [] (n + 1 + 1) [] row-texts
@@ -316,7 +320,7 @@ module _ (j : J.Job) (w : WellFormed j) where
       let n : ℕ = 4 + length fs in
       let z : 0 + length es ≡ length es = omega arith in
       let e : 4 + length fs + 1 + length (moveLines ms es) + 1 + 1 + length (j .program) ≡ length (jobLines j) =
-          omega (arith, length-append (map formulaLine fs) after, length-map fs formulaLine, length-append (moveLines ms es) (programLines j), length-map (j .program) rowLine) in
+      omega (arith, length-append (map formulaLine fs) after, length-map fs formulaLine, length-append (moveLines ms es) (programLines j), length-map (j .program) rowLine) in
       head-read 0 (map formulaLine fs ++ after)
       ∙ rows-read J.addFormula (λ l. made sc l [] [] []) (λ l x. refl) FormulaText FormulaAt (λ l f h. h) (λ k q. on (afterFormulas k) k 0 q) formulaLine formula-step fs [] 4 after formula-texts
       ∙ text-line Moves 0 0 (made sc fs [] [] []) n (length ms) [] (moveLines ms es ++ programLines j) refl (omega (arith, w .moves), tt) refl (le-leb _ _ (w .moves)) refl
@@ -362,10 +366,20 @@ move-once (m ∷ ms) es =
 
 job-once : (j : J.Job) → All Once (jobLines j)
 job-once j =
-    let end : All Once (programLines j) = (once Goal _ _, (once Program _ _, all-map rowLine (j .program) (λ r. once Row _ _))) in
-    (once Job _ _, (once Facts _ _, (once Init _ _, (once Formulas _ _,
-      all-both (map formulaLine (j .formulas)) (lineOf Moves (length (j .moves) ∷ []) ∷ (moveLines (j .moves) (j .effects) ++ programLines j)) (all-map formulaLine (j .formulas) (λ f. once Formula _ _))
-      (once Moves _ _, all-both (moveLines (j .moves) (j .effects)) (programLines j) (move-once (j .moves) (j .effects)) end)))))
+    let end : All Once (programLines j) = (once Goal _ _, (once Program _ _, all-map rowLine (j .program) (λ r. once Row _ _))) in (
+      once Job _ _,
+      (
+        once Facts _ _,
+        (
+          once Init _ _,
+          (
+            once Formulas _ _,
+            all-both (map formulaLine (j .formulas)) (lineOf Moves (length (j .moves) ∷ []) ∷ (moveLines (j .moves) (j .effects) ++ programLines j)) (all-map formulaLine (j .formulas) (λ f. once Formula _ _))
+                (once Moves _ _, all-both (moveLines (j .moves) (j .effects)) (programLines j) (move-once (j .moves) (j .effects)) end),
+          ),
+        ),
+      ),
+    )
 
 lines-flatten : (ls : List (List ℕ)) → All Once ls → lines (flatten ls) ≡ ls
 unfolding lines flatten

@@ -2,15 +2,14 @@
 use Prim.Native.Nat.{ℕ}
 use mathlib.Core.List.{List, [], _∷_, _++_, map, flatten}
 use lib.ListN.{length, take, drop}
-use Rattle.text.specs.Written.{written}
+use Rattle.text.specs.Written.{lineText}
 use Rattle.job.specs.Job as J
 use Rattle.job.specs.Line.{formOf}
 use Rattle.job.specs.declared.line.Line.{Line}
 use Rattle.job.specs.declared.line.Line.the-variants.{Job, Facts, Init, Formulas, Formula, Moves, Move, Effect, Goal, Program, Row}
 
--- the key, an equals sign, and the numbers with commas between and a line feed behind
 abbrev pub lineOf : Line → List ℕ → List ℕ
-lineOf k numbers = formOf k .key ++ (61 ∷ written numbers)
+lineOf k numbers = lineText (formOf k .key) numbers
 
 abbrev pub formulaLine : J.Formula → List ℕ
 formulaLine f = lineOf Formula (f .kind ∷ f .a ∷ f .b ∷ [])
@@ -36,7 +35,7 @@ abbrev pub jobLines : J.Job → List (List ℕ)
 jobLines j =
     lineOf Job (1 ∷ []) ∷ lineOf Facts (j .scalars .facts ∷ []) ∷ lineOf Init (j .scalars .init ∷ []) ∷ lineOf Formulas (length (j .formulas) ∷ [])
     ∷ (map formulaLine (j .formulas)
-      ++ (lineOf Moves (length (j .moves) ∷ []) ∷ (moveLines (j .moves) (j .effects) ++ programLines j)))
+    ++ (lineOf Moves (length (j .moves) ∷ []) ∷ (moveLines (j .moves) (j .effects) ++ programLines j)))
 
 abbrev pub jobText : J.Job → List ℕ
 jobText j = flatten (jobLines j)

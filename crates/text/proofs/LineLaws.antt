@@ -1,9 +1,9 @@
 -- Laws of the lines of a text and of a line's key, at a place.
 -- Assumes nothing.
 use Prim.Native.Nat.{ℕ, zero, suc, _+_, _≤_, _<_, min}
-use mathlib.Core.Path.{_≡_, refl, ap}
+use mathlib.Core.Path.{_≡_, refl, _∙_, ap}
 use mathlib.Core.Bool.{Bool, true, false, cond}
-use mathlib.Core.List.{List, [], _∷_}
+use mathlib.Core.List.{List, [], _∷_, flatten}
 use native.Mathlib.Numerals.{add-one}
 use native.Mathlib.Omega.{arith}
 use native.Mathlib.Nat.{not-suc-le-zero}
@@ -112,3 +112,19 @@ unfolding lineLength
 front-length zero s h = omega arith
 front-length (suc m) [] h = absurd (not-suc-le-zero h)
 front-length (suc m) (b ∷ t) h = front-step b m (lineLength (take m t)) (lineLength t) (eqb b 10) (front-length m t (omega arith))
+
+-- a text is its lines, one after the other
+onto-flatten : (b : ℕ) (ls : List (List ℕ)) → flatten (onto b ls) ≡ b ∷ flatten ls
+unfolding flatten
+onto-flatten b [] = refl
+onto-flatten b (l ∷ ls) = refl
+
+flatten-step : (b : ℕ) (t : List ℕ) (z : Bool) → eqb b 10 ≡ z → flatten (lines t) ≡ t → flatten (cond z ((10 ∷ []) ∷ lines t) (onto b (lines t))) ≡ b ∷ t
+unfolding flatten
+flatten-step b t true e h = rw (eqb-true b 10 e) (ap (λ r. 10 ∷ r) h)
+flatten-step b t false e h = onto-flatten b (lines t) ∙ ap (λ r. b ∷ r) h
+
+pub flatten-lines : (s : List ℕ) → flatten (lines s) ≡ s
+unfolding lines flatten
+flatten-lines [] = refl
+flatten-lines (b ∷ t) = flatten-step b t (eqb b 10) refl (flatten-lines t)

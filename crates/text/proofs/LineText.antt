@@ -14,7 +14,7 @@ use borrow.Author.Tests.{eqb-true, eq-eqb, ne-eqb, lt-ltb, le-ltb}
 use Rattle.laws.proofs.Tests.{never}
 use Rattle.text.specs.Lines.{lines, onto, hasKey, valueOf}
 use Rattle.text.specs.Numbers.{numbers}
-use Rattle.text.specs.Written.{digitsWithin, decimal, written, Small, IsValue}
+use Rattle.text.specs.Written.{digitsWithin, decimal, written, lineText, Small, IsValue}
 use Rattle.text.proofs.WrittenLaws.{numbers-sound, numbers-complete}
 
 both : (b k : ℕ) (rest same : Bool) → eqb b k ≡ same → cond same rest false ≡ true → (b ≡ k) × (rest ≡ true)
@@ -36,10 +36,6 @@ pub key-has : (k v : List ℕ) → hasKey k (k ++ (61 ∷ v)) ≡ true
 unfolding hasKey
 key-has [] v = refl
 key-has (k ∷ ks) v = rw (eq-eqb k k refl) (key-has ks v)
-
--- the text of a line with this key and these numbers
-abbrev pub lineText : List ℕ → List ℕ → List ℕ
-lineText key ns = key ++ (61 ∷ written ns)
 
 pub line-sound : (key : List ℕ) (want : ℕ) (ns line : List ℕ) → numbers want (valueOf key line) ≡ some ns → IsValue want ns (valueOf key line) × (line ≡ lineText key ns)
 unfolding valueOf numbers
@@ -132,9 +128,10 @@ digits-plain : (k n : ℕ) → plain (digitsWithin k n) ≡ true
 unfolding digitsWithin
 digits-plain zero n = refl
 digits-plain (suc k) n = elim (decLt n 10) [
-    yes d ↦ rw (lt-ltb n 10 d, ne-eqb (48 + n) 10 (λ z. omega arith))
+  | yes d ↦ rw (lt-ltb n 10 d, ne-eqb (48 + n) 10 (λ z. omega arith))
   | no d ↦ (let e : 10 ≤ n = omega arith in
-      rw (le-ltb n 10 e) (plain-both (digitsWithin k (n / 10)) ((48 + n % 10) ∷ []) (digits-plain k (n / 10)) (rw (ne-eqb (48 + n % 10) 10 (λ z. omega arith))))) ]
+      rw (le-ltb n 10 e) (plain-both (digitsWithin k (n / 10)) ((48 + n % 10) ∷ []) (digits-plain k (n / 10)) (rw (ne-eqb (48 + n % 10) 10 (λ z. omega arith)))))
+]
 
 written-ends : (n : ℕ) (ns : List ℕ) → endsOnce (written (n ∷ ns)) ≡ true
 unfolding written

@@ -1,4 +1,4 @@
--- Numbers as text: "decimal numbers 0 to 65,535, no leading zeros, commas between", ended by the line feed.
+-- Numbers and lines as text: "decimal numbers 0 to 65,535, no leading zeros, commas between", ended by the line feed.
 use Prim.Native.Nat.{ℕ, zero, suc, _+_, _/_, _%_, _≤_}
 use mathlib.Core.Path.{_≡_}
 use mathlib.Core.Bool.{cond}
@@ -19,6 +19,11 @@ written [] = 10 ∷ []
 written (n ∷ []) = decimal n ++ (10 ∷ [])
 written (n ∷ m ∷ ns) = decimal n ++ (44 ∷ written (m ∷ ns))
 
+-- "Lines are key=value": a line with this key and these numbers
+abbrev pub lineText : List ℕ → List ℕ → List ℕ
+lineText key numbers = key ++ (61 ∷ written numbers)
+
+-- each is at most 65,535
 abbrev pub Small : List ℕ → Type 0
 Small [] = Unit {0}
 Small (n ∷ ns) = (n ≤ 65535) × Small ns
