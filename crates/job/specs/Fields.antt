@@ -15,29 +15,29 @@ bound c Formula = c .formulas
 bound c Move = c .moves
 bound c Row = c .program
 
--- "0 false, 1 true, 2 fact a, 3 not formula a, 4 formulas a and b, 5 a or b": a and b, by kind
+-- a and b of a formula, by its kind
 abbrev pub formulaFields : List (List Field)
 formulaFields =
-    (Unused ∷ Unused ∷ [])
-    ∷ (Unused ∷ Unused ∷ [])
-    ∷ (Fact ∷ Unused ∷ [])
-    ∷ (Formula ∷ Unused ∷ [])
-    ∷ (Formula ∷ Formula ∷ [])
-    ∷ (Formula ∷ Formula ∷ [])
+    (Unused ∷ Unused ∷ [])  -- 0 false
+    ∷ (Unused ∷ Unused ∷ [])  -- 1 true
+    ∷ (Fact ∷ Unused ∷ [])  -- 2 fact a
+    ∷ (Formula ∷ Unused ∷ [])  -- 3 not formula a
+    ∷ (Formula ∷ Formula ∷ [])  -- 4 formulas a and b
+    ∷ (Formula ∷ Formula ∷ [])  -- 5 a or b
     ∷ []
 
--- 0 nil, 1 move a, 2 any, 3 test a, 4 a then b, 5 if a then b else c, 6 a or b, 7 while a do b, 8 star of a: a, b and c, by kind
+-- a, b and c of a program row, by its kind
 abbrev pub rowFields : List (List Field)
 rowFields =
-    (Unused ∷ Unused ∷ Unused ∷ [])
-    ∷ (Move ∷ Unused ∷ Unused ∷ [])
-    ∷ (Unused ∷ Unused ∷ Unused ∷ [])
-    ∷ (Formula ∷ Unused ∷ Unused ∷ [])
-    ∷ (Row ∷ Row ∷ Unused ∷ [])
-    ∷ (Formula ∷ Row ∷ Row ∷ [])
-    ∷ (Row ∷ Row ∷ Unused ∷ [])
-    ∷ (Formula ∷ Row ∷ Unused ∷ [])
-    ∷ (Row ∷ Unused ∷ Unused ∷ [])
+    (Unused ∷ Unused ∷ Unused ∷ [])  -- 0 nil
+    ∷ (Move ∷ Unused ∷ Unused ∷ [])  -- 1 move a
+    ∷ (Unused ∷ Unused ∷ Unused ∷ [])  -- 2 any
+    ∷ (Formula ∷ Unused ∷ Unused ∷ [])  -- 3 test a
+    ∷ (Row ∷ Row ∷ Unused ∷ [])  -- 4 a then b
+    ∷ (Formula ∷ Row ∷ Row ∷ [])  -- 5 if a then b else c
+    ∷ (Row ∷ Row ∷ Unused ∷ [])  -- 6 a or b
+    ∷ (Formula ∷ Row ∷ Unused ∷ [])  -- 7 while a do b
+    ∷ (Row ∷ Unused ∷ Unused ∷ [])  -- 8 star of a
     ∷ []
 
 -- each number is below its field's bound; a kind that the table lacks has no fields

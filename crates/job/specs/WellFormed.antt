@@ -55,6 +55,7 @@ beforeRow j i = record {
 abbrev pub ProgramRows : Job → List Row → Type 0
 ProgramRows j = Every (rowOf []) (λ i r. Within (beforeRow j i) (getD rowFields (r .kind) []) (r .a ∷ r .b ∷ r .c ∷ []))
 
+-- the ranges of "Job text"; there is a formula, since the goal is one
 pub record WellFormed (j : Job) : Type 0 where
   pub facts : j .scalars .facts ≤ 12
   pub init : j .scalars .init < stateCount (j .scalars .facts)

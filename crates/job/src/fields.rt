@@ -40,12 +40,12 @@ fn formula_fields(kind: u16) -> Fields
     ensures { λ r. ⌜ getD formulaFields kind [] ≡ r .a ∷ r .b ∷ [] ⌝ }
 {
     match kind {
-        0 => listed(Field::Unused, Field::Unused, Field::Unused),
-        1 => listed(Field::Unused, Field::Unused, Field::Unused),
-        2 => listed(Field::Fact, Field::Unused, Field::Unused),
-        3 => listed(Field::Formula, Field::Unused, Field::Unused),
-        4 => listed(Field::Formula, Field::Formula, Field::Unused),
-        _ => listed(Field::Formula, Field::Formula, Field::Unused),
+        0 => listed(Field::Unused, Field::Unused, Field::Unused), // false
+        1 => listed(Field::Unused, Field::Unused, Field::Unused), // true
+        2 => listed(Field::Fact, Field::Unused, Field::Unused), // fact a
+        3 => listed(Field::Formula, Field::Unused, Field::Unused), // not formula a
+        4 => listed(Field::Formula, Field::Formula, Field::Unused), // formulas a and b
+        _ => listed(Field::Formula, Field::Formula, Field::Unused), // a or b
     }
 }
 
@@ -55,15 +55,15 @@ fn row_fields(kind: u16) -> Fields
     ensures { λ r. ⌜ getD rowFields kind [] ≡ r .a ∷ r .b ∷ r .c ∷ [] ⌝ }
 {
     match kind {
-        0 => listed(Field::Unused, Field::Unused, Field::Unused),
-        1 => listed(Field::Move, Field::Unused, Field::Unused),
-        2 => listed(Field::Unused, Field::Unused, Field::Unused),
-        3 => listed(Field::Formula, Field::Unused, Field::Unused),
-        4 => listed(Field::Row, Field::Row, Field::Unused),
-        5 => listed(Field::Formula, Field::Row, Field::Row),
-        6 => listed(Field::Row, Field::Row, Field::Unused),
-        7 => listed(Field::Formula, Field::Row, Field::Unused),
-        _ => listed(Field::Row, Field::Unused, Field::Unused),
+        0 => listed(Field::Unused, Field::Unused, Field::Unused), // nil
+        1 => listed(Field::Move, Field::Unused, Field::Unused), // move a
+        2 => listed(Field::Unused, Field::Unused, Field::Unused), // any
+        3 => listed(Field::Formula, Field::Unused, Field::Unused), // test a
+        4 => listed(Field::Row, Field::Row, Field::Unused), // a then b
+        5 => listed(Field::Formula, Field::Row, Field::Row), // if a then b else c
+        6 => listed(Field::Row, Field::Row, Field::Unused), // a or b
+        7 => listed(Field::Formula, Field::Row, Field::Unused), // while a do b
+        _ => listed(Field::Row, Field::Unused, Field::Unused), // star of a
     }
 }
 
