@@ -1,6 +1,6 @@
 // job_texts JOB..: a line for each file that an argument names: its name, and the job's counts or the refusal.
 use console::print;
-use jesmovit::job_text::ReadAnswer;
+use jesmovit::ReadAnswer;
 use job::head::Counts;
 
 fn print_count(separator: &[u8], n: u16) {
@@ -32,7 +32,7 @@ fn read_and_print(path: &[u8]) {
     if got.read {
         print::text(path);
         print::text(b": ");
-        let answer = jesmovit::job_text::read_job(&text[..n]);
+        let answer = jesmovit::read_job(&text[..n]);
         print_answer(answer);
     }
 }

@@ -1,6 +1,6 @@
 // read_job JOB: the counts of the job in the file that the argument names (job.txt without one), a line each, or its refusal.
 use console::print;
-use jesmovit::job_text::ReadAnswer;
+use jesmovit::ReadAnswer;
 use job::head::Counts;
 
 fn print_line(key: &[u8], n: u16) {
@@ -29,7 +29,7 @@ fn main() {
     let got = console::files::read_argument(1, b"job.txt", &mut text);
     let n = got.count;
     if got.read {
-        let answer = jesmovit::job_text::read_job(&text[..n]);
+        let answer = jesmovit::read_job(&text[..n]);
         print_answer(answer);
     }
 }
