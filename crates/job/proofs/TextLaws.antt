@@ -53,6 +53,23 @@ kind-listed c table kind x xs w = elim (decLt kind (length table)) [
   | no h ↦ (let g : length table ≤ kind = omega arith in absurd (rw (List·getD-eq-default table [] {n = kind} g) at w))
 ]
 
+-- counts within the limits bound every field by a small number
+bound-small : (c : Counts) → c .facts ≤ 12 → c .formulas ≤ 255 → c .moves ≤ 64 → c .program ≤ 128 → (f : Field) → bound c f ≤ 65536
+bound-small c a b d e F.Unused = omega arith
+bound-small c a b d e F.Fact = omega arith
+bound-small c a b d e F.Formula = omega arith
+bound-small c a b d e F.Move = omega arith
+bound-small c a b d e F.Row = omega arith
+
+-- a row of a table of kinds: its fields pass, and its numbers are small
+abbrev KindText : Counts → List (List Field) → ℕ → List ℕ → Type 0
+KindText c table kind xs = (within c (getD table kind []) xs ≡ true) × Small (kind ∷ xs)
+
+kind-text : (c : Counts) (table : List (List Field)) → length table ≤ 65535 → ((f : Field) → bound c f ≤ 65536) → (kind x : ℕ) (xs : List ℕ)
+    → Within c (getD table kind []) (x ∷ xs) → KindText c table kind (x ∷ xs)
+kind-text c table t b kind x xs w =
+    (true-within c (getD table kind []) (x ∷ xs) w, (omega (arith, kind-listed c table kind x xs w), small-within c b (getD table kind []) (x ∷ xs) w))
+
 -- a line of right numbers is taken in
 module _ (k : Line) (rows effects : ℕ) (j : J.Job) (n a : ℕ) (ns : List ℕ) (rest : List (List ℕ)) where
   abbrev s : Reading
@@ -120,29 +137,35 @@ module _ {A : Type 0} (put : J.Job → A → J.Job) (mk : List A → J.Job) (sam
 abbrev made : J.Scalars → List J.Formula → List J.Move → List J.Effect → List J.Row → J.Job
 made sc fs ms es ps = record { scalars = sc; formulas = fs; moves = ms; effects = es; program = ps }
 
--- formulas
+-- a row's line where rows of its sort alone are counted: `after m` comes next with m of them due
+row-line : (k : Line) (after : ℕ → Line) (m n : ℕ) (j j′ : J.Job) (a : ℕ) (ns : List ℕ) (rest : List (List ℕ)) → after (suc m) ≡ k
+    → takenAt k (on k (suc m) 0 j) (a ∷ ns) ≡ on (after (suc m - 1)) (suc m - 1) 0 j′
+    → length (a ∷ ns) ≡ formOf k .width → Small (a ∷ ns)
+    → checks k (countsOf j) (a ∷ ns) .form ≡ true → checks k (countsOf j) (a ∷ ns) .range ≡ true → checks k (countsOf j) (a ∷ ns) .fields ≡ true
+    → readFrom n (on (after (suc m)) (suc m) 0 j) (lineOf k (a ∷ ns) ∷ rest) ≡ readFrom (n + 1) (on (after m) m 0 j′) rest
+row-line k after m n j j′ a ns rest d t w q x y z =
+    let e : suc m - 1 ≡ m = omega arith in
+    ap (λ l. readFrom n (on l (suc m) 0 j) (lineOf k (a ∷ ns) ∷ rest)) d
+    ∙ text-line k (suc m) 0 j n a ns rest w q x y z
+    ∙ ap (λ s. readFrom (n + 1) s rest) t
+    ∙ ap (λ i. readFrom (n + 1) (on (after i) i 0 j′) rest) e
+
+-- formulas and program rows
 abbrev FormulaText : J.Job → J.Formula → Type 0
-FormulaText j f = (within (countsOf j) (getD formulaFields (f .kind) []) (f .a ∷ f .b ∷ []) ≡ true) × Small (f .kind ∷ f .a ∷ f .b ∷ [])
+FormulaText j f = KindText (countsOf j) formulaFields (f .kind) (f .a ∷ f .b ∷ [])
 
 formula-step : (m n : ℕ) (j : J.Job) (f : J.Formula) (rest : List (List ℕ)) → FormulaText j f
     → readFrom n (on (afterFormulas (suc m)) (suc m) 0 j) (formulaLine f ∷ rest) ≡ readFrom (n + 1) (on (afterFormulas m) m 0 (J.addFormula j f)) rest
 formula-step m n j f rest q =
-    let e : suc m - 1 ≡ m = omega arith in
-    rw (ne-eqb (suc m) 0 (λ z. omega arith))
-    (text-line Formula (suc m) 0 j n (f .kind) (f .a ∷ f .b ∷ []) rest refl (q .1) refl refl (q .0)
-    ∙ ap (λ k. readFrom (n + 1) (on (afterFormulas k) k 0 (J.addFormula j f)) rest) e)
+    row-line Formula afterFormulas m n j (J.addFormula j f) (f .kind) (f .a ∷ f .b ∷ []) rest (rw (ne-eqb (suc m) 0 (λ z. omega arith))) refl refl (q .1) refl refl (q .0)
 
--- program rows
 abbrev RowText : J.Job → J.Row → Type 0
-RowText j r = (within (countsOf j) (getD rowFields (r .kind) []) (r .a ∷ r .b ∷ r .c ∷ []) ≡ true) × Small (r .kind ∷ r .a ∷ r .b ∷ r .c ∷ [])
+RowText j r = KindText (countsOf j) rowFields (r .kind) (r .a ∷ r .b ∷ r .c ∷ [])
 
 row-step : (m n : ℕ) (j : J.Job) (r : J.Row) (rest : List (List ℕ)) → RowText j r
     → readFrom n (on (afterRows (suc m)) (suc m) 0 j) (rowLine r ∷ rest) ≡ readFrom (n + 1) (on (afterRows m) m 0 (J.addRow j r)) rest
 row-step m n j r rest q =
-    let e : suc m - 1 ≡ m = omega arith in
-    rw (ne-eqb (suc m) 0 (λ z. omega arith))
-    (text-line Row (suc m) 0 j n (r .kind) (r .a ∷ r .b ∷ r .c ∷ []) rest refl (q .1) refl refl (q .0)
-    ∙ ap (λ k. readFrom (n + 1) (on (afterRows k) k 0 (J.addRow j r)) rest) e)
+    row-line Row afterRows m n j (J.addRow j r) (r .kind) (r .a ∷ r .b ∷ r .c ∷ []) rest (rw (ne-eqb (suc m) 0 (λ z. omega arith))) refl refl (q .1) refl refl (q .0)
 
 -- a move's effects
 abbrev EffectText : J.Job → J.Effect → Type 0
@@ -234,38 +257,23 @@ module _ (j : J.Job) (w : WellFormed j) where
   abbrev facts : ℕ
   facts = j .scalars .facts
 
-  bound-small : (c : Counts) → c .facts ≤ 12 → c .formulas ≤ 255 → c .moves ≤ 64 → c .program ≤ 128 → (f : Field) → bound c f ≤ 65536
-  bound-small c a b d e F.Unused = omega arith
-  bound-small c a b d e F.Fact = omega arith
-  bound-small c a b d e F.Formula = omega arith
-  bound-small c a b d e F.Move = omega arith
-  bound-small c a b d e F.Row = omega arith
-
   abbrev FormulaAt : ℕ → J.Formula → Type 0
-  FormulaAt i f = (within (beforeFormula facts i) (getD formulaFields (f .kind) []) (f .a ∷ f .b ∷ []) ≡ true) × Small (f .kind ∷ f .a ∷ f .b ∷ [])
+  FormulaAt i f = KindText (beforeFormula facts i) formulaFields (f .kind) (f .a ∷ f .b ∷ [])
 
   formula-texts : EveryFrom 0 FormulaAt (j .formulas)
   formula-texts = every-from (J.formulaOf []) FormulaAt (j .formulas) 0 (λ i h.
-      let f : J.Formula = getD (j .formulas) i (J.formulaOf []) in
-      let e : 0 + i ≡ i = omega arith in
-      let v : Within (beforeFormula facts (0 + i)) (getD formulaFields (f .kind) []) (f .a ∷ f .b ∷ []) = rw e (w .formula i h) in
-      let k = kind-listed (beforeFormula facts (0 + i)) formulaFields (f .kind) (f .a) (f .b ∷ []) v in (
-        true-within (beforeFormula facts (0 + i)) (getD formulaFields (f .kind) []) (f .a ∷ f .b ∷ []) v,
-        (omega (arith, k), small-within (beforeFormula facts (0 + i)) (bound-small _ (w .facts) (omega (arith, w .formulas)) (omega arith) (omega arith)) (getD formulaFields (f .kind) []) (f .a ∷ f .b ∷ []) v),
-      ))
+      let e : i ≡ 0 + i = omega arith in
+      subst (λ k. FormulaAt k (getD (j .formulas) i (J.formulaOf []))) e
+      (kind-text (beforeFormula facts i) formulaFields (omega arith) (bound-small _ (w .facts) (omega (arith, w .formulas)) (omega arith) (omega arith)) _ _ _ (w .formula i h)))
 
   abbrev RowAt : ℕ → J.Row → Type 0
-  RowAt i r = (within (beforeRow j i) (getD rowFields (r .kind) []) (r .a ∷ r .b ∷ r .c ∷ []) ≡ true) × Small (r .kind ∷ r .a ∷ r .b ∷ r .c ∷ [])
+  RowAt i r = KindText (beforeRow j i) rowFields (r .kind) (r .a ∷ r .b ∷ r .c ∷ [])
 
   row-texts : EveryFrom 0 RowAt (j .program)
   row-texts = every-from (J.rowOf []) RowAt (j .program) 0 (λ i h.
-      let r : J.Row = getD (j .program) i (J.rowOf []) in
-      let e : 0 + i ≡ i = omega arith in
-      let v : Within (beforeRow j (0 + i)) (getD rowFields (r .kind) []) (r .a ∷ r .b ∷ r .c ∷ []) = rw e (w .row i h) in
-      let k = kind-listed (beforeRow j (0 + i)) rowFields (r .kind) (r .a) (r .b ∷ r .c ∷ []) v in (
-        true-within (beforeRow j (0 + i)) (getD rowFields (r .kind) []) (r .a ∷ r .b ∷ r .c ∷ []) v,
-        (omega (arith, k), small-within (beforeRow j (0 + i)) (bound-small _ (w .facts) (w .formulas) (w .moves) (omega (arith, w .program))) (getD rowFields (r .kind) []) (r .a ∷ r .b ∷ r .c ∷ []) v),
-      ))
+      let e : i ≡ 0 + i = omega arith in
+      subst (λ k. RowAt k (getD (j .program) i (J.rowOf []))) e
+      (kind-text (beforeRow j i) rowFields (omega arith) (bound-small _ (w .facts) (w .formulas) (w .moves) (omega (arith, w .program))) _ _ _ (w .row i h)))
 
   effect-texts : All (P (j .scalars) (j .formulas) (w .formulas)) (j .effects)
   effect-texts = all-every (J.effectOf []) (P (j .scalars) (j .formulas) (w .formulas)) (j .effects) (λ i h.

@@ -6,11 +6,12 @@ use mathlib.Core.List.{List, [], _∷_, _++_}
 use lib.Dec.{ltb}
 use lib.ListN.{length}
 
--- a number's decimal digits, of which it has fewer than `most`
+-- a number's decimal digits, the last `most` of them
 unfoldable pub digitsWithin : ℕ → ℕ → List ℕ
 digitsWithin zero n = []
 digitsWithin (suc most) n = cond (ltb n 10) ((48 + n) ∷ []) (digitsWithin most (n / 10) ++ ((48 + n % 10) ∷ []))
 
+-- all of them: a number has no more digits than one more than itself
 abbrev pub decimal : ℕ → List ℕ
 decimal n = digitsWithin (suc n) n
 

@@ -100,7 +100,8 @@ fn is_done(p: Progress, out: &[u16]) -> bool
     }
 }
 
-// Fills a list with the numbers of a value that is to hold just as many, and answers whether its form is right.
+// Fills a list with the numbers of a value that is to hold just as many, and answers whether its form is right. Where it is wrong, nothing is said of
+// the list.
 pub fn read_numbers(value: &[u8], out: &mut [u16]) -> bool
     ensures { λ r. ⌜ answered r (now (out .exit)) ≡ numbers (length (now (out .entry))) (now (value .entry)) ⌝ }
 {
