@@ -4,7 +4,7 @@ ghost use mathlib.Core.List.{[], _∷_};
 ghost use Prim.Native.Nat.{_*_, _<_};
 ghost use lib.ListN.{length};
 ghost use lib.Seq.{sets};
-ghost use Rattle.job.specs.Store.{allRows};
+ghost use Rattle.job.specs.Store.{allRows, rowAt};
 
 // Where the moves, the effects and the program rows begin; the formulas come first.
 pub const MOVES: u16 = 255;
@@ -26,4 +26,26 @@ pub fn put_row(table: &mut [u16], i: u16, a: u16, b: u16, c: u16, d: u16)
     table[at + 1] = b;
     table[at + 2] = c;
     table[at + 3] = d;
+}
+
+// The numbers of a row.
+pub struct Quad {
+    pub a: u16,
+    pub b: u16,
+    pub c: u16,
+    pub d: u16,
+}
+
+// Row i of the table.
+pub fn row_at(table: &[u16], i: u16) -> Quad
+    requires { ⌜ (i < allRows) × (length (now table) ≡ allRows * 4) ⌝ }
+    ensures { λ r. ⌜ r .a ∷ r .b ∷ r .c ∷ r .d ∷ [] ≡ rowAt (now (table .entry)) i ⌝ }
+{
+    let at = (i as usize) * 4;
+    Quad {
+        a: table[at],
+        b: table[at + 1],
+        c: table[at + 2],
+        d: table[at + 3],
+    }
 }

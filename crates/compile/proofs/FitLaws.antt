@@ -1,0 +1,67 @@
+-- A program that fits has room for all of its steps.
+-- Assumes nothing.
+use Prim.Native.Nat.{ℕ, _+_, _-_, _*_, _≤_, min}
+use mathlib.Core.Path.{_≡_, refl, sym, _∙_, ap, subst}
+use mathlib.Core.Bool.{true}
+use mathlib.Core.List.{List}
+use native.Mathlib.Omega.{arith}
+use lib.Dec.{leb}
+use lib.ListN.{length}
+use lib.Seq.{sets}
+use borrow.Author.Tests.{leb-true}
+use Rattle.laws.proofs.Tests.{and-left, and-right}
+use Rattle.job.specs.Job.{Job, rowOf}
+use Rattle.job.specs.Store.{programAt, movesAt, storedMove, jobOf}
+use Rattle.job.specs.declared.head.Head.{Head}
+use Rattle.job.proofs.StoreLaws.{rows-length}
+use Rattle.semantics.specs.Program.{Program}
+use Rattle.semantics.specs.CompilingTable.{steps, flat}
+use Rattle.compile.specs.Program.{rowProgram, programOf}
+use Rattle.compile.specs.Size.{size, positionWeights, stepWeights, capped, positionCount, stepCount, fits}
+use Rattle.compile.specs.Laid.{Wrote, Room}
+use Rattle.compile.specs.declared.steps.Cursor.{Cursor}
+use Rattle.compile.proofs.SizeLaws.{end-size, steps-size}
+
+-- what fitting says
+module _ (j : Job) (e : fits j ≡ true) where
+  pub few-positions : positionCount j ≤ 256
+  unfolding fits
+  few-positions = leb-true _ _ (and-left (leb (positionCount j) 256) (leb (stepCount j) 1024) e)
+
+  pub few-steps : stepCount j ≤ 1024
+  unfolding fits
+  few-steps = leb-true _ _ (and-right (leb (positionCount j) 256) (leb (stepCount j) 1024) e)
+
+module _ (h : Head) (l : List ℕ) where
+  abbrev j : Job
+  j = jobOf h l
+
+  abbrev M : ℕ
+  M = h .counts .moves
+
+  same-moves : length (j .moves) ≡ M
+  same-moves = rows-length storedMove l movesAt M
+
+  -- the program is the last row
+  last-row : programOf j ≡ rowProgram (j .program) (h .counts .program - 1)
+  last-row = ap (λ (n : ℕ). rowProgram (j .program) (n - 1)) (rows-length rowOf l programAt (h .counts .program))
+
+  step-size : stepCount j ≡ size (stepWeights M) (programOf j)
+  step-size = ap (λ (m : ℕ). length (steps m (programOf j) 0)) same-moves ∙ steps-size M (programOf j) 0
+
+  pub measured : (x y : ℕ) → x ≡ capped (size positionWeights (programOf j)) → y ≡ capped (size (stepWeights M) (programOf j))
+      → (x + 1 ≡ min (positionCount j) 1026) × (y ≡ capped (stepCount j))
+  measured x y d e = (omega (arith, d, end-size (programOf j) 0), omega (arith, e, step-size))
+
+  abbrev start : Cursor
+  start = record { position = 0; at = 0 }
+
+  pub all-fit : (places : ℕ) → fits j ≡ true → stepCount j * 4 ≤ places → Room M (rowProgram (j .program) (h .counts .program - 1)) start places
+  all-fit places e g = subst (λ (σ : Program). Room M σ start places) last-row (record {
+    positions = omega (arith, few-positions j e, end-size (programOf j) 0);
+    room = omega (arith, g, step-size);
+  })
+
+  pub all-written : {old new : List ℕ} {to : Cursor} → Wrote M (rowProgram (j .program) (h .counts .program - 1)) old start new to
+      → new ≡ sets old 0 (flat (steps M (programOf j) 0))
+  all-written {old} {new} {to} w = w .laid .list ∙ ap (λ (σ : Program). sets old 0 (flat (steps M σ 0))) (sym last-row)

@@ -1,0 +1,25 @@
+-- Numbers laid over a list, and the steps of a program laid so.
+use Prim.Native.Nat.{ℕ, _+_, _*_, _≤_}
+use mathlib.Core.Path.{_≡_}
+use mathlib.Core.List.{List}
+use lib.ListN.{length}
+use lib.Seq.{sets}
+use Rattle.semantics.specs.Program.{Program}
+use Rattle.semantics.specs.CompilingTable.{end, steps, flat}
+use Rattle.compile.specs.Size.{size, positionWeights, stepWeights}
+use Rattle.compile.specs.declared.steps.Cursor.{Cursor}
+
+-- v over the list from a place on; then comes the next place
+pub record Laid (v old : List ℕ) (at : ℕ) (new : List ℕ) (next : ℕ) : Type 0 where
+  pub list : new ≡ sets old at v
+  pub place : next ≡ at + length v
+
+-- the steps of a program that is compiled from the cursor's position, at its place; then comes the cursor after them
+pub record Wrote (moves : ℕ) (σ : Program) (old : List ℕ) (from : Cursor) (new : List ℕ) (to : Cursor) : Type 0 where
+  pub laid : Laid (flat (steps moves σ (from .position))) old (from .at) new (to .at)
+  pub ends : to .position ≡ end σ (from .position)
+
+-- there are positions and places left for all of them
+pub record Room (moves : ℕ) (σ : Program) (from : Cursor) (places : ℕ) : Type 0 where
+  pub positions : from .position + size positionWeights σ ≤ 255
+  pub room : from .at + size (stepWeights moves) σ * 4 ≤ places

@@ -1,0 +1,4 @@
+pub mod Program
+pub mod Size
+pub mod Construct
+pub mod Laid

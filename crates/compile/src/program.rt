@@ -1,0 +1,81 @@
+// The compiler.
+ghost use mathlib.Core.Path.{_≡_};
+ghost use mathlib.Core.Bool.{true};
+ghost use Prim.Native.Nat.{ℕ, _+_, _*_, _≤_, _<_};
+ghost use lib.ListN.{length};
+ghost use lib.Seq.{sets};
+ghost use Rattle.job.specs.Store.{allRows, jobOf};
+ghost use Rattle.job.specs.WellFormed.{WellFormed};
+ghost use Rattle.semantics.specs.CompilingTable.{steps, flat};
+ghost use Rattle.compile.specs.Program.{rowProgram, programOf};
+ghost use Rattle.compile.specs.Size.{stepCount, fits};
+ghost use Rattle.compile.specs.Laid.{Wrote, Room};
+use crate::rows::Construct;
+use crate::steps::Cursor;
+use job::head::Head;
+
+// A cursor at the position after another's.
+fn behind(from: Cursor) -> Cursor
+    requires { ⌜ from .position < 65535 ⌝ }
+    ensures { λ r. ⌜ r ≡ record { position = from .position + 1; at = from .at } ⌝ }
+{
+    Cursor {
+        position: from.position + 1,
+        at: from.at,
+    }
+}
+
+// Writes the steps of row i, compiled from the cursor's position, at its place in the list.
+fn compile_row(head: Head, table: &[u16], i: u16, list: &mut [u16], from: Cursor) -> Cursor
+    requires { ⌜ length (now table) ≡ allRows * 4 ⌝ }
+    requires { ⌜ WellFormed (jobOf head (now table)) ⌝ }
+    requires { ⌜ i < head .counts .program ⌝ }
+    requires { ⌜ Room (head .counts .moves) (rowProgram (jobOf head (now table) .program) i) from (length (now list)) ⌝ }
+    ensures { λ r. ⌜ Wrote (head .counts .moves) (rowProgram (jobOf head (now (table .entry)) .program) i) (now (list .entry)) from (now (list .exit)) r ⌝ }
+{
+    let construct = crate::rows::construct_at(head, table, i);
+    let n = from.position;
+    match construct {
+        Construct::Nil => crate::steps::leaf_step(list, from, 0, 0),
+        Construct::Move(a) => crate::steps::leaf_step(list, from, 3, a),
+        Construct::Any => crate::steps::any_steps(list, from, head.counts.moves),
+        Construct::Test(a) => crate::steps::leaf_step(list, from, 1, a),
+        Construct::Seq(a, b) => {
+            let x = compile_row(head, table, a, list, from);
+            compile_row(head, table, b, list, x)
+        }
+        Construct::IfElse(a, b, c) => {
+            let x = compile_row(head, table, b, list, behind(from));
+            let y = compile_row(head, table, c, list, behind(x));
+            crate::steps::if_steps(list, y.at, n, x.position, y.position, a)
+        }
+        Construct::Choice(a, b) => {
+            let x = compile_row(head, table, a, list, behind(from));
+            let y = compile_row(head, table, b, list, behind(x));
+            crate::steps::choice_steps(list, y.at, n, x.position, y.position)
+        }
+        Construct::While(a, b) => {
+            let x = compile_row(head, table, b, list, behind(from));
+            crate::steps::while_steps(list, x.at, n, x.position, a)
+        }
+        Construct::Star(a) => {
+            let x = compile_row(head, table, a, list, behind(from));
+            crate::steps::star_steps(list, x.at, n, x.position)
+        }
+    }
+}
+
+// Writes the steps of the job's program over the front of the list.
+pub fn compile(head: Head, table: &[u16], list: &mut [u16])
+    requires { ⌜ length (now table) ≡ allRows * 4 ⌝ }
+    requires { ⌜ WellFormed (jobOf head (now table)) ⌝ }
+    requires { ⌜ (fits (jobOf head (now table)) ≡ true) × (stepCount (jobOf head (now table)) * 4 ≤ length (now list)) ⌝ }
+    ensures { λ _. ⌜ now (list .exit) ≡ sets (now (list .entry)) 0 (flat (steps (head .counts .moves) (programOf (jobOf head (now (table .entry)))) 0)) ⌝ }
+{
+    let start = Cursor {
+        position: 0,
+        at: 0,
+    };
+    let last = head.counts.program - 1;
+    let _ = compile_row(head, table, last, list, start);
+}

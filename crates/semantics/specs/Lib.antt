@@ -1,0 +1,11 @@
+pub mod Label
+pub mod Program
+pub mod Domain
+pub mod Transition
+pub mod CompilingTable
+pub mod Path
+pub mod Plan
+pub mod Verdict
+pub mod Agreement
+pub mod PositionSets
+pub mod CostTable

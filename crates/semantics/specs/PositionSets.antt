@@ -1,0 +1,77 @@
+-- The verdict on a list of moves as a function: "the set of positions that the recipe may be at", one mark a position, and "each move turns it into the next set".
+use Prim.Native.Nat.{ℕ, zero, suc, _+_}
+use mathlib.Core.Bool.{Bool, true, false, not, _&&_, _||_, cond}
+use mathlib.Core.Option.{none, some}
+use mathlib.Core.List.{List, [], _∷_}
+use lib.Dec.{eqb}
+use lib.ListN.{length, getD, set, replicate}
+use Rattle.semantics.specs.Label.{Label, noop, holds, fails, make}
+use Rattle.semantics.specs.Program.{Program}
+use Rattle.semantics.specs.Domain.{Domain}
+use Rattle.semantics.specs.CompilingTable.{Step, arc, end, steps}
+use Rattle.semantics.specs.Verdict.{Verdict, plan, blocked, unfinished, missed}
+
+-- T with the ends marked of all steps that pass the test and start at a mark of S
+unfoldable pub spread : (Label → Bool) → List Step → List Bool → List Bool → List Bool
+spread on [] S T = T
+spread on (arc l p q ∷ L) S T = spread on L S (cond (on l && getD S p false) (set T q true) T)
+
+-- so many rounds of it
+unfoldable pub close : (Label → Bool) → List Step → ℕ → List Bool → List Bool
+close on L zero S = S
+close on L (suc k) S = close on L k (spread on L S S)
+
+-- all that the steps lead to: as many rounds as there are positions
+abbrev pub closure : (Label → Bool) → List Step → List Bool → List Bool
+closure on L S = close on L (length S) S
+
+-- the labels of silent steps that can be made in a state
+unfoldable pub silentIn : Domain → ℕ → Label → Bool
+silentIn D s noop = true
+silentIn D s (holds a) = D .true-in a s
+silentIn D s (fails a) = not (D .true-in a s)
+silentIn D s (make a) = false
+
+unfoldable pub isMove : ℕ → Label → Bool
+isMove m noop = false
+isMove m (holds a) = false
+isMove m (fails a) = false
+isMove m (make a) = eqb a m
+
+unfoldable pub anyMark : List Bool → Bool
+anyMark [] = false
+anyMark (b ∷ S) = b || anyMark S
+
+-- position 0 of those up to e, and what silent steps lead to from it
+unfoldable pub firstSet : Domain → List Step → ℕ → ℕ → List Bool
+firstSet D L e s = closure (silentIn D s) L (set (replicate (suc e) false) 0 true)
+
+-- the positions after move m from those of S, in the state t that it leads to
+unfoldable pub nextSet : Domain → List Step → ℕ → ℕ → List Bool → List Bool
+nextSet D L t m S = closure (silentIn D t) L (spread (isMove m) L S (replicate (length S) false))
+
+-- a list's verdict, from that of the list without its first move, which costs c
+unfoldable pub onward : ℕ → Verdict → Verdict
+onward c (plan d) = plan (c + d)
+onward c (blocked i) = blocked (suc i)
+onward c unfinished = unfinished
+onward c missed = missed
+
+-- where all moves are made: the final position is reached or not, the goal holds or not
+unfoldable pub finished : Bool → Bool → Verdict
+finished complete goal = cond complete (cond goal (plan 0) missed) unfinished
+
+-- in state s, from the positions of S, where e is the final position
+unfoldable pub verdictFrom : Domain → List Step → ℕ → ℕ → List Bool → List ℕ → Verdict
+verdictFrom D L e s S [] = finished (getD S e false) (D .goal s)
+verdictFrom D L e s S (m ∷ ms) = elim (D .successor m s) [
+  | none ↦ blocked 0
+  | some t ↦ elim (anyMark (nextSet D L t m S)) [
+    | true ↦ onward (D .price m s) (verdictFrom D L e t (nextSet D L t m S) ms)
+    | false ↦ blocked 0
+  ]
+]
+
+unfoldable pub verdict : Domain → Program → List ℕ → Verdict
+verdict D σ ms =
+    verdictFrom D (steps (D .moves) σ 0) (end σ 0) (D .start) (firstSet D (steps (D .moves) σ 0) (end σ 0) (D .start)) ms
