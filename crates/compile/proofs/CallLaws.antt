@@ -97,9 +97,12 @@ module _ (h : Head) (l : List ℕ) where
             → (d .at + 16 ≤ z) × (from .position < 65535) × (c .position < 65535) × (d .position < 65535)
         branch-ok u =
             let v = wrote-end w in
-            let k = wrote-end u in
-            (omega (arith, e, room .room, s .sizes (stepWeights M), v .1, k .1), omega (arith, room .positions), branch-next,
-            omega (arith, room .positions, s .sizes positionWeights, v .0, k .0))
+            let k = wrote-end u in (
+              omega (arith, e, room .room, s .sizes (stepWeights M), v .1, k .1),
+              omega (arith, room .positions),
+              branch-next,
+              omega (arith, room .positions, s .sizes positionWeights, v .0, k .0),
+            )
 
     module _ (a : ℕ) {glue : ℕ → ℕ → List Step} (s : Loop M (of i) (of a) glue) where
       pub loop-part : a < i → (a < t) × Fit a (next from) places

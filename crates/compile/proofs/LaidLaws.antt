@@ -9,19 +9,10 @@ use lib.ListN.{length, length-append}
 use lib.Seq.{sets}
 use Rattle.laws.proofs.Lists.{sets-append}
 use Rattle.semantics.specs.Label.{Label, make}
+use Rattle.semantics.proofs.FlatLaws.{flat-append, flat-length}
 use Rattle.semantics.specs.CompilingTable.{Step, arc, flat, kindOf, argOf, moveSteps, branchSteps, whileSteps, starSteps}
 use Rattle.compile.specs.Laid.{Laid}
 use Rattle.compile.proofs.SizeLaws.{moves-count}
-
-pub flat-append : (K L : List Step) → flat (K ++ L) ≡ flat K ++ flat L
-unfolding flat
-flat-append [] L = refl
-flat-append (arc l p q ∷ K) L = ap (λ (r : List ℕ). kindOf l ∷ p ∷ q ∷ argOf l ∷ r) (flat-append K L)
-
-pub flat-length : (L : List Step) → length (flat L) ≡ length L * 4
-unfolding flat
-flat-length [] = refl
-flat-length (arc l p q ∷ L) = omega (arith, flat-length L)
 
 pub laid-none : (l : List ℕ) (at : ℕ) → Laid [] l at l at
 laid-none l at = record { list = refl; place = omega arith }

@@ -9,11 +9,12 @@ use lib.ListN.{length}
 use Rattle.semantics.specs.Label.{Label}
 use Rattle.semantics.specs.Program.{Program, any, seq}
 use Rattle.semantics.specs.CompilingTable.{Step, arc, end, steps, flat, kindOf, argOf, moveSteps, branchSteps}
+use Rattle.semantics.proofs.FlatLaws.{flat-append, flat-length}
 use Rattle.compile.specs.Size.{size, positionWeights, stepWeights}
 use Rattle.compile.specs.Laid.{Laid, Wrote}
 use Rattle.compile.specs.declared.steps.Cursor.{Cursor}
 use Rattle.compile.proofs.SizeLaws.{end-size, steps-size}
-use Rattle.compile.proofs.LaidLaws.{flat-append, flat-length, laid-append}
+use Rattle.compile.proofs.LaidLaws.{laid-append}
 use Rattle.compile.proofs.Shapes.{Leaf, Branch, Loop}
 
 -- one position on
@@ -50,7 +51,7 @@ module _ {M : ℕ} {old : List ℕ} {from : Cursor} where
   unfolding steps end
   wrote-seq {σ} {a} {b} {mid} {new} {x} {y} e u v =
       let v′ : Laid (flat (steps M b (end a (from .position)))) mid (x .at) new (y .at) =
-          subst (λ (p : ℕ). Laid (flat (steps M b p)) mid (x .at) new (y .at)) (u .ends) (v .laid) in
+      subst (λ (p : ℕ). Laid (flat (steps M b p)) mid (x .at) new (y .at)) (u .ends) (v .laid) in
       rw e (record {
         laid = rw (flat-append (steps M a (from .position)) (steps M b (end a (from .position)))) (laid-append (u .laid) v′);
         ends = v .ends ∙ ap (end b) (u .ends);
@@ -78,8 +79,8 @@ module _ {M : ℕ} {old : List ℕ} (from : Cursor) {a : Program} {l₁ : List �
       let f : v .position ≡ end b (suc n₁) = w .ends ∙ ap (end b) e in
       let w′ : Laid (flat (steps M b (suc n₁))) l₁ (x .at) l₂ (v .at) = subst (λ (k : ℕ). Laid (flat (steps M b k)) l₁ (x .at) l₂ (v .at)) e (w .laid) in
       let g′ : Laid (flat (branchSteps y z n n₁ (end b (suc n₁)))) l₂ (v .at) new (to .at) =
-          subst (λ (k : ℕ). Laid (flat (branchSteps y z n n₁ k)) l₂ (v .at) new (to .at)) f
-              (subst (λ (k : ℕ). Laid (flat (branchSteps y z n k (v .position))) l₂ (v .at) new (to .at)) first-end (g .0)) in
+      subst (λ (k : ℕ). Laid (flat (branchSteps y z n n₁ k)) l₂ (v .at) new (to .at)) f
+      (subst (λ (k : ℕ). Laid (flat (branchSteps y z n k (v .position))) l₂ (v .at) new (to .at)) first-end (g .0)) in
       record {
         laid = rw (s .made n, flat-append (steps M a (suc n) ++ steps M b (suc n₁)) (branchSteps y z n n₁ (end b (suc n₁))), flat-append (steps M a (suc n)) (steps M b (suc n₁)))
             (laid-append (laid-append first-laid w′) g′);

@@ -1,5 +1,5 @@
 // The compiler: from a job's program rows to the steps of the compiling table.
+pub mod program;
 pub mod rows;
 pub mod sizes;
 pub mod steps;
-pub mod program;

@@ -72,10 +72,7 @@ pub fn compile(head: Head, table: &[u16], list: &mut [u16])
     requires { ⌜ (fits (jobOf head (now table)) ≡ true) × (stepCount (jobOf head (now table)) * 4 ≤ length (now list)) ⌝ }
     ensures { λ _. ⌜ now (list .exit) ≡ sets (now (list .entry)) 0 (flat (steps (head .counts .moves) (programOf (jobOf head (now (table .entry)))) 0)) ⌝ }
 {
-    let start = Cursor {
-        position: 0,
-        at: 0,
-    };
+    let start = Cursor { position: 0, at: 0 };
     let last = head.counts.program - 1;
     let _ = compile_row(head, table, last, list, start);
 }

@@ -56,7 +56,16 @@ pub fn any_steps(list: &mut [u16], from: Cursor, moves: u16) -> Cursor
 }
 
 // The steps after two branches, which end at p and at q: entered by steps of kinds x and y with an argument.
-fn branch_steps(list: &mut [u16], at: usize, n: u16, p: u16, q: u16, x: u16, y: u16, arg: u16) -> Cursor
+fn branch_steps(
+    list: &mut [u16],
+    at: usize,
+    n: u16,
+    p: u16,
+    q: u16,
+    x: u16,
+    y: u16,
+    arg: u16,
+) -> Cursor
     requires { ⌜ (at + 16 ≤ length (now list)) × (n < 65535) × (p < 65535) × (q < 65535) ⌝ }
     ensures { λ r. ⌜ Laid (x ∷ n ∷ (n + 1) ∷ arg ∷ y ∷ n ∷ (p + 1) ∷ arg ∷ 0 ∷ p ∷ (q + 1) ∷ 0 ∷ 0 ∷ q ∷ (q + 1) ∷ 0 ∷ []) (now (list .entry)) at (now (list .exit)) (r .at) × (r .position ≡ q + 1) ⌝ }
 {

@@ -10,6 +10,13 @@ pub fn number(n: u64) {
     io::print_decimal(STDOUT_FILENO, n);
 }
 
+// A line of a key and a number.
+pub fn line(key: &[u8], n: u16) {
+    text(key);
+    number(n as u64);
+    text(b"\n");
+}
+
 pub fn refusal(r: Refusal) {
     text(b"refused=");
     number(r.number as u64);

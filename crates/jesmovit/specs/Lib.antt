@@ -1,1 +1,4 @@
 pub mod JobText
+pub mod Refusals
+pub mod Load
+pub mod Compiling

@@ -3,18 +3,12 @@ use console::print;
 use jesmovit::ReadAnswer;
 use job::head::Counts;
 
-fn print_line(key: &[u8], n: u16) {
-    print::text(key);
-    print::number(n as u64);
-    print::text(b"\n");
-}
-
 fn print_counts(c: Counts) {
-    print_line(b"facts=", c.facts);
-    print_line(b"formulas=", c.formulas);
-    print_line(b"moves=", c.moves);
-    print_line(b"effects=", c.effects);
-    print_line(b"program=", c.program);
+    print::line(b"facts=", c.facts);
+    print::line(b"formulas=", c.formulas);
+    print::line(b"moves=", c.moves);
+    print::line(b"effects=", c.effects);
+    print::line(b"program=", c.program);
 }
 
 fn print_answer(a: ReadAnswer) {

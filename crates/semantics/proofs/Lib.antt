@@ -20,3 +20,4 @@ pub mod FirstSet
 pub mod SetVerdict
 pub mod CheckLaws
 pub mod CostTableLaws
+pub mod FlatLaws

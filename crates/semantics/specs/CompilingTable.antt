@@ -1,6 +1,9 @@
 -- "Compiling table": the steps of a program that is compiled from position n, and the position e where it ends.
 use Prim.Native.Nat.{ℕ, zero, suc}
+use mathlib.Core.Bool.{cond}
 use mathlib.Core.List.{List, [], _∷_, _++_}
+use lib.Dec.{eqb}
+use lib.ListN.{getD, drop}
 use Rattle.semantics.specs.Label.{Label, noop, holds, fails, make}
 use Rattle.semantics.specs.Program.{Program, nil, move, any, test, seq, ifElse, choice, while, star}
 
@@ -69,3 +72,11 @@ argOf (make a) = a
 unfoldable pub flat : List Step → List ℕ
 flat [] = []
 flat (arc l from to ∷ L) = kindOf l ∷ from ∷ to ∷ argOf l ∷ flat L
+
+-- the same read back: the first n steps that a list holds
+abbrev pub labelIn : ℕ → ℕ → Label
+labelIn kind arg = cond (eqb kind 0) noop (cond (eqb kind 1) (holds arg) (cond (eqb kind 2) (fails arg) (make arg)))
+
+unfoldable pub stepsIn : ℕ → List ℕ → List Step
+stepsIn zero l = []
+stepsIn (suc n) l = arc (labelIn (getD l 0 0) (getD l 3 0)) (getD l 1 0) (getD l 2 0) ∷ stepsIn n (drop 4 l)

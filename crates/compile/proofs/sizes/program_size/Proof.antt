@@ -35,8 +35,8 @@ sub-entry c = omega (arith, program-rows (c .before .before .before .before .arg
 returns : tie.Need-returns Inv-loop μ-loop
 returns c = let e : c .before .before .before .loop .i ≡ c .before .before .before .before .before .args .head .counts .program = omega (arith, c .before .before .before .loop .inv .0, c .before .before .loop-test .left) in
     c .entry .ensures ∙ sized-last (c .before .before .before .before .before .args .w) (jobOf (c .before .before .before .before .before .args .head) (c .before .before .before .before .before .args .table .now)) (c .before .before .before .before .before .args .head .counts .program) (c .before .before .before .loop .sizes)
-        (sym (rows-length rowOf (c .before .before .before .before .before .args .table .now) programAt (c .before .before .before .before .before .args .head .counts .program))) (program-rows (c .before .before .before .before .before .args .head) (c .before .before .before .before .before .args .table .now) (c .before .before .before .before .before .pre .1) .0)
-        (subst (λ (k : ℕ). Sized (c .before .before .before .before .before .args .w) (jobOf (c .before .before .before .before .before .args .head) (c .before .before .before .before .before .args .table .now) .program) k (c .before .before .before .loop .sizes)) e (c .before .before .before .loop .inv .2))
+    (sym (rows-length rowOf (c .before .before .before .before .before .args .table .now) programAt (c .before .before .before .before .before .args .head .counts .program))) (program-rows (c .before .before .before .before .before .args .head) (c .before .before .before .before .before .args .table .now) (c .before .before .before .before .before .pre .1) .0)
+    (subst (λ (k : ℕ). Sized (c .before .before .before .before .before .args .w) (jobOf (c .before .before .before .before .before .args .head) (c .before .before .before .before .before .args .table .now) .program) k (c .before .before .before .loop .sizes)) e (c .before .before .before .loop .inv .2))
 
 pub program-size-spec : {M : Type 1} → statement M
 program-size-spec =

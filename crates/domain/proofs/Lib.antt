@@ -1,0 +1,8 @@
+pub mod FoldLaws
+pub mod FactLaws
+pub mod ValueLaws
+pub mod EffectLaws
+pub mod CostLaws
+pub mod StoreLaws
+pub mod SuccessorLaws
+pub mod DomainLaws

@@ -1,0 +1,50 @@
+-- The domain of a job: its states are worlds of its facts.
+use Prim.Native.Nat.{ℕ}
+use mathlib.Core.Path.{_≡_}
+use mathlib.Core.Bool.{Bool, false, cond}
+use mathlib.Core.Option.{Option, none, some}
+use mathlib.Core.List.{List, []}
+use lib.Dec.{ltb}
+use lib.ListN.{length, getD, take, drop}
+use Rattle.job.specs.StateCount.{stateCount}
+use Rattle.job.specs.Job.{Job, Move, Effect, moveOf, effectOf}
+use Rattle.semantics.specs.Domain.{Domain}
+use Rattle.domain.specs.World.{values, affected}
+use Rattle.domain.specs.Cost.{classCost}
+
+abbrev pub moveAt : Job → ℕ → Move
+moveAt j m = getD (j .moves) m (moveOf 0 [])
+
+abbrev pub effectAt : Job → ℕ → Effect
+effectAt j k = getD (j .effects) k (effectOf [])
+
+-- the lines `e=` of a move
+abbrev pub effectsOf : Job → Move → List Effect
+effectsOf j x = take (x .count) (drop (x .first) (j .effects))
+
+unfoldable pub holdsIn : Job → ℕ → ℕ → Bool
+holdsIn j a w = getD (values w (j .formulas)) a false
+
+-- "A move can be made where its precondition holds."
+unfoldable pub successorOf : Job → ℕ → ℕ → Option ℕ
+successorOf j m w =
+    let x = moveAt j m in
+    cond (ltb m (length (j .moves))) (cond (holdsIn j (x .pre) w) (some (affected (j .formulas) (effectsOf j x) w)) none) none
+
+unfoldable pub priceOf : Job → ℕ → ℕ → ℕ
+priceOf j m w = classCost (moveAt j m .class)
+
+abbrev pub domainOf : Job → Domain
+domainOf j = record {
+  states = stateCount (j .scalars .facts);
+  start = j .scalars .init;
+  moves = length (j .moves);
+  successor = successorOf j;
+  true-in = holdsIn j;
+  price = priceOf j;
+  goal = holdsIn j (j .scalars .goal);
+}
+
+-- a list of truth values that tells each formula's in a state
+abbrev pub Tells : Job → ℕ → List Bool → Type 0
+Tells j w vs = (a : ℕ) → getD vs a false ≡ domainOf j .true-in a w

@@ -1,0 +1,4 @@
+pub mod World
+pub mod Cost
+pub mod Domain
+pub mod Successor

@@ -1,0 +1,52 @@
+// Effects of moves on a state.
+ghost use mathlib.Core.Path.{_≡_};
+ghost use Prim.Native.Nat.{_+_, _*_, _≤_, _<_};
+ghost use lib.ListN.{length, take, drop};
+ghost use Rattle.job.specs.StateCount.{stateCount};
+ghost use Rattle.job.specs.Store.{allRows, jobOf};
+ghost use Rattle.job.specs.WellFormed.{WellFormed};
+ghost use Rattle.domain.specs.World.{afterEffect, applied};
+ghost use Rattle.domain.specs.Domain.{effectAt};
+use job::head::Head;
+use job::rows::EFFECTS;
+
+// The state after effect k, where it holds by the formulas' values and gives its fact the value v.
+fn apply_effect(head: Head, table: &[u16], values: &[bool], v: u16, k: u16, state: u16) -> u16
+    requires { ⌜ length (now table) ≡ allRows * 4 ⌝ }
+    requires { ⌜ WellFormed (jobOf head (now table)) ⌝ }
+    requires { ⌜ (k < head .counts .effects) × (state < stateCount (head .counts .facts)) ⌝ }
+    ensures { λ r. ⌜ r ≡ afterEffect (now (values .entry)) v state (effectAt (jobOf head (now (table .entry))) k) ⌝ }
+{
+    let row = job::rows::row_at(table, EFFECTS + k);
+    if crate::formulas::value_at(values, row.a) {
+        if row.c == v {
+            return crate::facts::put_fact(state, row.b, v);
+        }
+        return state;
+    }
+    state
+}
+
+// The state after so many effects from number `first` on, of which those are made that hold by the formulas' values and give their fact the value v.
+pub fn apply_effects(
+    head: Head,
+    table: &[u16],
+    values: &[bool],
+    v: u16,
+    first: u16,
+    count: u16,
+    state: u16,
+) -> u16
+    requires { ⌜ length (now table) ≡ allRows * 4 ⌝ }
+    requires { ⌜ WellFormed (jobOf head (now table)) ⌝ }
+    requires { ⌜ (first + count ≤ head .counts .effects) × (state < stateCount (head .counts .facts)) ⌝ }
+    ensures { λ r. ⌜ r ≡ applied (now (values .entry)) v (take count (drop first (jobOf head (now (table .entry)) .effects))) state ⌝ }
+{
+    let mut reached = state;
+    let mut k: u16 = 0;
+    while k < count {
+        reached = apply_effect(head, table, values, v, first + k, reached);
+        k += 1;
+    }
+    reached
+}

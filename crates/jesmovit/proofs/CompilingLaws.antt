@@ -1,0 +1,75 @@
+-- Compiling: refused as loading refuses, or by 6, or done.
+-- Assumes nothing.
+use Prim.Native.Nat.{ℕ, _+_, _*_, _≤_, _<_}
+use mathlib.Core.Path.{_≡_, refl, sym, _∙_, ap}
+use mathlib.Core.Bool.{Bool, true, false, cond}
+use mathlib.Core.List.{List}
+use native.Mathlib.Omega.{arith}
+use lib.Dec.{leb}
+use lib.ListN.{length}
+use lib.Seq.{sets}
+use borrow.Author.Tests.{le-leb, lt-leb}
+use Rattle.job.specs.Job.{Job}
+use Rattle.job.specs.Store.{jobOf, movesAt, storedMove}
+use Rattle.job.specs.WellFormed.{WellFormed}
+use Rattle.job.specs.declared.head.Head.{Head}
+use Rattle.job.specs.declared.head.Refusal.{Refusal}
+use Rattle.job.proofs.StoreLaws.{rows-length}
+use Rattle.semantics.specs.CompilingTable.{steps, flat}
+use Rattle.compile.specs.Program.{programOf}
+use Rattle.compile.specs.Size.{positionCount, stepCount, fits}
+use Rattle.compile.specs.declared.sizes.Sizes.{Sizes}
+use Rattle.jesmovit.specs.Refusals.{Checked, passed, refused, next, jobIn, listNeed, listLong}
+use Rattle.jesmovit.specs.Load.{checkedOf, Measured, refusalOf}
+use Rattle.jesmovit.specs.Compiling.{compiling, compileAnswer, listAfter}
+use Rattle.jesmovit.specs.declared.load.Loaded.{Loaded}
+use Rattle.jesmovit.specs.declared.compiling.CompileAnswer.{CompileAnswer}
+use Rattle.jesmovit.proofs.LoadLaws.{passed-right}
+
+-- the post of the operation
+abbrev Post : List ℕ → List ℕ → CompileAnswer → List ℕ → Type 0
+Post text list answer after = (answer ≡ compileAnswer (compiling text (length list))) × (after ≡ listAfter (compiling text (length list)) list)
+
+done : (text list : List ℕ) (c : Checked) → c ≡ compiling text (length list) → Post text list (compileAnswer c) (listAfter c list)
+done text list c f = (ap compileAnswer f, ap (λ (x : Checked). listAfter x list) f)
+
+module _ (text table list : List ℕ) (a : Loaded) (e : checkedOf a table ≡ jobIn text) where
+  -- what loading refuses
+  pub compile-refused : {q r : Refusal} → a ≡ Loaded.Refused q → r ≡ refusalOf a → Post text list (CompileAnswer.Refused r) list
+  unfolding compiling
+  compile-refused {q} {r} g f =
+      let x : refused (r .number) (r .place) ≡ jobIn text =
+      ap (λ (x : Refusal). refused (x .number) (x .place)) (f ∙ ap refusalOf g) ∙ ap (λ (x : Loaded). checkedOf x table) (sym g) ∙ e in
+      done text list (refused (r .number) (r .place)) (ap (λ (x : Checked). next x (listLong (length list))) x)
+
+  module _ (h : Head) (s : Sizes) (g : a ≡ Loaded.Ready h s) (m : Measured a table) where
+    abbrev j : Job
+    j = jobOf h table
+
+    passes : passed j ≡ jobIn text
+    passes = ap (λ (x : Loaded). checkedOf x table) (sym g) ∙ e
+
+    sized : (s .positions ≡ positionCount j) × (s .steps ≡ stepCount j)
+    sized = rw g at m
+
+    right : WellFormed j × (fits j ≡ true)
+    right = passed-right text j (sym passes)
+
+    lists : (b : Bool) → leb (listNeed j) (length list) ≡ b → cond b (passed j) (refused 6 (listNeed j)) ≡ compiling text (length list)
+    unfolding compiling
+    lists b f = ap (λ (x : Bool). cond x (passed j) (refused 6 (listNeed j))) (sym f) ∙ ap (λ (x : Checked). next x (listLong (length list))) passes
+
+    pub compile-short : length list < s .steps * 4 → Post text list (CompileAnswer.Refused (record { number = 6; place = s .steps * 4 })) list
+    compile-short l = rw (sized .1) (done text list (refused 6 (listNeed j)) (lists false (lt-leb (listNeed j) (length list) (omega (arith, sized .1)))))
+
+    module _ (l : s .steps * 4 ≤ length list) where
+      pub compile-ready : WellFormed j × ((fits j ≡ true) × (stepCount j * 4 ≤ length list))
+      compile-ready = (right .0, (right .1, omega (arith, sized .1)))
+
+      pub compile-done : {after : List ℕ} → after ≡ sets list 0 (flat (steps (h .counts .moves) (programOf j) 0))
+          → Post text list (CompileAnswer.Compiled (s .positions) (s .steps)) after
+      compile-done {after} f =
+          let x = done text list (passed j) (lists true (le-leb (listNeed j) (length list) (omega (arith, sized .1)))) in (
+            rw (sized .0, sized .1) (x .0),
+            f ∙ ap (λ (n : ℕ). sets list 0 (flat (steps n (programOf j) 0))) (sym (rows-length storedMove table movesAt (h .counts .moves))) ∙ x .1,
+          )

@@ -1,0 +1,3 @@
+pub mod LoadLaws
+pub mod CompilingLaws
+pub mod Agreement
