@@ -35,6 +35,7 @@ fn compile_row(head: Head, table: &[u16], i: u16, list: &mut [u16], from: Cursor
 {
     let construct = crate::rows::construct_at(head, table, i);
     let n = from.position;
+    let inner = behind(from);
     match construct {
         Construct::Nil => crate::steps::leaf_step(list, from, 0, 0),
         Construct::Move(a) => crate::steps::leaf_step(list, from, 3, a),
@@ -45,22 +46,22 @@ fn compile_row(head: Head, table: &[u16], i: u16, list: &mut [u16], from: Cursor
             compile_row(head, table, b, list, x)
         }
         Construct::IfElse(a, b, c) => {
-            let x = compile_row(head, table, b, list, behind(from));
+            let x = compile_row(head, table, b, list, inner);
             let y = compile_row(head, table, c, list, behind(x));
             crate::steps::if_steps(list, y.at, n, x.position, y.position, a)
         }
         Construct::Choice(a, b) => {
-            let x = compile_row(head, table, a, list, behind(from));
+            let x = compile_row(head, table, a, list, inner);
             let y = compile_row(head, table, b, list, behind(x));
             crate::steps::choice_steps(list, y.at, n, x.position, y.position)
         }
         Construct::While(a, b) => {
-            let x = compile_row(head, table, b, list, behind(from));
-            crate::steps::while_steps(list, x.at, n, x.position, a)
+            let body = compile_row(head, table, b, list, inner);
+            crate::steps::while_steps(list, body.at, n, body.position, a)
         }
         Construct::Star(a) => {
-            let x = compile_row(head, table, a, list, behind(from));
-            crate::steps::star_steps(list, x.at, n, x.position)
+            let body = compile_row(head, table, a, list, inner);
+            crate::steps::star_steps(list, body.at, n, body.position)
         }
     }
 }

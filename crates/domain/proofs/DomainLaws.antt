@@ -13,7 +13,7 @@ use Rattle.job.specs.WellFormed.{WellFormed}
 use Rattle.semantics.specs.Domain.{Bounded}
 use Rattle.domain.specs.World.{affected}
 use Rattle.domain.specs.Cost.{mostCost}
-use Rattle.domain.specs.Domain.{moveAt, effectsOf, holdsIn, successorOf, priceOf, domainOf}
+use Rattle.domain.specs.Domain.{moveAt, effectsOf, holdsIn, successorOf, costIn, domainOf}
 use Rattle.domain.proofs.CostLaws.{cost-within}
 use Rattle.domain.proofs.EffectLaws.{affected-below}
 
@@ -23,8 +23,8 @@ let-through P true o f t e = f t e
 let-through P false o f t e = let z : _≡_ {A = ℕ} 0 1 = cc in absurd (omega arith)
 
 pub domain-bounded : (j : Job) → WellFormed j → Bounded (domainOf j) mostCost
-unfolding successorOf priceOf
-domain-bounded j k = record { start = k .init; successors = stays; prices = λ m w. cost-within (moveAt j m .class) }
+unfolding successorOf costIn
+domain-bounded j k = record { start = k .init; successors = stays; costs = λ m w. cost-within (moveAt j m .class) }
   where
     stays : (m w t : ℕ) → w < stateCount (j .scalars .facts) → successorOf j m w ≡ some t → t < stateCount (j .scalars .facts)
     stays m w t h e =

@@ -13,7 +13,7 @@ use Rattle.job.specs.StateCount.{stateCount}
 use Rattle.job.specs.Job.{Job, Formula, Effect, effectOf}
 use Rattle.job.specs.WellFormed.{WellFormed}
 use Rattle.domain.specs.World.{putFact, afterEffect, applied, affected}
-use Rattle.domain.proofs.FoldLaws.{fold-more, fold-keeps}
+use Rattle.laws.proofs.Folds.{fold-more, fold-keeps}
 use Rattle.domain.proofs.FactLaws.{put-below}
 use Rattle.domain.proofs.ValueLaws.{Same}
 

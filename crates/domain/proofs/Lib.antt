@@ -1,4 +1,3 @@
-pub mod FoldLaws
 pub mod FactLaws
 pub mod ValueLaws
 pub mod EffectLaws

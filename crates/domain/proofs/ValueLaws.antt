@@ -11,7 +11,7 @@ use lib.Seq.{take-all, length-take-le, getD-set-same, getD-set-other, getD-at}
 use Rattle.laws.proofs.Growing.{grown-length}
 use Rattle.job.specs.Job.{Formula, formulaOf}
 use Rattle.domain.specs.World.{value, values}
-use Rattle.domain.proofs.FoldLaws.{fold-more}
+use Rattle.laws.proofs.Folds.{fold-more}
 
 -- two lists of values that tell the same
 abbrev pub Same : List Bool → List Bool → Type 0

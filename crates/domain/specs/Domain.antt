@@ -31,8 +31,8 @@ successorOf j m w =
     let x = moveAt j m in
     cond (ltb m (length (j .moves))) (cond (holdsIn j (x .pre) w) (some (affected (j .formulas) (effectsOf j x) w)) none) none
 
-unfoldable pub priceOf : Job → ℕ → ℕ → ℕ
-priceOf j m w = classCost (moveAt j m .class)
+unfoldable pub costIn : Job → ℕ → ℕ → ℕ
+costIn j m w = classCost (moveAt j m .class)
 
 abbrev pub domainOf : Job → Domain
 domainOf j = record {
@@ -40,11 +40,11 @@ domainOf j = record {
   start = j .scalars .init;
   moves = length (j .moves);
   successor = successorOf j;
-  true-in = holdsIn j;
-  price = priceOf j;
+  holds = holdsIn j;
+  cost = costIn j;
   goal = holdsIn j (j .scalars .goal);
 }
 
 -- a list of truth values that tells each formula's in a state
 abbrev pub Tells : Job → ℕ → List Bool → Type 0
-Tells j w vs = (a : ℕ) → getD vs a false ≡ domainOf j .true-in a w
+Tells j w vs = (a : ℕ) → getD vs a false ≡ domainOf j .holds a w

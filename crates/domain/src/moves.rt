@@ -50,11 +50,11 @@ pub fn successor(head: Head, table: &[u16], values: &[bool], m: u16, state: u16)
 }
 
 // What move m costs in a state.
-pub fn price(head: Head, table: &[u16], m: u16, state: u16) -> u16
+pub fn cost(head: Head, table: &[u16], m: u16, state: u16) -> u16
     requires { ⌜ length (now table) ≡ allRows * 4 ⌝ }
     requires { ⌜ WellFormed (jobOf head (now table)) ⌝ }
     requires { ⌜ m < head .counts .moves ⌝ }
-    ensures { λ r. ⌜ (r ≡ domainOf (jobOf head (now (table .entry))) .price m state) × (r ≤ mostCost) ⌝ }
+    ensures { λ r. ⌜ (r ≡ domainOf (jobOf head (now (table .entry))) .cost m state) × (r ≤ mostCost) ⌝ }
 {
     let row = job::rows::row_at(table, MOVES + m);
     let class = row.b as usize;

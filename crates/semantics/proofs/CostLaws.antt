@@ -11,7 +11,7 @@ use Rattle.semantics.specs.Domain.{Domain}
 use Rattle.semantics.specs.Path.{Does, idles, passes, refutes, moves-on}
 use Rattle.semantics.specs.Plan.{cost, Least}
 
-pub cost-first : (D : Domain) (s t m : ℕ) (ms : List ℕ) → D .successor m s ≡ some t → cost D s (m ∷ ms) ≡ D .price m s + cost D t ms
+pub cost-first : (D : Domain) (s t m : ℕ) (ms : List ℕ) → D .successor m s ≡ some t → cost D s (m ∷ ms) ≡ D .cost m s + cost D t ms
 unfolding cost
 cost-first D s t m ms made = rw (made, cost)
 

@@ -49,7 +49,7 @@ module _ (D : Domain) (L : List Step) (e : ℕ) where
       on : {u q : ℕ} {ks : List ℕ} → Reach D L s S (m ∷ ks) u q → Reach D L t (nextSet D L t m S) ks u q
       on {u} {q} {ks} x = let v = reach-after D L r x in let e : v .0 ≡ t = cc (v .1) in subst (λ (z : ℕ). Reach D L z (nextSet D L z m S) ks u q) e (v .2)
 
-      judged-onward : (v : Verdict) → Judged D (bySet D L e t (nextSet D L t m S)) ms v → Judged D (bySet D L e s S) (m ∷ ms) (onward (D .price m s) v)
+      judged-onward : (v : Verdict) → Judged D (bySet D L e t (nextSet D L t m S)) ms v → Judged D (bySet D L e s S) (m ∷ ms) (onward (D .cost m s) v)
       unfolding bySet onward
       judged-onward v (is-plan {u} x g) = subst (λ (c : ℕ). Judged D (bySet D L e s S) (m ∷ ms) (plan c)) (cost-first D s t m ms made) (is-plan {u = u} (back x) g)
       judged-onward v (is-blocked {i} {u} h x f) = is-blocked {i = suc i} {u = u} (omega arith) (x .0, back (x .1)) (λ w y. f w (y .0, on (y .1)))
@@ -66,7 +66,7 @@ module _ (D : Domain) (L : List Step) (e : ℕ) where
     verdict-stuck t h k = rw (h, verdictFrom, k)
 
     pub verdict-onward : (t : ℕ) → D .successor m s ≡ some t → anyMark (nextSet D L t m S) ≡ true
-        → verdictFrom D L e s S (m ∷ ms) ≡ onward (D .price m s) (verdictFrom D L e t (nextSet D L t m S) ms)
+        → verdictFrom D L e s S (m ∷ ms) ≡ onward (D .cost m s) (verdictFrom D L e t (nextSet D L t m S) ms)
     unfolding verdictFrom
     verdict-onward t h k = rw (h, verdictFrom, k)
 

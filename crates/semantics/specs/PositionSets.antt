@@ -28,8 +28,8 @@ closure on L S = close on L (length S) S
 -- the labels of silent steps that can be made in a state
 unfoldable pub silentIn : Domain → ℕ → Label → Bool
 silentIn D s noop = true
-silentIn D s (holds a) = D .true-in a s
-silentIn D s (fails a) = not (D .true-in a s)
+silentIn D s (holds a) = D .holds a s
+silentIn D s (fails a) = not (D .holds a s)
 silentIn D s (make a) = false
 
 unfoldable pub isMove : ℕ → Label → Bool
@@ -67,7 +67,7 @@ verdictFrom D L e s S [] = finished (getD S e false) (D .goal s)
 verdictFrom D L e s S (m ∷ ms) = elim (D .successor m s) [
   | none ↦ blocked 0
   | some t ↦ elim (anyMark (nextSet D L t m S)) [
-    | true ↦ onward (D .price m s) (verdictFrom D L e t (nextSet D L t m S) ms)
+    | true ↦ onward (D .cost m s) (verdictFrom D L e t (nextSet D L t m S) ms)
     | false ↦ blocked 0
   ]
 ]

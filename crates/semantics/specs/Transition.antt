@@ -15,20 +15,20 @@ pub data Transition (D : Domain) : ℕ → Program → List ℕ → ℕ → Prog
   -- (5) "any: the same for some one move"
   any-moves : {a s t : ℕ} → a < D .moves → D .successor a s ≡ some t → Transition D s any (a ∷ []) t nil
   -- (6) "test a: nil is left where formula a holds"
-  tests : {a s : ℕ} → D .true-in a s ≡ true → Transition D s (test a) [] s nil
+  tests : {a s : ℕ} → D .holds a s ≡ true → Transition D s (test a) [] s nil
   -- (7) "a then b: a step of a, with b kept behind it"
   seq-steps : {a a′ b : Program} {s t : ℕ} {ms : List ℕ} → Transition D s a ms t a′ → Transition D s (seq a b) ms t (seq a′ b)
   -- (8) "nil then b becomes b"
   seq-passes : {b : Program} {s : ℕ} → Transition D s (seq nil b) [] s b
   -- (9) "if a then b else c: b where formula a holds, otherwise c"
-  if-then : {a s : ℕ} {b c : Program} → D .true-in a s ≡ true → Transition D s (ifElse a b c) [] s b
-  if-else : {a s : ℕ} {b c : Program} → D .true-in a s ≡ false → Transition D s (ifElse a b c) [] s c
+  if-then : {a s : ℕ} {b c : Program} → D .holds a s ≡ true → Transition D s (ifElse a b c) [] s b
+  if-else : {a s : ℕ} {b c : Program} → D .holds a s ≡ false → Transition D s (ifElse a b c) [] s c
   -- (10) "a or b: a, or b"
   choice-left : {a b : Program} {s : ℕ} → Transition D s (choice a b) [] s a
   choice-right : {a b : Program} {s : ℕ} → Transition D s (choice a b) [] s b
   -- (11) "while a do b: b then this same while where formula a holds, otherwise nil"
-  while-does : {a s : ℕ} {b : Program} → D .true-in a s ≡ true → Transition D s (while a b) [] s (seq b (while a b))
-  while-ends : {a s : ℕ} {b : Program} → D .true-in a s ≡ false → Transition D s (while a b) [] s nil
+  while-does : {a s : ℕ} {b : Program} → D .holds a s ≡ true → Transition D s (while a b) [] s (seq b (while a b))
+  while-ends : {a s : ℕ} {b : Program} → D .holds a s ≡ false → Transition D s (while a b) [] s nil
   -- (12) "star of a: nil, or a then this same star"
   star-ends : {a : Program} {s : ℕ} → Transition D s (star a) [] s nil
   star-does : {a : Program} {s : ℕ} → Transition D s (star a) [] s (seq a (star a))

@@ -1,11 +1,11 @@
 use native.Mathlib.Omega.{arith}
 use Rattle.domain.specs.Cost.{classCost}
-use Rattle.domain.specs.Domain.{priceOf}
+use Rattle.domain.specs.Domain.{costIn}
 use Rattle.domain.proofs.CostLaws.{cost-within}
 use Rattle.domain.proofs.StoreLaws.{move-row, move-class, counts-within}
 use borrow.Author.Needs.{needs}
-use Rattle.domain.proofs.moves.price.Statement.{statement}
-use Rattle.domain.proofs.moves.price.Tie as tie
+use Rattle.domain.proofs.moves.cost.Statement.{statement}
+use Rattle.domain.proofs.moves.cost.Tie as tie
 
 add-row-at : tie.Need-add-row-at
 add-row-at c =
@@ -26,13 +26,13 @@ array-read-result c =
     omega (arith, move-class (a .head) (a .table .now) (p .1 .0) (a .m) (p .1 .1) (c .before .row-at .ensures))
 
 returns : tie.Need-returns
-unfolding priceOf classCost
+unfolding costIn classCost
 returns c =
     let a = c .before .before .before .args in
     let p = c .before .before .before .pre in
     let row = move-row (a .head) (a .table .now) (a .m) (p .1 .1) (c .before .row-at .ensures) in
     (rw (← row), cost-within (c .before .row-at .result .b))
 
-pub price-spec : {M : Type 1} → statement M
-price-spec =
+pub cost-spec : {M : Type 1} → statement M
+cost-spec =
     tie.close (tie.spec add-row-at row-at-requires (λ c. search needs) (λ c. search needs) array-read-result returns)
