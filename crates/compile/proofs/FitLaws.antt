@@ -1,7 +1,7 @@
 -- A program that fits has room for all of its steps.
 -- Assumes nothing.
 use Prim.Native.Nat.{ℕ, _+_, _-_, _*_, _≤_, min}
-use mathlib.Core.Path.{_≡_, refl, sym, _∙_, ap, subst}
+use mathlib.Core.Path.{_≡_, sym, _∙_, ap, subst}
 use mathlib.Core.Bool.{true}
 use mathlib.Core.List.{List}
 use native.Mathlib.Omega.{arith}
@@ -9,7 +9,7 @@ use lib.Dec.{leb}
 use lib.ListN.{length}
 use lib.Seq.{sets}
 use borrow.Author.Tests.{leb-true}
-use Rattle.laws.proofs.Tests.{and-left, and-right}
+use Rattle.laws.proofs.Tests.{and-left}
 use Rattle.job.specs.Job.{Job, rowOf}
 use Rattle.job.specs.Store.{programAt, movesAt, storedMove, jobOf}
 use Rattle.job.specs.declared.head.Head.{Head}
@@ -22,15 +22,9 @@ use Rattle.compile.specs.Laid.{Wrote, Room}
 use Rattle.compile.specs.declared.steps.Cursor.{Cursor}
 use Rattle.compile.proofs.SizeLaws.{end-size, steps-size}
 
--- what fitting says
-module _ (j : Job) (e : fits j ≡ true) where
-  pub few-positions : positionCount j ≤ 256
-  unfolding fits
-  few-positions = leb-true _ _ (and-left (leb (positionCount j) 256) (leb (stepCount j) 1024) e)
-
-  pub few-steps : stepCount j ≤ 1024
-  unfolding fits
-  few-steps = leb-true _ _ (and-right (leb (positionCount j) 256) (leb (stepCount j) 1024) e)
+few-positions : (j : Job) → fits j ≡ true → positionCount j ≤ 256
+unfolding fits
+few-positions j e = leb-true _ _ (and-left (leb (positionCount j) 256) (leb (stepCount j) 1024) e)
 
 module _ (h : Head) (l : List ℕ) where
   abbrev j : Job

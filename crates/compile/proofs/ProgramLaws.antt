@@ -1,13 +1,13 @@
 -- The program of a row is built from those of the rows that it refers to.
 -- Assumes nothing.
-use Prim.Native.Nat.{ℕ, _+_, _*_, _≤_, _<_}
-use mathlib.Core.Path.{_≡_, refl, sym, _∙_, ap, subst}
+use Prim.Native.Nat.{ℕ, _+_, _≤_, _<_}
+use mathlib.Core.Path.{_≡_, sym, _∙_, ap, subst}
 use mathlib.Core.List.{List, [], _∷_}
 use native.Mathlib.Omega.{arith}
 use lib.ListN.{length, getD, take}
 use Rattle.laws.proofs.Tests.{past}
 use Rattle.laws.proofs.Growing.{grown-front, grown-at}
-use Rattle.job.specs.Job.{Job, Row, rowOf}
+use Rattle.job.specs.Job.{Row, rowOf}
 use Rattle.job.specs.Fields.{rowFields, Within}
 use Rattle.job.specs.Store.{programAt, rowAt, jobOf}
 use Rattle.job.specs.WellFormed.{WellFormed, beforeRow}

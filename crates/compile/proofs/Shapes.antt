@@ -4,7 +4,7 @@ use Prim.Native.Nat.{ℕ, suc, _+_}
 use mathlib.Core.Path.{_≡_, refl}
 use mathlib.Core.List.{List, [], _∷_, _++_}
 use Rattle.semantics.specs.Label.{Label, noop, holds, fails, make}
-use Rattle.semantics.specs.Program.{Program, nil, move, any, test, seq, ifElse, choice, while, star}
+use Rattle.semantics.specs.Program.{Program, nil, move, test, ifElse, choice, while, star}
 use Rattle.semantics.specs.CompilingTable.{Step, arc, end, steps, branchSteps, whileSteps, starSteps}
 use Rattle.compile.specs.Size.{size}
 use Rattle.compile.specs.declared.sizes.Weights.{Weights}

@@ -1,14 +1,13 @@
 -- A row's steps are written where those of its parts and then its own are.
 -- Assumes nothing.
 use Prim.Native.Nat.{ℕ, suc, _+_, _*_}
-use mathlib.Core.Path.{_≡_, refl, sym, _∙_, ap, subst}
+use mathlib.Core.Path.{_≡_, sym, _∙_, ap, subst}
 use mathlib.Core.List.{List, [], _∷_, _++_}
 use native.Mathlib.Omega.{arith}
 use native.Mathlib.Numerals.{add-one}
-use lib.ListN.{length}
 use Rattle.semantics.specs.Label.{Label}
 use Rattle.semantics.specs.Program.{Program, any, seq}
-use Rattle.semantics.specs.CompilingTable.{Step, arc, end, steps, flat, kindOf, argOf, moveSteps, branchSteps}
+use Rattle.semantics.specs.CompilingTable.{Step, end, steps, flat, kindOf, argOf, moveSteps, branchSteps}
 use Rattle.semantics.proofs.FlatLaws.{flat-append, flat-length}
 use Rattle.compile.specs.Size.{size, positionWeights, stepWeights}
 use Rattle.compile.specs.Laid.{Laid, Wrote}

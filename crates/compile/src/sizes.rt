@@ -1,6 +1,6 @@
 // Sizes of program rows, capped so that rows which double each other neither overflow nor take long.
 ghost use mathlib.Core.Path.{_≡_};
-ghost use Prim.Native.Nat.{ℕ, _+_, _-_, _*_, _≤_, _<_, min};
+ghost use Prim.Native.Nat.{_+_, _-_, _*_, _<_, min};
 ghost use lib.ListN.{length, getD};
 ghost use Rattle.job.specs.Store.{allRows, jobOf};
 ghost use Rattle.job.specs.WellFormed.{WellFormed};

@@ -1,7 +1,7 @@
 // The steps of the compiling table's rows, four numbers each, written into a lent list.
 ghost use mathlib.Core.Path.{_≡_};
 ghost use mathlib.Core.List.{[], _∷_};
-ghost use Prim.Native.Nat.{ℕ, _+_, _*_, _≤_, _<_};
+ghost use Prim.Native.Nat.{_+_, _*_, _≤_, _<_};
 ghost use lib.ListN.{length};
 ghost use Rattle.semantics.specs.Label.{noop, holds, fails};
 ghost use Rattle.semantics.specs.CompilingTable.{flat, moveSteps, branchSteps, whileSteps, starSteps};

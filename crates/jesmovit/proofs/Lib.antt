@@ -1,3 +1,4 @@
 pub mod LoadLaws
 pub mod CompilingLaws
 pub mod Agreement
+pub mod Examples

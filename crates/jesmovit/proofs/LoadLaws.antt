@@ -1,13 +1,11 @@
 -- Loading: what is read is refused by 4, or handed on with its sizes.
 -- Assumes nothing.
-use Prim.Native.Nat.{ℕ, _+_, _≤_, _<_, min}
+use Prim.Native.Nat.{ℕ, _≤_, _<_, min}
 use mathlib.Core.Path.{_≡_, refl, sym, _∙_, ap}
-use mathlib.Core.Bool.{Bool, true, false, cond, _&&_}
+use mathlib.Core.Bool.{Bool, true, false, cond}
 use mathlib.Core.List.{List}
 use native.Mathlib.Omega.{arith}
-use lib.Dec.{leb}
 use borrow.Author.Tests.{le-leb, lt-leb}
-use Rattle.laws.proofs.Tests.{never}
 use Rattle.job.specs.Job.{Job}
 use Rattle.job.specs.ReadJob as R
 use Rattle.job.specs.ReadJob.{readJob}
@@ -19,9 +17,8 @@ use Rattle.job.specs.declared.head.Refusal.{Refusal}
 use Rattle.job.specs.declared.reading.Answer.{Answer}
 use Rattle.job.proofs.ReadLaws.{accepted-well-formed}
 use Rattle.compile.specs.Size.{capped, positionCount, stepCount, fits}
-use Rattle.compile.specs.declared.sizes.Sizes.{Sizes}
-use Rattle.jesmovit.specs.Refusals.{Checked, passed, refused, limits, jobIn}
-use Rattle.jesmovit.specs.Load.{checkedOf, Measured}
+use Rattle.jesmovit.specs.Refusals.{passed, refused, limits, jobIn}
+use Rattle.jesmovit.specs.Load.{checkedOf}
 use Rattle.jesmovit.specs.declared.load.Loaded.{Loaded}
 
 -- fitting, as two comparisons

@@ -1,0 +1,42 @@
+-- Small texts, compiled by the definition: the sample, and examples of refusals 4 and 6.
+-- Assumes nothing.
+use Prim.Native.Nat.{ℕ}
+use mathlib.Core.Path.{_≡_, refl}
+use mathlib.Core.List.{List, [], _∷_}
+use Rattle.text.specs.Bytes.{bytes}
+use Rattle.text.specs.Lines.{lines, hasKey, valueOf}
+use Rattle.text.specs.Numbers.{byteRead, numbers}
+use Rattle.job.specs.Line.{rowNumbers}
+use Rattle.job.specs.Fault.{fault}
+use Rattle.job.specs.ReadJob.{taken, ended, readFrom, readJob}
+use Rattle.semantics.specs.CompilingTable.{end, steps, flat}
+use Rattle.compile.specs.Program.{build, programs}
+use Rattle.compile.specs.Size.{fits}
+use Rattle.jesmovit.specs.Refusals.{refused, jobIn}
+use Rattle.jesmovit.specs.Compiling.{compiling, compileAnswer, listAfter}
+use Rattle.jesmovit.specs.declared.compiling.CompileAnswer.{CompileAnswer}
+
+unfoldable sample : List ℕ
+unfolding bytes
+sample =
+    bytes "job=1\nfacts=2\ninit=0\nformulas=4\nf=1,0,0\nf=2,0,0\nf=2,1,0\nf=3,1,0\nmoves=2\nm=0,3,1\ne=0,1,1\nm=2,1,1\ne=0,0,1\ngoal=1\nprogram=3\np=1,0,0,0\np=1,1,0,0\np=4,0,1,0\n"
+
+-- "`positions=3` `steps=2` `s=3,0,1,0` `s=3,1,2,1`"
+compiles-sample : compileAnswer (compiling sample 9) ≡ CompileAnswer.Compiled 3 2
+unfolding sample bytes lines hasKey valueOf byteRead numbers rowNumbers fault taken ended readFrom readJob end steps build programs fits jobIn compiling
+compiles-sample = refl
+
+-- with a later entry, which does not change
+fills-list : listAfter (compiling sample 9) (7 ∷ 7 ∷ 7 ∷ 7 ∷ 7 ∷ 7 ∷ 7 ∷ 7 ∷ 7 ∷ []) ≡ 3 ∷ 0 ∷ 1 ∷ 0 ∷ 3 ∷ 1 ∷ 2 ∷ 1 ∷ 7 ∷ []
+unfolding sample bytes lines hasKey valueOf byteRead numbers rowNumbers fault taken ended readFrom readJob end steps flat build programs fits jobIn compiling
+fills-list = refl
+
+-- a list that is one place too short
+refuses-list : compiling sample 7 ≡ refused 6 8
+unfolding sample bytes lines hasKey valueOf byteRead numbers rowNumbers fault taken ended readFrom readJob end steps build programs fits jobIn compiling
+refuses-list = refl
+
+-- "`p=1,0,0,0`, then `p=4,k,k,0` for k from 0 to 7: 257 positions"
+refuses-positions : jobIn (bytes "job=1\nfacts=0\ninit=0\nformulas=1\nf=1,0,0\nmoves=1\nm=0,0,0\ngoal=0\nprogram=9\np=1,0,0,0\np=4,0,0,0\np=4,1,1,0\np=4,2,2,0\np=4,3,3,0\np=4,4,4,0\np=4,5,5,0\np=4,6,6,0\np=4,7,7,0\n") ≡ refused 4 18
+unfolding bytes lines hasKey valueOf byteRead numbers rowNumbers fault taken ended readFrom readJob end steps build programs fits jobIn
+refuses-positions = refl
