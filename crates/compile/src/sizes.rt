@@ -48,8 +48,8 @@ fn construct_size(construct: Construct, sizes: &[u16], w: Weights) -> u16
         Construct::Any => capped(w.any, 0, 0),
         Construct::Test(_) => 1,
         Construct::Seq(a, b) => capped(entry(sizes, a), entry(sizes, b), 0),
-        Construct::IfElse(_, b, c) => { capped(entry(sizes, b), entry(sizes, c), w.branch) }
-        Construct::Choice(a, b) => { capped(entry(sizes, a), entry(sizes, b), w.branch) }
+        Construct::IfElse(_, b, c) => capped(entry(sizes, b), entry(sizes, c), w.branch),
+        Construct::Choice(a, b) => capped(entry(sizes, a), entry(sizes, b), w.branch),
         Construct::While(_, b) => capped(entry(sizes, b), 0, w.repeat),
         Construct::Star(a) => capped(entry(sizes, a), 0, w.repeat),
     }
