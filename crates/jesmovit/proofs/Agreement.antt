@@ -1,4 +1,4 @@
--- Demand 2: what the list holds after compiling has just the plans that the program allows.
+-- Demand 2: the compiled job of an accepted text has just the plans that its program allows, and the list holds that compiled job.
 -- Assumes nothing.
 use Prim.Native.Nat.{ℕ, _-_, _≤_}
 use mathlib.Core.Path.{_≡_, sym, _∙_, ap, subst}
@@ -17,21 +17,25 @@ use Rattle.compile.specs.Size.{positionCount, stepCount}
 use Rattle.jesmovit.specs.Refusals.{Checked, passed, next, jobIn, listNeed, listLong}
 use Rattle.jesmovit.specs.Compiling.{compiling, stepsOf, listAfter}
 
-module _ (text : List ℕ) (j : Job) (accepted : jobIn text ≡ passed j) (list : List ℕ) (long : listNeed j ≤ length list) where
-  abbrev after : List ℕ
-  after = listAfter (compiling text (length list)) list
-
-  compiles : compiling text (length list) ≡ passed j
-  unfolding compiling
-  compiles = ap (λ (c : Checked). next c (listLong (length list))) accepted ∙ rw (le-leb (listNeed j) (length list) long)
-
-  -- the list holds the compiled job
-  pub list-holds : stepsIn (stepCount j) after ≡ stepsOf j
-  list-holds = ap (λ (c : Checked). stepsIn (stepCount j) (listAfter c list)) compiles ∙ laid-back (stepsOf j) list long
-
+module _ (text : List ℕ) (j : Job) (accepted : jobIn text ≡ passed j) where
   -- "a plan of the compiled job, bookkeeping dropped, is allowed by the program on the original job, and every allowed plan comes from one"
-  pub compiled-plans-agree : Agrees (domainOf j) (programOf j) (stepsIn (stepCount j) after) (positionCount j - 1)
-  compiled-plans-agree =
+  pub accepted-plans-agree : Agrees (domainOf j) (programOf j) (stepsOf j) (positionCount j - 1)
+  accepted-plans-agree =
       let e : end (programOf j) 0 ≡ positionCount j - 1 = omega arith in
-      subst (λ (L : List Step). Agrees (domainOf j) (programOf j) L (positionCount j - 1)) (sym list-holds)
-      (subst (λ (q : ℕ). Agrees (domainOf j) (programOf j) (stepsOf j) q) e (agreement (domainOf j) (programOf j)))
+      subst (λ (q : ℕ). Agrees (domainOf j) (programOf j) (stepsOf j) q) e (agreement (domainOf j) (programOf j))
+
+  -- a list that is long enough
+  module _ (list : List ℕ) (long : listNeed j ≤ length list) where
+    abbrev after : List ℕ
+    after = listAfter (compiling text (length list)) list
+
+    compiles : compiling text (length list) ≡ passed j
+    unfolding compiling
+    compiles = ap (λ (c : Checked). next c (listLong (length list))) accepted ∙ rw (le-leb (listNeed j) (length list) long)
+
+    pub list-holds : stepsIn (stepCount j) after ≡ stepsOf j
+    list-holds = ap (λ (c : Checked). stepsIn (stepCount j) (listAfter c list)) compiles ∙ laid-back (stepsOf j) list long
+
+    -- the same of the steps that it holds after compiling
+    pub compiled-plans-agree : Agrees (domainOf j) (programOf j) (stepsIn (stepCount j) after) (positionCount j - 1)
+    compiled-plans-agree = subst (λ (L : List Step). Agrees (domainOf j) (programOf j) L (positionCount j - 1)) (sym list-holds) accepted-plans-agree
