@@ -17,7 +17,8 @@ use Rattle.job.proofs.StoreLaws.{rows-length}
 use Rattle.semantics.specs.Program.{Program}
 use Rattle.semantics.specs.CompilingTable.{steps, flat}
 use Rattle.compile.specs.Program.{rowProgram, programOf}
-use Rattle.compile.specs.Size.{size, positionWeights, stepWeights, capped, positionCount, stepCount, fits}
+use Rattle.compile.specs.CompiledJob.{stepsOf, positionCount, stepCount, fits}
+use Rattle.compile.specs.Size.{size, positionWeights, stepWeights, capped}
 use Rattle.compile.specs.Laid.{Wrote, Room}
 use Rattle.compile.specs.declared.steps.Cursor.{Cursor}
 use Rattle.compile.proofs.SizeLaws.{end-size, steps-size}
@@ -57,5 +58,6 @@ module _ (h : Head) (l : List ℕ) where
   })
 
   pub all-written : {old new : List ℕ} {to : Cursor} → Wrote M (rowProgram (j .program) (h .counts .program - 1)) old start new to
-      → new ≡ sets old 0 (flat (steps M (programOf j) 0))
-  all-written {old} {new} {to} w = w .laid .list ∙ ap (λ (σ : Program). sets old 0 (flat (steps M σ 0))) (sym last-row)
+      → new ≡ sets old 0 (flat (stepsOf j))
+  all-written {old} {new} {to} w =
+      w .laid .list ∙ ap (λ (σ : Program). sets old 0 (flat (steps M σ 0))) (sym last-row) ∙ ap (λ (m : ℕ). sets old 0 (flat (steps m (programOf j) 0))) (sym same-moves)

@@ -1,4 +1,5 @@
 pub mod Program
+pub mod CompiledJob
 pub mod Size
 pub mod Construct
 pub mod Laid

@@ -6,9 +6,9 @@ ghost use lib.ListN.{length};
 ghost use lib.Seq.{sets};
 ghost use Rattle.job.specs.Store.{allRows, jobOf};
 ghost use Rattle.job.specs.WellFormed.{WellFormed};
-ghost use Rattle.semantics.specs.CompilingTable.{steps, flat};
-ghost use Rattle.compile.specs.Program.{rowProgram, programOf};
-ghost use Rattle.compile.specs.Size.{stepCount, fits};
+ghost use Rattle.semantics.specs.CompilingTable.{flat};
+ghost use Rattle.compile.specs.Program.{rowProgram};
+ghost use Rattle.compile.specs.CompiledJob.{stepsOf, stepCount, fits};
 ghost use Rattle.compile.specs.Laid.{Wrote, Room};
 use crate::rows::Construct;
 use crate::steps::Cursor;
@@ -71,7 +71,7 @@ pub fn compile(head: Head, table: &[u16], list: &mut [u16])
     requires { ⌜ length (now table) ≡ allRows * 4 ⌝ }
     requires { ⌜ WellFormed (jobOf head (now table)) ⌝ }
     requires { ⌜ (fits (jobOf head (now table)) ≡ true) × (stepCount (jobOf head (now table)) * 4 ≤ length (now list)) ⌝ }
-    ensures { λ _. ⌜ now (list .exit) ≡ sets (now (list .entry)) 0 (flat (steps (head .counts .moves) (programOf (jobOf head (now (table .entry)))) 0)) ⌝ }
+    ensures { λ _. ⌜ now (list .exit) ≡ sets (now (list .entry)) 0 (flat (stepsOf (jobOf head (now (table .entry))))) ⌝ }
 {
     let start = Cursor { position: 0, at: 0 };
     let last = head.counts.program - 1;

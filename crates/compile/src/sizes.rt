@@ -5,7 +5,8 @@ ghost use lib.ListN.{length, getD};
 ghost use Rattle.job.specs.Store.{allRows, jobOf};
 ghost use Rattle.job.specs.WellFormed.{WellFormed};
 ghost use Rattle.compile.specs.Program.{programOf};
-ghost use Rattle.compile.specs.Size.{size, capped as cap, sizeIn, positionCount, stepCount};
+ghost use Rattle.compile.specs.CompiledJob.{positionCount, stepCount};
+ghost use Rattle.compile.specs.Size.{size, capped as cap, sizeIn};
 use crate::rows::Construct;
 use job::head::Head;
 

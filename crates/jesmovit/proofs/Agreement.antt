@@ -13,9 +13,9 @@ use Rattle.semantics.proofs.Agreement.{agreement}
 use Rattle.semantics.proofs.FlatLaws.{laid-back}
 use Rattle.domain.specs.Domain.{domainOf}
 use Rattle.compile.specs.Program.{programOf}
-use Rattle.compile.specs.Size.{positionCount, stepCount}
+use Rattle.compile.specs.CompiledJob.{stepsOf, positionCount, stepCount}
 use Rattle.jesmovit.specs.Refusals.{Checked, passed, next, jobIn, listNeed, listLong}
-use Rattle.jesmovit.specs.Compiling.{compiling, stepsOf, listAfter}
+use Rattle.jesmovit.specs.Compiling.{compiling, listAfter}
 
 module _ (text : List ℕ) (j : Job) (accepted : jobIn text ≡ passed j) where
   -- "a plan of the compiled job, bookkeeping dropped, is allowed by the program on the original job, and every allowed plan comes from one"
@@ -29,7 +29,7 @@ module _ (text : List ℕ) (j : Job) (accepted : jobIn text ≡ passed j) where
     abbrev after : List ℕ
     after = listAfter (compiling text (length list)) list
 
-    compiles : compiling text (length list) ≡ passed j
+    pub compiles : compiling text (length list) ≡ passed j
     unfolding compiling
     compiles = ap (λ (c : Checked). next c (listLong (length list))) accepted ∙ rw (le-leb (listNeed j) (length list) long)
 

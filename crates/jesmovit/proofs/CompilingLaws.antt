@@ -10,14 +10,12 @@ use lib.ListN.{length}
 use lib.Seq.{sets}
 use borrow.Author.Tests.{le-leb, lt-leb}
 use Rattle.job.specs.Job.{Job}
-use Rattle.job.specs.Store.{jobOf, movesAt, storedMove}
+use Rattle.job.specs.Store.{jobOf}
 use Rattle.job.specs.WellFormed.{WellFormed}
 use Rattle.job.specs.declared.head.Head.{Head}
 use Rattle.job.specs.declared.head.Refusal.{Refusal}
-use Rattle.job.proofs.StoreLaws.{rows-length}
-use Rattle.semantics.specs.CompilingTable.{steps, flat}
-use Rattle.compile.specs.Program.{programOf}
-use Rattle.compile.specs.Size.{positionCount, stepCount, fits}
+use Rattle.semantics.specs.CompilingTable.{flat}
+use Rattle.compile.specs.CompiledJob.{stepsOf, positionCount, stepCount, fits}
 use Rattle.compile.specs.declared.sizes.Sizes.{Sizes}
 use Rattle.jesmovit.specs.Refusals.{Checked, passed, refused, next, jobIn, listNeed, listLong}
 use Rattle.jesmovit.specs.Load.{checkedOf, Measured, refusalOf}
@@ -66,10 +64,7 @@ module _ (text table list : List ℕ) (a : Loaded) (e : checkedOf a table ≡ jo
       pub compile-ready : WellFormed j × ((fits j ≡ true) × (stepCount j * 4 ≤ length list))
       compile-ready = (right .0, (right .1, omega (arith, sized .1)))
 
-      pub compile-done : {after : List ℕ} → after ≡ sets list 0 (flat (steps (h .counts .moves) (programOf j) 0))
-          → Post text list (CompileAnswer.Compiled (s .positions) (s .steps)) after
+      pub compile-done : {after : List ℕ} → after ≡ sets list 0 (flat (stepsOf j)) → Post text list (CompileAnswer.Compiled (s .positions) (s .steps)) after
       compile-done {after} f =
-          let x = done text list (passed j) (lists true (le-leb (listNeed j) (length list) (omega (arith, sized .1)))) in (
-            rw (sized .0, sized .1) (x .0),
-            f ∙ ap (λ (n : ℕ). sets list 0 (flat (steps n (programOf j) 0))) (sym (rows-length storedMove table movesAt (h .counts .moves))) ∙ x .1,
-          )
+          let x = done text list (passed j) (lists true (le-leb (listNeed j) (length list) (omega (arith, sized .1)))) in
+          (rw (sized .0, sized .1) (x .0), f ∙ x .1)

@@ -11,7 +11,7 @@ use Rattle.job.specs.Fault.{fault}
 use Rattle.job.specs.ReadJob.{taken, ended, readFrom, readJob}
 use Rattle.semantics.specs.CompilingTable.{end, steps, flat}
 use Rattle.compile.specs.Program.{build, programs}
-use Rattle.compile.specs.Size.{fits}
+use Rattle.compile.specs.CompiledJob.{fits}
 use Rattle.jesmovit.specs.Refusals.{refused, jobIn}
 use Rattle.jesmovit.specs.Compiling.{compiling, compileAnswer, listAfter}
 use Rattle.jesmovit.specs.declared.compiling.CompileAnswer.{CompileAnswer}

@@ -16,7 +16,8 @@ use Rattle.job.specs.declared.head.Head.{Head}
 use Rattle.job.specs.declared.head.Refusal.{Refusal}
 use Rattle.job.specs.declared.reading.Answer.{Answer}
 use Rattle.job.proofs.ReadLaws.{accepted-well-formed}
-use Rattle.compile.specs.Size.{capped, positionCount, stepCount, fits}
+use Rattle.compile.specs.CompiledJob.{positionCount, stepCount, fits}
+use Rattle.compile.specs.Size.{capped}
 use Rattle.jesmovit.specs.Refusals.{passed, refused, limits, jobIn}
 use Rattle.jesmovit.specs.Load.{checkedOf}
 use Rattle.jesmovit.specs.declared.load.Loaded.{Loaded}

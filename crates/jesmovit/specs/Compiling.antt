@@ -1,12 +1,9 @@
 -- What compiling a job text answers, and what the list then holds.
 use Prim.Native.Nat.{ℕ}
 use mathlib.Core.List.{List}
-use lib.ListN.{length}
 use lib.Seq.{sets}
-use Rattle.job.specs.Job.{Job}
-use Rattle.semantics.specs.CompilingTable.{Step, steps, flat}
-use Rattle.compile.specs.Program.{programOf}
-use Rattle.compile.specs.Size.{positionCount, stepCount}
+use Rattle.semantics.specs.CompilingTable.{flat}
+use Rattle.compile.specs.CompiledJob.{stepsOf, positionCount, stepCount}
 use Rattle.jesmovit.specs.Refusals as C
 use Rattle.jesmovit.specs.Refusals.{Checked, next, jobIn, listLong}
 use Rattle.jesmovit.specs.declared.compiling.CompileAnswer.{CompileAnswer}
@@ -15,10 +12,6 @@ use Rattle.jesmovit.specs.declared.compiling.CompileAnswer.the-variants.
 -- the job that is compiled into a list of so many places, or the refusal
 unfoldable pub compiling : List ℕ → ℕ → Checked
 compiling text places = next (jobIn text) (listLong places)
-
--- the compiled job
-abbrev pub stepsOf : Job → List Step
-stepsOf j = steps (length (j .moves)) (programOf j) 0
 
 abbrev pub compileAnswer : Checked → CompileAnswer
 compileAnswer (C.passed j) = Compiled (positionCount j) (stepCount j)

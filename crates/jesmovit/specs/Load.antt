@@ -4,7 +4,7 @@ use mathlib.Core.Path.{_≡_}
 use mathlib.Core.List.{List}
 use Rattle.job.specs.Store.{jobOf}
 use Rattle.job.specs.declared.head.Refusal.{Refusal}
-use Rattle.compile.specs.Size.{positionCount, stepCount}
+use Rattle.compile.specs.CompiledJob.{positionCount, stepCount}
 use Rattle.jesmovit.specs.Refusals as C
 use Rattle.jesmovit.specs.Refusals.{Checked}
 use Rattle.jesmovit.specs.declared.load.Loaded.{Loaded}

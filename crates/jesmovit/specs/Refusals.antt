@@ -6,7 +6,7 @@ use lib.Dec.{leb}
 use Rattle.job.specs.Job.{Job}
 use Rattle.job.specs.ReadJob as R
 use Rattle.job.specs.ReadJob.{Outcome, readJob}
-use Rattle.compile.specs.Size.{stepCount, fits}
+use Rattle.compile.specs.CompiledJob.{stepCount, fits}
 
 -- a job that no reason refuses so far, or the refusal's number and place
 pub data Checked : Type 0 where

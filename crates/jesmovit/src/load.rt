@@ -17,7 +17,7 @@ pub enum Loaded {
 }
 
 // The refusal that an answer is; number 0 where it is none.
-pub fn refusal(a: Loaded) -> Refusal
+pub(crate) fn refusal(a: Loaded) -> Refusal
     ensures { λ r. ⌜ r ≡ refusalOf a ⌝ }
 {
     match a {
@@ -30,7 +30,7 @@ pub fn refusal(a: Loaded) -> Refusal
 }
 
 // Reasons 1 to 4.
-pub fn load(text: &[u8], table: &mut [u16]) -> Loaded
+pub(crate) fn load(text: &[u8], table: &mut [u16]) -> Loaded
     requires { ⌜ length (now table) ≡ allRows * 4 ⌝ }
     ensures { λ r. ⌜ (checkedOf r (now (table .exit)) ≡ jobIn (now (text .entry))) × Measured r (now (table .exit)) ⌝ }
 {

@@ -1,0 +1,23 @@
+-- The compiled job of a job, and its limits.
+use Prim.Native.Nat.{ℕ, _+_}
+use mathlib.Core.Bool.{Bool, _&&_}
+use mathlib.Core.List.{List}
+use lib.Dec.{leb}
+use lib.ListN.{length}
+use Rattle.job.specs.Job.{Job}
+use Rattle.semantics.specs.CompilingTable.{Step, end, steps}
+use Rattle.compile.specs.Program.{programOf}
+
+-- "The recipe starts at 0; its end is the final position."
+abbrev pub stepsOf : Job → List Step
+stepsOf j = steps (length (j .moves)) (programOf j) 0
+
+abbrev pub positionCount : Job → ℕ
+positionCount j = end (programOf j) 0 + 1
+
+abbrev pub stepCount : Job → ℕ
+stepCount j = length (stepsOf j)
+
+-- "At most 256 positions and 1,024 steps."
+unfoldable pub fits : Job → Bool
+fits j = leb (positionCount j) 256 && leb (stepCount j) 1024
