@@ -22,7 +22,7 @@ pub enum Construct {
     Star(u16),
 }
 
-// Row i of the job's program.
+// Row i of the job's program, whose numbers are kind, a, b and c.
 pub fn construct_at(head: Head, table: &[u16], i: u16) -> Construct
     requires { ⌜ length (now table) ≡ allRows * 4 ⌝ }
     requires { ⌜ WellFormed (jobOf head (now table)) ⌝ }

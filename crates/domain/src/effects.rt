@@ -17,6 +17,7 @@ fn apply_effect(head: Head, table: &[u16], values: &[bool], v: u16, k: u16, stat
     requires { ⌜ (k < head .counts .effects) × (state < stateCount (head .counts .facts)) ⌝ }
     ensures { λ r. ⌜ r ≡ afterEffect (now (values .entry)) v state (effectAt (jobOf head (now (table .entry))) k) ⌝ }
 {
+    // condition, fact, value
     let row = job::rows::row_at(table, EFFECTS + k);
     if crate::formulas::value_at(values, row.a) {
         if row.c == v {

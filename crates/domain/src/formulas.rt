@@ -45,6 +45,7 @@ pub fn formula_values(head: Head, table: &[u16], state: u16) -> [bool; 255]
     let mut values = [false; 255];
     let mut k: u16 = 0;
     while k < n {
+        // kind, a, b
         let row = job::rows::row_at(table, k);
         let v = value(state, &values, row.a, row.b, row.c);
         let i = k as usize;

@@ -41,6 +41,7 @@ pub fn successor(head: Head, table: &[u16], values: &[bool], m: u16, state: u16)
     requires { ⌜ (m < head .counts .moves) × (state < stateCount (head .counts .facts)) ⌝ }
     ensures { λ r. ⌜ successorIn r ≡ domainOf (jobOf head (now (table .entry))) .successor m state ⌝ }
 {
+    // precondition, class, count of effects, first effect
     let row = job::rows::row_at(table, MOVES + m);
     if crate::formulas::value_at(values, row.a) {
         let cleared = apply_effects(head, table, values, 0, row.d, row.c, state);
@@ -56,6 +57,7 @@ pub fn cost(head: Head, table: &[u16], m: u16, state: u16) -> u16
     requires { ⌜ m < head .counts .moves ⌝ }
     ensures { λ r. ⌜ (r ≡ domainOf (jobOf head (now (table .entry))) .cost m state) × (r ≤ mostCost) ⌝ }
 {
+    // precondition, class, count of effects, first effect
     let row = job::rows::row_at(table, MOVES + m);
     let class = row.b as usize;
     COSTS[class]

@@ -28,7 +28,7 @@ pub fn put_row(table: &mut [u16], i: u16, a: u16, b: u16, c: u16, d: u16)
     table[at + 3] = d;
 }
 
-// The numbers of a row.
+// The numbers of a row as they stand in its line, unused ones 0; a move's last one is the number of its first effect.
 pub struct Quad {
     pub a: u16,
     pub b: u16,
