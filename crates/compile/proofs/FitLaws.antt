@@ -9,7 +9,7 @@ use lib.Dec.{leb}
 use lib.ListN.{length}
 use lib.Seq.{sets}
 use borrow.Author.Tests.{leb-true}
-use Rattle.laws.proofs.Tests.{and-left}
+use Rattle.laws.proofs.Tests.{and-left, and-right}
 use Rattle.job.specs.Job.{Job, rowOf}
 use Rattle.job.specs.Store.{programAt, movesAt, storedMove, jobOf}
 use Rattle.job.specs.declared.head.Head.{Head}
@@ -23,9 +23,13 @@ use Rattle.compile.specs.Laid.{Wrote, Room}
 use Rattle.compile.specs.declared.steps.Cursor.{Cursor}
 use Rattle.compile.proofs.SizeLaws.{end-size, steps-size}
 
-few-positions : (j : Job) → fits j ≡ true → positionCount j ≤ 256
+pub few-positions : (j : Job) → fits j ≡ true → positionCount j ≤ 256
 unfolding fits
 few-positions j e = leb-true _ _ (and-left (leb (positionCount j) 256) (leb (stepCount j) 1024) e)
+
+pub few-steps : (j : Job) → fits j ≡ true → stepCount j ≤ 1024
+unfolding fits
+few-steps j e = leb-true _ _ (and-right (leb (positionCount j) 256) (leb (stepCount j) 1024) e)
 
 module _ (h : Head) (l : List ℕ) where
   abbrev j : Job

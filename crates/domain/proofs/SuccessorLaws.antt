@@ -1,6 +1,6 @@
 -- A successor as the code makes it, from the stored row of its move and values that tell the same as the formulas.
 -- Assumes nothing.
-use Prim.Native.Nat.{ℕ, _+_, _<_}
+use Prim.Native.Nat.{ℕ, _+_, _≤_, _<_}
 use mathlib.Core.Path.{_≡_, sym, _∙_, ap}
 use mathlib.Core.Bool.{Bool, true, false}
 use mathlib.Core.Option.{none, some}
@@ -8,7 +8,7 @@ use mathlib.Core.List.{List}
 use native.Mathlib.Omega.{arith}
 use lib.Dec.{ltb}
 use lib.ListN.{length, getD}
-use borrow.Author.Tests.{lt-ltb}
+use borrow.Author.Tests.{lt-ltb, le-ltb}
 use Rattle.job.specs.Job.{Job, Move}
 use Rattle.job.specs.Store.{movesAt, rowAt, storedMove, jobOf}
 use Rattle.job.specs.declared.head.Head.{Head}
@@ -39,3 +39,8 @@ module _ (h : Head) (l : List ℕ) (m w : ℕ) (vs : List Bool) (t : Tells (jobO
   pub successor-none : getD vs (x .pre) false ≡ false → none ≡ successorOf j m w
   unfolding successorOf holdsIn
   successor-none p = rw (known, ← move-row h l m g e, sym (t (x .pre)) ∙ p)
+
+-- past the last move there is none
+pub successor-past : (h : Head) (l : List ℕ) (m w : ℕ) → h .counts .moves ≤ m → none ≡ successorOf (jobOf h l) m w
+unfolding successorOf
+successor-past h l m w g = rw (le-ltb m (length (jobOf h l .moves)) (omega (arith, rows-length storedMove l movesAt (h .counts .moves))))

@@ -1,20 +1,17 @@
 -- A text of 65,536 bytes or more is refused just as its first 65,536 bytes are: right lines are short, and no job has many.
 -- Assumes nothing.
-use Prim.Native.Nat.{ℕ, zero, suc, _+_, _-_, _*_, _≤_, _<_}
+use Prim.Native.Nat.{ℕ, _+_, _-_, _*_, _≤_, _<_}
 use mathlib.Core.Path.{_≡_, refl, sym, _∙_, ap}
 use mathlib.Core.List.{List, _∷_}
 use mathlib.Core.Option.{Option, none, some}
 use native.Mathlib.Omega.{arith}
 use native.Mathlib.Decide.{decLt}
 use lib.Dec.{eqb, leb}
-use lib.ListN.{length, getD, take, drop, length-drop}
-use lib.Seq.{length-take-le, take-take}
+use lib.ListN.{length, getD, take}
 use borrow.Author.Tests.{leb-true}
 use Rattle.laws.proofs.Tests.{never, and-right, cond-has}
-use Rattle.laws.proofs.Lists.{drop-take}
 use Rattle.text.specs.Bytes.{bytes}
-use Rattle.text.specs.Lines.{lines, lineLength}
-use Rattle.text.proofs.LineLaws.{lines-first, length-le, front-length}
+use Rattle.text.proofs.Fronts.{front-decides}
 use Rattle.text.proofs.LineText.{line-short}
 use Rattle.job.specs.Job.{countsOf}
 use Rattle.job.specs.Line.{formOf, rowNumbers}
@@ -139,51 +136,20 @@ module _ (n : ℕ) (s : Reading) where
     ]
 
     -- the same line before two rests: what is read of them decides
-    pub both-lines : After → readFrom n s (line ∷ rest) ≡ readFrom n s (line ∷ other)
+    both-lines : After → readFrom n s (line ∷ rest) ≡ readFrom n s (line ∷ other)
     both-lines f = both-by (rowNumbers (s .next) line) refl f
 
--- a text, and its front of m bytes
-module _ (m n : ℕ) (s : Reading) (text : List ℕ) (some-bytes : 27 < m) (within : m ≤ length text) where
-  abbrev l : ℕ
-  l = lineLength text
-
-  front : lines (take m text) ≡ take (lineLength (take m text)) (take m text) ∷ lines (drop (lineLength (take m text)) (take m text))
-  front = lines-first (take m text) (omega (arith, length-take-le m text within))
-
-  -- the first line goes on past the front: it and what the front has of it are too long
-  cut-within : m < l → readFrom n s (lines text) ≡ readFrom n s (lines (take m text))
-  cut-within h =
-      let e : lineLength (take m text) ≡ m = front-length m text within ∙ omega arith in
-      ap (readFrom n s) (lines-first text (omega arith))
-      ∙ long-wrong n s (take l text) _ (omega (arith, length-take-le l text (length-le text)))
-      ∙ sym (ap (readFrom n s) front ∙ long-wrong n s (take (lineLength (take m text)) (take m text)) _ (omega (arith, length-take-le (lineLength (take m text)) (take m text) (length-le (take m text)))))
-
-  -- the first line ends in the front
-  cut-after : l ≤ m → Kept s
-      → ((q : Reading) → Kept q → aheadOf q < aheadOf s → l ≤ 27 → readFrom (n + 1) q (lines (drop l text)) ≡ readFrom (n + 1) q (lines (take (m - l) (drop l text))))
-      → readFrom n s (lines text) ≡ readFrom n s (lines (take m text))
-  cut-after h k again =
-      let e : lineLength (take m text) ≡ l = front-length m text within ∙ omega arith in
-      let same : lines (take m text) ≡ take l text ∷ lines (take (m - l) (drop l text)) = front ∙ rw (e, take-take l m text h, drop-take l m text h) in
-      ap (readFrom n s) (lines-first text (omega arith))
-      ∙ both-lines n s (take l text) _ _
-      (λ r g x. again (taken s r) (taken-kept s r x k) (ahead-falls s r x k) (omega (arith, row-short (s .next) (take l text) r g, length-take-le l text (length-le text))))
-      ∙ sym (ap (readFrom n s) same)
-
--- the front decides, where it has more bytes than all the lines that may still come
-cut : (fuel m n : ℕ) (s : Reading) (text : List ℕ) → Kept s → aheadOf s ≤ fuel → 28 + 27 * fuel ≤ m → m ≤ length text
-    → readFrom n s (lines text) ≡ readFrom n s (lines (take m text))
-cut zero m n s text k a h g = elim (decLt m (lineLength text)) [
-  | yes p ↦ cut-within m n s text (omega arith) g p
-  | no p ↦ cut-after m n s text (omega arith) g (omega arith) k (λ q j b d. absurd (omega arith))
-]
-cut (suc fuel) m n s text k a h g = elim (decLt m (lineLength text)) [
-  | yes p ↦ cut-within m n s text (omega arith) g p
-  | no p ↦ cut-after m n s text (omega arith) g (omega arith) k
-      (λ q j b d. cut fuel (m - lineLength text) (n + 1) q (drop (lineLength text) text) j (omega arith) (omega arith) (simp length-drop (omega arith)))
-]
+-- a reading that goes on after n lines
+record Place : Type 0 where
+  n : ℕ
+  s : Reading
+  kept : Kept s
 
 -- so a program's buffer of 65,536 bytes is enough
 pub long-text : (text : List ℕ) → 65536 ≤ length text → readJob text ≡ readJob (take 65536 text)
 unfolding readJob
-long-text text h = cut 1478 65536 0 begun text begun-kept (omega arith) (omega arith) h
+long-text text h = front-decides {S = Place} (λ p ls. readFrom (p .n) (p .s) ls) (λ p. aheadOf (p .s)) 27
+    (λ p line other rest more g k. long-wrong (p .n) (p .s) line rest g ∙ sym (long-wrong (p .n) (p .s) other more k))
+    (λ p line rest more f. both-lines (p .n) (p .s) line rest more (λ r e x.
+    f (record { n = p .n + 1; s = taken (p .s) r; kept = taken-kept (p .s) r x (p .kept) }) (ahead-falls (p .s) r x (p .kept)) (row-short (p .s .next) line r e)))
+    1478 65536 (record { n = 0; s = begun; kept = begun-kept }) text (omega arith) (omega arith) h

@@ -6,7 +6,6 @@ use mathlib.Core.Bool.{Bool, true, false, cond}
 use mathlib.Core.List.{List, [], _∷_}
 use mathlib.Core.Option.{Option, none, some, Option·getD}
 use native.Mathlib.Omega.{arith}
-use native.Mathlib.Nat.{add-sub-cancel-left}
 use lib.Dec.{eqb}
 use lib.ListN.{length, take, drop}
 use borrow.Author.Tests.{eq-eqb, ne-eqb, eqb-true}
@@ -46,15 +45,12 @@ module _ (n : ℕ) (s : Reading) (line : List ℕ) (rest : List (List ℕ)) wher
 -- the text from place i on, whose first line ends at e
 module _ (text : List ℕ) (i e n : ℕ) (s : Reading) (within : i < length text) (line-end : e ≡ i + lineLength (drop i text))
     (so-far : readJob text ≡ readFrom n s (lines (drop i text))) where
-  split : lines (drop i text) ≡ take (e - i) (drop i text) ∷ lines (drop e text)
-  split = lines-at text i within ∙ rw (line-end, add-sub-cancel-left)
-
   pub read-on : (r : List ℕ) → rowNumbers (s .next) (take (e - i) (drop i text)) ≡ some r → reason s (take (e - i) (drop i text)) ≡ 0
       → readJob text ≡ readFrom (n + 1) (taken s r) (lines (drop e text))
-  read-on r g h = so-far ∙ ap (readFrom n s) split ∙ line-right n s _ _ r g h
+  read-on r g h = so-far ∙ ap (readFrom n s) (lines-at text i e within line-end) ∙ line-right n s _ _ r g h
 
   pub read-refused : (reason s (take (e - i) (drop i text)) ≡ 0 → ⊥) → readJob text ≡ refused (reason s (take (e - i) (drop i text))) (n + 1)
-  read-refused h = so-far ∙ ap (readFrom n s) split ∙ line-wrong n s _ _ h
+  read-refused h = so-far ∙ ap (readFrom n s) (lines-at text i e within line-end) ∙ line-wrong n s _ _ h
 
 pub read-ended : (text : List ℕ) (i n : ℕ) (s : Reading) → length text ≤ i → readJob text ≡ readFrom n s (lines (drop i text)) → readJob text ≡ ended n s
 unfolding readFrom

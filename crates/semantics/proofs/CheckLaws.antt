@@ -12,7 +12,7 @@ use Rattle.semantics.specs.Domain.{Domain}
 use Rattle.semantics.specs.CompilingTable.{Step, end, steps}
 use Rattle.semantics.specs.Path.{StepAt, Path}
 use Rattle.semantics.specs.Verdict.{Verdict, Judged, byRuns, byPaths}
-use Rattle.semantics.specs.PositionSets.{firstSet, verdict}
+use Rattle.semantics.specs.PositionSets.{firstSet, verdictBy, verdict}
 use Rattle.semantics.proofs.Taken.{path-chain, chain-path}
 use Rattle.semantics.proofs.Compiled.{compiled}
 use Rattle.semantics.proofs.OneVerdict.{same-verdict}
@@ -25,23 +25,28 @@ module _ (D : Domain) (σ : Program) where
   abbrev L : List Step
   L = steps (D .moves) σ 0
 
-  abbrev S : List Bool
-  S = firstSet D (steps (D .moves) σ 0) (end σ 0) (D .start)
+  module _ (n : ℕ) (above : end σ 0 < n) where
+    abbrev S : List Bool
+    S = firstSet D L n (D .start)
 
-  inside : (i p q : ℕ) (l : Label) → StepAt L i p l q → q < suc (end σ 0)
-  inside i p q l h = omega (arith, compiled D σ 0 .range h)
+    inside : (i p q : ℕ) (l : Label) → StepAt L i p l q → q < n
+    inside i p q l h = omega (arith, compiled D σ 0 .range h)
 
-  set-path : {u q : ℕ} {ms : List ℕ} → Reach D L (D .start) S ms u q ↔ ((is : List ℕ) × Path D L (D .start) 0 is ms u q)
-  set-path = let f = first-reach D L (end σ 0) (D .start) inside in (λ x. chain-path (f .0 x), λ k. f .1 (path-chain (k .1)))
+    set-path : {u q : ℕ} {ms : List ℕ} → Reach D L (D .start) S ms u q ↔ ((is : List ℕ) × Path D L (D .start) 0 is ms u q)
+    set-path = let f = first-reach D L n (D .start) (omega arith) inside in (λ x. chain-path (f .0 x), λ k. f .1 (path-chain (k .1)))
 
-  set-partial-path : {u : ℕ} {ms : List ℕ} → ((q : ℕ) × Reach D L (D .start) S ms u q) ↔ ((p : ℕ) × (is : List ℕ) × Path D L (D .start) 0 is ms u p)
-  set-partial-path = (λ x. let k = set-path .0 (x .1) in (x .0, k .0, k .1), λ y. (y .0, set-path .1 (y .1, y .2)))
+    set-partial-path : {u : ℕ} {ms : List ℕ} → ((q : ℕ) × Reach D L (D .start) S ms u q) ↔ ((p : ℕ) × (is : List ℕ) × Path D L (D .start) 0 is ms u p)
+    set-partial-path = (λ x. let k = set-path .0 (x .1) in (x .0, k .0, k .1), λ y. (y .0, set-path .1 (y .1, y .2)))
+
+    pub verdict-by-judged : (ms : List ℕ) → Judged D (byRuns D σ) ms (verdictBy n D σ ms)
+    unfolding verdictBy bySet byPaths
+    verdict-by-judged ms =
+        let j = judged D L (end σ 0) ms (D .start) S (first-ready D L n (D .start) (omega arith) inside) in
+        verdicts-agree D σ ms _ .1 (same-verdict D (bySet D L (end σ 0) (D .start) S) (byPaths D σ) ms (λ ks u. set-partial-path) (λ ks u. set-path) refl j)
 
   pub verdict-judged : (ms : List ℕ) → Judged D (byRuns D σ) ms (verdict D σ ms)
-  unfolding verdict bySet byPaths
-  verdict-judged ms =
-      let j = judged D L (end σ 0) ms (D .start) S (first-ready D L (end σ 0) (D .start) inside) in
-      verdicts-agree D σ ms _ .1 (same-verdict D (bySet D L (end σ 0) (D .start) S) (byPaths D σ) ms (λ ks u. set-partial-path) (λ ks u. set-path) refl j)
+  unfolding verdict
+  verdict-judged = verdict-by-judged (suc (end σ 0)) (omega arith)
 
   pub verdict-is : (ms : List ℕ) (v : Verdict) → Judged D (byRuns D σ) ms v → v ≡ verdict D σ ms
   verdict-is ms v j = one-move-verdict D σ ms v (verdict D σ ms) j (verdict-judged ms)

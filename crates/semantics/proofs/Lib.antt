@@ -20,4 +20,5 @@ pub mod FirstSet
 pub mod SetVerdict
 pub mod CheckLaws
 pub mod CostTableLaws
+pub mod StepVerdictLaws
 pub mod FlatLaws

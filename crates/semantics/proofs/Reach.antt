@@ -12,10 +12,10 @@ use Rattle.semantics.specs.Label.{Label, noop, holds, fails, make}
 use Rattle.semantics.specs.Domain.{Domain}
 use Rattle.semantics.specs.CompilingTable.{Step}
 use Rattle.semantics.specs.Path.{Does, idles, passes, refutes, moves-on, StepAt}
-use Rattle.semantics.specs.PositionSets.{spread, silentIn, isMove, nextSet}
+use Rattle.semantics.specs.PositionSets.{Marked, spread, silentIn, isMove, nextSet}
 use Rattle.semantics.proofs.Chains.{Chain, halt, go, one, join, settle}
 use Rattle.semantics.proofs.Taken.{Taken, taken}
-use Rattle.semantics.proofs.Marks.{Marked, none-marked}
+use Rattle.semantics.proofs.Marks.{none-marked}
 use Rattle.semantics.proofs.SetLaws.{old, new, spread-length, spread-adds, spread-from, close-length, close-keeps, close-sound, closure-closed}
 
 silent-does : {D : Domain} {s : ℕ} (l : Label) → silentIn D s l ≡ true → Does D l s [] s
@@ -78,7 +78,7 @@ module _ (D : Domain) (L : List Step) (s t m : ℕ) (S : List Bool) where
       (λ i p q l h e x. record { from = x .from; marked = x .marked; chain = silently l h e (x .chain) })
       (length (moved L m S)) (moved L m S) (λ q k. elim (spread-from (isMove m) L S (replicate (length S) false) q k) [
         | old x ↦ none-marked (length S) q x
-        | new {p} {l} h e x ↦ record { from = p; marked = x; chain = one (taken (rw (is-move m l e) at h) (moves-on made)) }
+        | new x ↦ record { from = x .from; marked = x .marked; chain = one (taken (rw (is-move m (x .label) (x .passes)) at (x .step)) (moves-on made)) }
       ])
 
   pub reach-before : {u q : ℕ} {ms : List ℕ} → D .successor m s ≡ some t → Reach D L t (nextSet D L t m S) ms u q → Reach D L s S (m ∷ ms) u q

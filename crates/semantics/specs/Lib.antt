@@ -8,4 +8,5 @@ pub mod Plan
 pub mod Verdict
 pub mod Agreement
 pub mod PositionSets
+pub mod StepVerdict
 pub mod CostTable

@@ -1,5 +1,6 @@
 -- The verdict on a list of moves as a function: "the set of positions that the recipe may be at", one mark a position, and "each move turns it into the next set".
 use Prim.Native.Nat.{ℕ, zero, suc, _+_}
+use mathlib.Core.Path.{_≡_}
 use mathlib.Core.Bool.{Bool, true, false, not, _&&_, _||_, cond}
 use mathlib.Core.Option.{none, some}
 use mathlib.Core.List.{List, [], _∷_}
@@ -38,13 +39,23 @@ isMove m (holds a) = false
 isMove m (fails a) = false
 isMove m (make a) = eqb a m
 
+-- position p is in the set
+abbrev pub Marked : List Bool → ℕ → Type 0
+Marked S p = getD S p false ≡ true
+
 unfoldable pub anyMark : List Bool → Bool
 anyMark [] = false
 anyMark (b ∷ S) = b || anyMark S
 
--- position 0 of those up to e, and what silent steps lead to from it
+-- how many marks there are
+unfoldable pub count : List Bool → ℕ
+count [] = 0
+count (true ∷ S) = suc (count S)
+count (false ∷ S) = count S
+
+-- position 0 of n, and what silent steps lead to from it
 unfoldable pub firstSet : Domain → List Step → ℕ → ℕ → List Bool
-firstSet D L e s = closure (silentIn D s) L (set (replicate (suc e) false) 0 true)
+firstSet D L n s = closure (silentIn D s) L (set (replicate n false) 0 true)
 
 -- the positions after move m from those of S, in the state t that it leads to
 unfoldable pub nextSet : Domain → List Step → ℕ → ℕ → List Bool → List Bool
@@ -72,6 +83,12 @@ verdictFrom D L e s S (m ∷ ms) = elim (D .successor m s) [
   ]
 ]
 
+-- by sets of n marks; any n above the final position gives the same
+unfoldable pub verdictBy : ℕ → Domain → Program → List ℕ → Verdict
+verdictBy n D σ ms =
+    let L = steps (D .moves) σ 0 in
+    verdictFrom D L (end σ 0) (D .start) (firstSet D L n (D .start)) ms
+
+-- with a mark for each position
 unfoldable pub verdict : Domain → Program → List ℕ → Verdict
-verdict D σ ms =
-    verdictFrom D (steps (D .moves) σ 0) (end σ 0) (D .start) (firstSet D (steps (D .moves) σ 0) (end σ 0) (D .start)) ms
+verdict D σ ms = verdictBy (suc (end σ 0)) D σ ms

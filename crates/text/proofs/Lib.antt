@@ -2,3 +2,4 @@ pub mod LineLaws
 pub mod NumberLaws
 pub mod WrittenLaws
 pub mod LineText
+pub mod Fronts

@@ -1,6 +1,6 @@
 -- Laws of the lines of a text and of a line's key, at a place.
 -- Assumes nothing.
-use Prim.Native.Nat.{ℕ, zero, suc, _+_, _≤_, _<_, min}
+use Prim.Native.Nat.{ℕ, zero, suc, _+_, _-_, _≤_, _<_, min}
 use mathlib.Core.Path.{_≡_, refl, _∙_, ap}
 use mathlib.Core.Bool.{Bool, true, false, cond}
 use mathlib.Core.List.{List, [], _∷_, flatten}
@@ -75,10 +75,11 @@ pub lines-first : (s : List ℕ) → 0 < length s → lines s ≡ take (lineLeng
 lines-first [] h = absurd (not-suc-le-zero h)
 lines-first (b ∷ t) h = lines-cons b t
 
--- the same from a place on
-pub lines-at : (s : List ℕ) (i : ℕ) → i < length s
-    → lines (drop i s) ≡ take (lineLength (drop i s)) (drop i s) ∷ lines (drop (i + lineLength (drop i s)) s)
-lines-at s i h = rw (← drop-drop (lineLength (drop i s)) i s, drop-cons s i 0 h) (lines-cons (getD s i 0) (drop (suc i) s))
+-- the same from a place i on, whose line ends at e
+pub lines-at : (s : List ℕ) (i e : ℕ) → i < length s → e ≡ i + lineLength (drop i s) → lines (drop i s) ≡ take (e - i) (drop i s) ∷ lines (drop e s)
+lines-at s i e h f =
+    let n : e - i ≡ lineLength (drop i s) = omega arith in
+    rw (n, f, ← drop-drop (lineLength (drop i s)) i s, drop-cons s i 0 h) (lines-cons (getD s i 0) (drop (suc i) s))
 
 pub lines-past : (s : List ℕ) (i : ℕ) → length s ≤ i → lines (drop i s) ≡ []
 unfolding lines

@@ -1,0 +1,13 @@
+pub mod PlanLaws
+pub mod PlanTexts
+pub mod LongPlans
+pub mod LinkLaws
+pub mod WantedLaws
+pub mod MarkLaws
+pub mod FollowLaws
+pub mod SetLaws
+pub mod VerdictLaws
+pub mod ReadyLaws
+pub mod MoveLaws
+pub mod ArrivalLaws
+pub mod StepLaws

@@ -1,0 +1,59 @@
+-- What a check may take from what it is handed: sizes, positions, and that states and costs stay within bounds.
+-- Assumes nothing.
+use Prim.Native.Nat.{ℕ, _+_, _-_, _*_, _/_, _≤_, _<_}
+use mathlib.Core.Path.{_≡_}
+use mathlib.Core.List.{List}
+use native.Mathlib.Omega.{arith}
+use lib.ListN.{length, getD}
+use Rattle.job.specs.Job.{Job}
+use Rattle.job.specs.StateCount.{stateCount}
+use Rattle.job.specs.Store.{jobOf}
+use Rattle.job.specs.declared.head.Head.{Head}
+use Rattle.semantics.specs.Domain.{Bounded}
+use Rattle.semantics.specs.CompilingTable.{end}
+use Rattle.semantics.proofs.Compiled.{compiled}
+use Rattle.semantics.proofs.FlatLaws.{steps-at}
+use Rattle.semantics.proofs.Part.{Range}
+use Rattle.domain.specs.Cost.{mostCost}
+use Rattle.domain.specs.Domain.{domainOf}
+use Rattle.domain.proofs.DomainLaws.{domain-bounded}
+use Rattle.compile.specs.Program.{programOf}
+use Rattle.compile.specs.CompiledJob.{stepsOf}
+use Rattle.compile.proofs.FitLaws.{few-positions, few-steps}
+use Rattle.validate.specs.Links.{Listed}
+use Rattle.validate.specs.Ready.{Ready}
+
+module _ {head : Head} {table list : List ℕ} {positions : ℕ} (r : Ready head table list positions) where
+  abbrev j : Job
+  j = jobOf head table
+
+  pub init-below : head .init < stateCount (head .counts .facts)
+  init-below = r .job .init
+
+  pub job-bounded : Bounded (domainOf (jobOf head table)) mostCost
+  job-bounded = domain-bounded j (r .job)
+
+  pub last-final : positions - 1 ≡ end (programOf (jobOf head table)) 0
+  last-final = omega (arith, r .positions)
+
+  pub final-below : end (programOf (jobOf head table)) 0 < 256
+  final-below = omega (arith, few-positions j (r .fit))
+
+  pub some-position : 1 ≤ positions
+  some-position = omega (arith, r .positions)
+
+  pub list-short : length list ≤ 4096
+  list-short = omega (arith, r .whole, few-steps j (r .fit))
+
+  pub step-quarters : length list / 4 ≡ length (stepsOf (jobOf head table))
+  step-quarters = omega (arith, r .whole)
+
+  step-range : (k : ℕ) → k < length list / 4 → Range 0 (end (programOf j) 0) (getD list (k * 4 + 1) 0) (getD list (k * 4 + 2) 0)
+  step-range k h = compiled (domainOf j) (programOf j) 0 .range (rw (r .steps) at (steps-at (length list / 4) list k h))
+
+  pub ready-listed : Listed list
+  ready-listed = record {
+    few = list-short;
+    from = λ k h. omega (arith, step-range k h .1, final-below);
+    to = λ k h. omega (arith, step-range k h .3, final-below);
+  }

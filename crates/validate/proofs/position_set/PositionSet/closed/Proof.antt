@@ -1,0 +1,56 @@
+use Rattle.validate.proofs.SetLaws.{Closing, closing-start, closing-more, closing-end, counted-few, member-inside}
+use Rattle.validate.specs.declared.position_set.Wanted.the-variants.{Silent}
+use Rattle.validate.specs.Positions.{wantedBy}
+use Prim.Native.Nat.{_-_}
+use native.Mathlib.Omega.{arith}
+use borrow.Author.Needs.{needs}
+use Rattle.validate.proofs.position_set.PositionSet.closed.Statement.{statement}
+use Rattle.validate.proofs.position_set.PositionSet.closed.Tie as tie
+
+abbrev Inv-loop : tie.InvT-loop
+Inv-loop list links values marks₀ members₀ count₀ at₀ marks members count at = Closing (wantedBy Silent values) list marks₀ marks members count at
+
+abbrev μ-loop : tie.MeasureT-loop
+μ-loop list links values marks₀ members₀ count₀ at₀ marks members count at = 256 - at
+
+loop-holds : tie.Need-loop-holds Inv-loop μ-loop
+loop-holds c = closing-start _ _ _ (c .before .before .before .before .before .pre .0)
+
+mul-p : tie.Need-mul-p Inv-loop μ-loop
+mul-p c = omega (arith, c .loop-test .taken, counted-few (c .before .loop .inv .counted))
+
+array-read-p : tie.Need-array-read-p Inv-loop μ-loop
+array-read-p c = omega (arith, c .loop-test .taken, counted-few (c .before .loop .inv .counted))
+
+follow-requires : tie.Need-follow-requires Inv-loop μ-loop
+follow-requires c κs = ((c .before .before .before .loop .inv .counted, member-inside (c .before .before .before .loop .inv .counted) _ (c .before .before .loop-test .taken)), c .before .before .before .before .before .before .before .before .before .pre .1)
+
+add-at : tie.Need-add-at Inv-loop μ-loop
+add-at c = omega (arith, c .before .before .before .before .before .loop-test .taken, counted-few (c .before .before .before .before .before .before .loop .inv .counted))
+
+loop-less : tie.Need-loop-less Inv-loop μ-loop
+loop-less c = omega (arith, c .before .before .before .before .before .loop-test .taken, counted-few (c .before .before .before .before .before .before .loop .inv .counted))
+
+loop-again : tie.Need-loop-again Inv-loop μ-loop
+loop-again c = closing-more _ _ _ (c .before .before .before .before .before .before .before .before .before .before .before .before .pre .1 .0) (c .before .before .before .before .before .before .before .before .before .before .before .before .pre .0 .size) (c .before .before .before .before .before .before .loop .inv) (c .before .before .before .before .before .loop-test .taken) (c .before .before .follow .ensures)
+
+returns : tie.Need-returns Inv-loop μ-loop
+unfolding wantedBy
+returns c = (closing-end _ _ _ (c .before .before .before .before .before .before .before .pre .0 .size) (c .before .loop .inv) (c .loop-test .left), c .before .loop .inv .counted)
+
+pub closed-spec : {M : Type 1} → statement M
+closed-spec =
+    tie.close
+    (tie.spec
+    Inv-loop
+    μ-loop
+    loop-holds
+    mul-p
+    array-read-p
+    (λ c. search needs)
+    (λ c. search needs)
+    follow-requires
+    add-at
+    loop-less
+    loop-again
+    returns)

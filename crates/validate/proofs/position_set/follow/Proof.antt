@@ -1,0 +1,71 @@
+use Rattle.validate.proofs.LinkLaws.{last-within}
+use lib.ListN.{length, getD}
+use Prim.Native.Nat.{_-_, _+_, _*_, _<_, _/_}
+use Rattle.validate.proofs.FollowLaws.{Following, follow-start, follow-end, follow-more}
+use Rattle.validate.specs.Positions.{wantedBy}
+use native.Mathlib.Omega.{arith}
+use mathlib.Core.Path.{_≡_}
+use borrow.Author.Needs.{needs}
+use Rattle.validate.proofs.position_set.follow.Statement.{statement}
+use Rattle.validate.proofs.position_set.follow.Tie as tie
+
+abbrev Inv-loop : tie.InvT-loop
+Inv-loop marks₀ members₀ count list links values wanted p n₀ i h₀ marks members n h = Following (wantedBy wanted values) list p marks₀ members₀ count marks members n h
+
+abbrev μ-loop : tie.MeasureT-loop
+μ-loop marks₀ members₀ count list links values wanted p n₀ i h₀ marks members n h = h
+
+cast-h : tie.Need-cast-h Inv-loop μ-loop
+cast-h c = record { fits = omega (arith, c .before .before .shared-slice-known2 .given (c .before .before .before .before .before .before .args .p)) }
+
+loop-holds : tie.Need-loop-holds Inv-loop μ-loop
+loop-holds c = follow-start _ _ _ _ _ _ (c .before .before .before .before .before .before .pre .0 .0) (c .before .before .before .before .before .before .pre .1 .1 .last _ (c .before .before .before .before .before .before .pre .0 .1))
+
+mark-requires : tie.Need-mark-requires Inv-loop μ-loop
+mark-requires c κs = (c .before .before .before .before .before .before .before .loop .inv .followed .counted, c .before .before .before .before .before .before .before .before .before .before .before .before .before .before .pre .1 .0 .to _ (omega (arith, c .before .before .before .before .before .before .loop-test .taken, c .before .before .before .before .before .before .before .loop .inv .within)))
+
+cast-h-2 : tie.Need-cast-h-2 Inv-loop μ-loop
+cast-h-2 c = record { fits = omega (arith, c .before .before .before .before .before .before .before .before .before .before .before .before .before .before .before .before .shared-slice-known2 .given (256 + (c .before .before .before .before .before .before .before .before .before .before .before .before .before .loop .h - 1))) }
+
+loop-less : tie.Need-loop-less Inv-loop μ-loop
+loop-less c = let k = c .before .before .before .before .before .before .before .before .before .before .before .before .before .loop .h - 1 in omega (arith, c .before .before .before .before .before .before .before .before .before .before .before .before .loop-test .taken, c .before .before .before .before .before .before .before .before .before .before .before .before .before .before .before .before .before .before .before .before .pre .1 .1 .before k (omega (arith, c .before .before .before .before .before .before .before .before .before .before .before .before .loop-test .taken, c .before .before .before .before .before .before .before .before .before .before .before .before .before .loop .inv .within)), last-within (c .before .before .before .before .before .before .before .before .before .before .before .before .before .before .before .before .before .before .before .before .args .list .now) (getD (c .before .before .before .before .before .before .before .before .before .before .before .before .before .before .before .before .before .before .before .before .args .list .now) (k * 4 + 1) 0) k)
+
+loop-again : tie.Need-loop-again Inv-loop μ-loop
+loop-again c = follow-more _ _ _ _ _ _ (c .before .before .before .before .before .before .before .before .before .before .before .before .before .before .before .before .before .before .before .before .pre .1 .0) (c .before .before .before .before .before .before .before .before .before .before .before .before .before .loop .inv) (c .before .before .before .before .before .before .before .before .before .before .before .before .before .loop .h - 1) (omega (arith, c .before .before .before .before .before .before .before .before .before .before .before .before .loop-test .taken)) (c .before .before .before .before .before .before .before .before .before .is-wanted .ensures) (c .before .before .before .before .before .mark .ensures) (c .before .before .before .before .before .before .before .before .before .before .before .before .before .before .before .before .before .before .before .before .pre .1 .1 .before _ (omega (arith, c .before .before .before .before .before .before .before .before .before .before .before .before .loop-test .taken, c .before .before .before .before .before .before .before .before .before .before .before .before .before .loop .inv .within)))
+
+returns : tie.Need-returns Inv-loop μ-loop
+returns c = follow-end _ _ _ _ _ _ (c .before .loop .inv) (omega (arith, c .loop-test .left))
+
+pub follow-spec : {M : Type 1} → statement M
+follow-spec =
+    tie.close
+    (tie.spec
+    Inv-loop
+    μ-loop
+    (λ c. search needs)
+    (λ c. search needs)
+    cast-h
+    loop-holds
+    (λ c. search needs)
+    (λ c. search needs)
+    (λ c. search needs)
+    (λ c. search needs)
+    (λ c. search needs)
+    (λ c. search needs)
+    (λ c. search needs)
+    (λ c. search needs)
+    (λ c κs. search needs)
+    (λ c. search needs)
+    (λ c. search needs)
+    (λ c. search needs)
+    (λ c. search needs)
+    mark-requires
+    (λ c. search needs)
+    (λ c. search needs)
+    (λ c. search needs)
+    cast-h-2
+    loop-less
+    loop-again
+    (λ c. search needs)
+    (λ c. search needs)
+    returns)

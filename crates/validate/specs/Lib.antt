@@ -1,0 +1,6 @@
+pub mod PlanText
+pub mod Links
+pub mod Positions
+pub mod Verdict
+pub mod Ready
+pub mod Arrival

@@ -1,0 +1,25 @@
+-- What a check is handed: a job that was read, the steps of its compiled job, and the entries of a plan.
+use Prim.Native.Nat.{ℕ, _*_, _≤_, _<_}
+use mathlib.Core.Path.{_≡_}
+use mathlib.Core.Bool.{true}
+use mathlib.Core.List.{List}
+use lib.ListN.{length, getD}
+use Rattle.job.specs.Store.{allRows, jobOf}
+use Rattle.job.specs.WellFormed.{WellFormed}
+use Rattle.job.specs.declared.head.Head.{Head}
+use Rattle.compile.specs.CompiledJob.{stepsOf, positionCount, fits}
+use Rattle.validate.specs.Links.{stepsOn}
+
+-- a job whose compiled job is within the limits, as head and table, and a list that holds its steps and nothing else
+pub record Ready (head : Head) (table list : List ℕ) (count : ℕ) : Type 0 where
+  pub size : length table ≡ allRows * 4
+  pub job : WellFormed (jobOf head table)
+  pub fit : fits (jobOf head table) ≡ true
+  pub whole : length list ≡ length (stepsOf (jobOf head table)) * 4
+  pub steps : stepsOn list ≡ stepsOf (jobOf head table)
+  pub positions : count ≡ positionCount (jobOf head table)
+
+-- at most 4,000 entries, each below the bound
+pub record Entries (plan : List ℕ) (bound : ℕ) : Type 0 where
+  pub few : length plan ≤ 4000
+  pub below : (i : ℕ) → i < length plan → getD plan i 0 < bound

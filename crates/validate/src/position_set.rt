@@ -1,0 +1,181 @@
+// The set of positions that a program may be at.
+ghost use mathlib.Core.Path.{_≡_};
+ghost use mathlib.Core.Bool.{true, false, cond};
+ghost use Prim.Native.Nat.{_/_, _<_, _≤_};
+ghost use lib.ListN.{length, getD, set, replicate};
+ghost use Rattle.semantics.specs.CompilingTable.{labelIn};
+ghost use Rattle.semantics.specs.PositionSets.{closure, spread, isMove};
+ghost use Rattle.validate.specs.Links.{stepsOn, Listed, Linked};
+ghost use Rattle.validate.specs.Positions.{Counted, CountedSet, silentBy, wantedBy, Followed, Marking};
+
+// One mark a position, how many are set, and the marked positions in the order in which they were marked.
+pub struct PositionSet {
+    pub marks: [bool; 256],
+    pub members: [u16; 256],
+    pub count: usize,
+}
+
+// Which steps are followed: silent ones that can be made, or those that make a move.
+pub enum Wanted {
+    Silent,
+    Move(u16),
+}
+
+// Whether a step can be made silently, by the formulas' values.
+fn is_silent(values: &[bool], kind: u16, arg: u16) -> bool
+    ensures { λ r. ⌜ r ≡ silentBy (now (values .entry)) (labelIn kind arg) ⌝ }
+{
+    match kind {
+        0 => true,
+        1 => domain::formulas::value_at(values, arg),
+        2 => !domain::formulas::value_at(values, arg),
+        _ => false,
+    }
+}
+
+fn is_wanted(wanted: Wanted, values: &[bool], kind: u16, arg: u16) -> bool
+    ensures { λ r. ⌜ r ≡ wantedBy wanted (now (values .entry)) (labelIn kind arg) ⌝ }
+{
+    match wanted {
+        Wanted::Silent => is_silent(values, kind, arg),
+        Wanted::Move(m) => {
+            if kind < 3 {
+                return false;
+            }
+            arg == m
+        }
+    }
+}
+
+// Marks position q, where that is wanted; answers how many are marked then.
+fn mark(marks: &mut [bool], members: &mut [u16], count: usize, wanted: bool, q: u16) -> usize
+    requires { ⌜ Counted (now marks) (now members) count × (q < 256) ⌝ }
+    ensures { λ r. ⌜ Marking wanted q (now (marks .entry)) (now (members .entry)) count (now (marks .exit)) (now (members .exit)) r ⌝ }
+{
+    if wanted {
+        let i = q as usize;
+        if marks[i] {
+            return count;
+        }
+        marks[i] = true;
+        members[count] = q;
+        return count + 1;
+    }
+    count
+}
+
+// Marks the ends of the wanted steps from position p.
+fn follow(
+    marks: &mut [bool],
+    members: &mut [u16],
+    count: usize,
+    list: &[u16],
+    links: &[u16],
+    values: &[bool],
+    wanted: Wanted,
+    p: u16,
+) -> usize
+    requires { ⌜ Counted (now marks) (now members) count × (p < 256) ⌝ }
+    requires { ⌜ Listed (now list) × Linked (now list) (length (now list) / 4) (now links) ⌝ }
+    ensures { λ r. ⌜ Followed (wantedBy wanted (now (values .entry))) (stepsOn (now (list .entry))) p 0 (now (marks .entry)) (now (members .entry)) count (now (marks .exit)) (now (members .exit)) r ⌝ }
+{
+    let mut n = count;
+    let i = p as usize;
+    let mut h = links[i] as usize;
+    while 0 < h {
+        let k = h - 1;
+        let on = is_wanted(wanted, values, list[k * 4], list[k * 4 + 3]);
+        n = mark(marks, members, n, on, list[k * 4 + 2]);
+        h = links[256 + k] as usize;
+    }
+    n
+}
+
+impl PositionSet {
+    // Position 0 alone.
+    pub fn start() -> PositionSet
+        ensures { λ r. ⌜ (r .marks ≡ set (replicate 256 false) 0 true) × CountedSet r ⌝ }
+    {
+        let mut marks = [false; 256];
+        marks[0] = true;
+        PositionSet {
+            marks: marks,
+            members: [0u16; 256],
+            count: 1,
+        }
+    }
+
+    // All that silent steps lead to, by the formulas' values.
+    pub fn closed(self, list: &[u16], links: &[u16], values: &[bool]) -> PositionSet
+        requires { ⌜ CountedSet self ⌝ }
+        requires { ⌜ Listed (now list) × Linked (now list) (length (now list) / 4) (now links) ⌝ }
+        ensures { λ r. ⌜ (r .marks ≡ closure (silentBy (now (values .entry))) (stepsOn (now (list .entry))) (self .marks)) × CountedSet r ⌝ }
+    {
+        let mut marks = self.marks;
+        let mut members = self.members;
+        let mut count = self.count;
+        let mut at: usize = 0;
+        while at < count {
+            let p = members[at];
+            count = follow(
+                &mut marks,
+                &mut members,
+                count,
+                list,
+                links,
+                values,
+                Wanted::Silent,
+                p,
+            );
+            at += 1;
+        }
+        PositionSet {
+            marks: marks,
+            members: members,
+            count: count,
+        }
+    }
+
+    // The positions that move m leads to, before any silent step.
+    pub fn advanced(self, list: &[u16], links: &[u16], m: u16) -> PositionSet
+        requires { ⌜ CountedSet self ⌝ }
+        requires { ⌜ Listed (now list) × Linked (now list) (length (now list) / 4) (now links) ⌝ }
+        ensures { λ r. ⌜ (r .marks ≡ spread (isMove m) (stepsOn (now (list .entry))) (self .marks) (replicate 256 false)) × CountedSet r ⌝ }
+    {
+        let old = self.members;
+        let n = self.count;
+        // no formula is looked at
+        let values = [false; 1];
+        let mut marks = [false; 256];
+        let mut members = [0u16; 256];
+        let mut count: usize = 0;
+        let mut at: usize = 0;
+        while at < n {
+            let p = old[at];
+            count = follow(
+                &mut marks,
+                &mut members,
+                count,
+                list,
+                links,
+                &values,
+                Wanted::Move(m),
+                p,
+            );
+            at += 1;
+        }
+        PositionSet {
+            marks: marks,
+            members: members,
+            count: count,
+        }
+    }
+
+    // Whether position q is in the set.
+    pub fn has(self, q: u16) -> bool
+        ensures { λ r. ⌜ r ≡ getD (self .marks) q false ⌝ }
+    {
+        let marks = self.marks;
+        domain::formulas::value_at(&marks, q)
+    }
+}

@@ -1,0 +1,114 @@
+// The verdict on a list of steps.
+ghost use mathlib.Core.Path.{_≡_};
+ghost use mathlib.Core.Bool.{cond};
+ghost use mathlib.Core.Option.{none};
+ghost use Prim.Native.Nat.{_+_, _-_, _*_, _≤_, _<_};
+ghost use lib.ListN.{length};
+ghost use Rattle.job.specs.StateCount.{stateCount};
+ghost use Rattle.job.specs.Store.{allRows, jobOf};
+ghost use Rattle.job.specs.WellFormed.{WellFormed};
+ghost use Rattle.semantics.specs.CompilingTable.{labelIn};
+ghost use Rattle.semantics.specs.Label.{make};
+ghost use Rattle.semantics.specs.StepVerdict.{arrives, made, stays, stepVerdict};
+ghost use Rattle.domain.specs.Domain.{domainOf, Tells};
+ghost use Rattle.compile.specs.CompiledJob.{stepsOf};
+ghost use Rattle.validate.specs.Links.{stepsOn};
+ghost use Rattle.validate.specs.Ready.{Ready, Entries};
+ghost use Rattle.validate.specs.Arrival.{arrivalOf};
+ghost use Rattle.validate.specs.Verdict.{verdictOf};
+use crate::verdict::Verdict;
+use domain::Successor;
+use job::head::Head;
+
+// Where a step leads: the state, the position, and what it costs. Nowhere, where it can't be made.
+pub enum Arrival {
+    At(u16, u16, u16),
+    Nowhere,
+}
+
+// A silent step, where it can be made.
+fn silently(on: bool, state: u16, to: u16) -> Arrival
+    ensures { λ r. ⌜ arrivalOf r ≡ cond on (stays state to) none ⌝ }
+{
+    if on {
+        return Arrival::At(state, to, 0);
+    }
+    Arrival::Nowhere
+}
+
+// A step that makes move m; past the last move there is none.
+fn by_move(head: Head, table: &[u16], values: &[bool], state: u16, to: u16, m: u16) -> Arrival
+    requires { ⌜ length (now table) ≡ allRows * 4 ⌝ }
+    requires { ⌜ WellFormed (jobOf head (now table)) ⌝ }
+    requires { ⌜ Tells (jobOf head (now table)) state (now values) ⌝ }
+    requires { ⌜ state < stateCount (head .counts .facts) ⌝ }
+    ensures { λ r. ⌜ arrivalOf r ≡ arrives (domainOf (jobOf head (now (table .entry)))) (make m) state to ⌝ }
+{
+    if m < head.counts.moves {
+        let after = domain::moves::successor(head, table, values, m, state);
+        let Successor::To(next) = after else {
+            return Arrival::Nowhere;
+        };
+        let cost = domain::moves::cost(head, table, m, state);
+        return Arrival::At(next, to, cost);
+    }
+    Arrival::Nowhere
+}
+
+// A step of a kind, made in a state.
+fn arrive(head: Head, table: &[u16], state: u16, kind: u16, to: u16, arg: u16) -> Arrival
+    requires { ⌜ length (now table) ≡ allRows * 4 ⌝ }
+    requires { ⌜ WellFormed (jobOf head (now table)) ⌝ }
+    requires { ⌜ state < stateCount (head .counts .facts) ⌝ }
+    ensures { λ r. ⌜ arrivalOf r ≡ arrives (domainOf (jobOf head (now (table .entry)))) (labelIn kind arg) state to ⌝ }
+{
+    let values = domain::formulas::formula_values(head, table, state);
+    let holds = domain::formulas::value_at(&values, arg);
+    match kind {
+        0 => silently(true, state, to),
+        1 => silently(holds, state, to),
+        2 => silently(!holds, state, to),
+        _ => by_move(head, table, &values, state, to, arg),
+    }
+}
+
+// Step i of the list, made at a position in a state.
+fn make_step(head: Head, table: &[u16], list: &[u16], i: u16, state: u16, position: u16) -> Arrival
+    requires { ⌜ length (now table) ≡ allRows * 4 ⌝ }
+    requires { ⌜ WellFormed (jobOf head (now table)) ⌝ }
+    requires { ⌜ (i * 4 + 4 ≤ length (now list)) × (state < stateCount (head .counts .facts)) ⌝ }
+    ensures { λ r. ⌜ arrivalOf r ≡ made (domainOf (jobOf head (now (table .entry)))) (stepsOn (now (list .entry))) i state position ⌝ }
+{
+    let at = (i as usize) * 4;
+    let from = list[at + 1];
+    if from == position {
+        return arrive(head, table, state, list[at], list[at + 2], list[at + 3]);
+    }
+    Arrival::Nowhere
+}
+
+// The list holds the steps of the job's program, whose last position is the final one. Each entry is that one step.
+pub fn check_steps(head: Head, table: &[u16], list: &[u16], positions: u16, plan: &[u16]) -> Verdict
+    requires { ⌜ Ready head (now table) (now list) positions ⌝ }
+    requires { ⌜ Entries (now plan) (length (stepsOf (jobOf head (now table)))) ⌝ }
+    ensures { λ r. ⌜ verdictOf r ≡ stepVerdict (domainOf (jobOf head (now (table .entry)))) (stepsOf (jobOf head (now (table .entry)))) (positions - 1) (now (plan .entry)) ⌝ }
+{
+    let mut state = head.init;
+    let mut position: u16 = 0;
+    let mut cost: u32 = 0;
+    let mut i: usize = 0;
+    while i < plan.len() {
+        let entry = plan[i];
+        let step = make_step(head, table, list, entry, state, position);
+        let Arrival::At(next, to, spent) = step else {
+            return Verdict::Blocked(i);
+        };
+        state = next;
+        position = to;
+        cost += spent as u32;
+        i += 1;
+    }
+    let values = domain::formulas::formula_values(head, table, state);
+    let goal = domain::formulas::value_at(&values, head.goal);
+    crate::verdict::finish(position == positions - 1, goal, cost)
+}
