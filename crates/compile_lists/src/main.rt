@@ -13,17 +13,6 @@ fn print_answer(a: CompileAnswer) {
     }
 }
 
-fn print_list(list: &[u16]) {
-    print::text(b"list:");
-    let mut k: usize = 0;
-    while k < list.len() {
-        print::text(b" ");
-        print::number(list[k] as u64);
-        k += 1;
-    }
-    print::text(b"\n");
-}
-
 // Compiles into the first n places of the list.
 fn compile_into(text: &[u8], list: &mut [u16], n: usize) {
     if list.len() < n {
@@ -31,7 +20,7 @@ fn compile_into(text: &[u8], list: &mut [u16], n: usize) {
     }
     let answer = jesmovit::compile(text, &mut list[..n]);
     print_answer(answer);
-    print_list(list);
+    print::list(list);
 }
 
 fn compile_into_sevens(text: &[u8], n: usize) {

@@ -1,6 +1,8 @@
 // Printing to standard output.
+use jesmovit::CheckAnswer;
 use job::head::Refusal;
 use libc::STDOUT_FILENO;
+use validate::verdict::Verdict;
 
 pub fn text(t: &[u8]) {
     io::write_all(STDOUT_FILENO, t);
@@ -17,10 +19,47 @@ pub fn line(key: &[u8], n: u16) {
     text(b"\n");
 }
 
+// The numbers of a list, on one line.
+pub fn list(numbers: &[u16]) {
+    text(b"list:");
+    let mut k: usize = 0;
+    while k < numbers.len() {
+        text(b" ");
+        number(numbers[k] as u64);
+        k += 1;
+    }
+    text(b"\n");
+}
+
 pub fn refusal(r: Refusal) {
     text(b"refused=");
     number(r.number as u64);
     text(b",");
     number(r.place as u64);
     text(b"\n");
+}
+
+// `cost=` and `answer=plan`, or another verdict alone.
+pub fn verdict(v: Verdict) {
+    match v {
+        Verdict::Plan(cost) => {
+            text(b"cost=");
+            number(cost as u64);
+            text(b"\nanswer=plan\n");
+        }
+        Verdict::Blocked(i) => {
+            text(b"answer=blocked,");
+            number(i as u64);
+            text(b"\n");
+        }
+        Verdict::Unfinished => text(b"answer=unfinished\n"),
+        Verdict::Missed => text(b"answer=missed\n"),
+    }
+}
+
+pub fn check_answer(a: CheckAnswer) {
+    match a {
+        CheckAnswer::Said(v) => verdict(v),
+        CheckAnswer::Refused(r) => refusal(r),
+    }
 }

@@ -31,10 +31,10 @@ module _ (text : List ℕ) (j : Job) (accepted : jobIn text ≡ passed j) where
 
     pub compiles : compiling text (length list) ≡ passed j
     unfolding compiling
-    compiles = ap (λ (c : Checked). next c (listLong (length list))) accepted ∙ rw (le-leb (listNeed j) (length list) long)
+    compiles = ap (λ (c : Checked Job). next c (λ k. listLong (length list) k k)) accepted ∙ rw (le-leb (listNeed j) (length list) long)
 
     pub list-holds : stepsIn (stepCount j) after ≡ stepsOf j
-    list-holds = ap (λ (c : Checked). stepsIn (stepCount j) (listAfter c list)) compiles ∙ laid-back (stepsOf j) list long
+    list-holds = ap (λ (c : Checked Job). stepsIn (stepCount j) (listAfter c list)) compiles ∙ laid-back (stepsOf j) list long
 
     -- the same of the steps that it holds after compiling
     pub compiled-plans-agree : Agrees (domainOf j) (programOf j) (stepsIn (stepCount j) after) (positionCount j - 1)

@@ -22,40 +22,37 @@ use Rattle.jesmovit.specs.Load.{checkedOf, Measured, refusalOf}
 use Rattle.jesmovit.specs.Compiling.{compiling, compileAnswer, listAfter}
 use Rattle.jesmovit.specs.declared.load.Loaded.{Loaded}
 use Rattle.jesmovit.specs.declared.compiling.CompileAnswer.{CompileAnswer}
-use Rattle.jesmovit.proofs.LoadLaws.{passed-right}
+use Rattle.jesmovit.proofs.LoadLaws.{passed-right, loaded-refused, loaded-passed, loaded-sized}
 
 -- the post of the operation
 abbrev Post : List ℕ → List ℕ → CompileAnswer → List ℕ → Type 0
 Post text list answer after = (answer ≡ compileAnswer (compiling text (length list))) × (after ≡ listAfter (compiling text (length list)) list)
 
-done : (text list : List ℕ) (c : Checked) → c ≡ compiling text (length list) → Post text list (compileAnswer c) (listAfter c list)
-done text list c f = (ap compileAnswer f, ap (λ (x : Checked). listAfter x list) f)
+done : (text list : List ℕ) (c : Checked Job) → c ≡ compiling text (length list) → Post text list (compileAnswer c) (listAfter c list)
+done text list c f = (ap compileAnswer f, ap (λ (x : Checked Job). listAfter x list) f)
 
 module _ (text table list : List ℕ) (a : Loaded) (e : checkedOf a table ≡ jobIn text) where
   -- what loading refuses
   pub compile-refused : {q r : Refusal} → a ≡ Loaded.Refused q → r ≡ refusalOf a → Post text list (CompileAnswer.Refused r) list
   unfolding compiling
-  compile-refused {q} {r} g f =
-      let x : refused (r .number) (r .place) ≡ jobIn text =
-      ap (λ (x : Refusal). refused (x .number) (x .place)) (f ∙ ap refusalOf g) ∙ ap (λ (x : Loaded). checkedOf x table) (sym g) ∙ e in
-      done text list (refused (r .number) (r .place)) (ap (λ (x : Checked). next x (listLong (length list))) x)
+  compile-refused {q} {r} g f = done text list (refused (r .number) (r .place)) (ap (λ (x : Checked Job). next x (λ j. listLong (length list) j j)) (loaded-refused text table a e g f))
 
   module _ (h : Head) (s : Sizes) (g : a ≡ Loaded.Ready h s) (m : Measured a table) where
     abbrev j : Job
     j = jobOf h table
 
     passes : passed j ≡ jobIn text
-    passes = ap (λ (x : Loaded). checkedOf x table) (sym g) ∙ e
+    passes = loaded-passed text table a e h s g
 
     sized : (s .positions ≡ positionCount j) × (s .steps ≡ stepCount j)
-    sized = rw g at m
+    sized = loaded-sized text table a e h s g m
 
     right : WellFormed j × (fits j ≡ true)
     right = passed-right text j (sym passes)
 
     lists : (b : Bool) → leb (listNeed j) (length list) ≡ b → cond b (passed j) (refused 6 (listNeed j)) ≡ compiling text (length list)
     unfolding compiling
-    lists b f = ap (λ (x : Bool). cond x (passed j) (refused 6 (listNeed j))) (sym f) ∙ ap (λ (x : Checked). next x (listLong (length list))) passes
+    lists b f = ap (λ (x : Bool). cond x (passed j) (refused 6 (listNeed j))) (sym f) ∙ ap (λ (x : Checked Job). next x (λ j. listLong (length list) j j)) passes
 
     pub compile-short : length list < s .steps * 4 → Post text list (CompileAnswer.Refused (record { number = 6; place = s .steps * 4 })) list
     compile-short l = rw (sized .1) (done text list (refused 6 (listNeed j)) (lists false (lt-leb (listNeed j) (length list) (omega (arith, sized .1)))))

@@ -1,4 +1,10 @@
 pub mod LoadLaws
+pub mod OfferLaws
 pub mod CompilingLaws
+pub mod SaysLaws
+pub mod CheckingLaws
+pub mod OneAnswer
 pub mod Agreement
+pub mod StepPlans
+pub mod MarkedCases
 pub mod Examples

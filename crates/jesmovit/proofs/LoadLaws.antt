@@ -18,8 +18,9 @@ use Rattle.job.specs.declared.reading.Answer.{Answer}
 use Rattle.job.proofs.ReadLaws.{accepted-well-formed}
 use Rattle.compile.specs.CompiledJob.{positionCount, stepCount, fits}
 use Rattle.compile.specs.Size.{capped}
+use Rattle.compile.specs.declared.sizes.Sizes.{Sizes}
 use Rattle.jesmovit.specs.Refusals.{passed, refused, limits, jobIn}
-use Rattle.jesmovit.specs.Load.{checkedOf}
+use Rattle.jesmovit.specs.Load.{checkedOf, Measured, refusalOf}
 use Rattle.jesmovit.specs.declared.load.Loaded.{Loaded}
 
 -- fitting, as two comparisons
@@ -85,3 +86,15 @@ module _ (text : List ℕ) (j : Job) where
   pub passed-right : jobIn text ≡ passed j → WellFormed j × (fits j ≡ true)
   unfolding jobIn
   passed-right e = within (readJob text) refl e
+
+-- what a caller of loading knows
+module _ (text table : List ℕ) (a : Loaded) (e : checkedOf a table ≡ jobIn text) where
+  pub loaded-refused : {q r : Refusal} → a ≡ Loaded.Refused q → r ≡ refusalOf a → refused (r .number) (r .place) ≡ jobIn text
+  loaded-refused g f = ap (λ (x : Refusal). refused (x .number) (x .place)) (f ∙ ap refusalOf g) ∙ ap (λ (x : Loaded). checkedOf x table) (sym g) ∙ e
+
+  module _ (h : Head) (s : Sizes) (g : a ≡ Loaded.Ready h s) where
+    pub loaded-passed : passed (jobOf h table) ≡ jobIn text
+    loaded-passed = ap (λ (x : Loaded). checkedOf x table) (sym g) ∙ e
+
+    pub loaded-sized : Measured a table → (s .positions ≡ positionCount (jobOf h table)) × (s .steps ≡ stepCount (jobOf h table))
+    loaded-sized m = rw g at m

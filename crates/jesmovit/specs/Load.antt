@@ -2,6 +2,7 @@
 use Prim.Native.Nat.{ℕ}
 use mathlib.Core.Path.{_≡_}
 use mathlib.Core.List.{List}
+use Rattle.job.specs.Job.{Job}
 use Rattle.job.specs.Store.{jobOf}
 use Rattle.job.specs.declared.head.Refusal.{Refusal}
 use Rattle.compile.specs.CompiledJob.{positionCount, stepCount}
@@ -10,7 +11,7 @@ use Rattle.jesmovit.specs.Refusals.{Checked}
 use Rattle.jesmovit.specs.declared.load.Loaded.{Loaded}
 use Rattle.jesmovit.specs.declared.load.Loaded.the-variants.{Ready, Refused}
 
-abbrev pub checkedOf : Loaded → List ℕ → Checked
+abbrev pub checkedOf : Loaded → List ℕ → Checked Job
 checkedOf (Ready head sizes) table = C.passed (jobOf head table)
 checkedOf (Refused r) table = C.refused (r .number) (r .place)
 

@@ -1,10 +1,10 @@
 -- Steps laid flat, and read back.
 -- Assumes nothing.
-use Prim.Native.Nat.{ℕ, zero, suc, _+_, _*_, _≤_, _<_}
+use Prim.Native.Nat.{ℕ, zero, suc, _+_, _*_, _/_, _≤_, _<_}
 use mathlib.Core.Path.{_≡_, refl, sym, _∙_, ap, subst}
 use mathlib.Core.Bool.{cond}
 use mathlib.Core.Option.{none}
-use mathlib.Core.List.{List, [], _∷_, _++_}
+use mathlib.Core.List.{List, [], _∷_, _++_, append-nil}
 use native.Mathlib.Omega.{arith}
 use lib.Dec.{eqb}
 use lib.ListN.{length, getD, drop}
@@ -36,6 +36,12 @@ flat-back : (L : List Step) (rest : List ℕ) → stepsIn (length L) (flat L ++ 
 unfolding flat stepsIn
 flat-back [] rest = refl
 flat-back (arc l p q ∷ L) rest = rw (label-back l, flat-back L rest)
+
+-- a list of nothing but steps
+pub flat-steps : (L : List Step) → stepsIn (length (flat L) / 4) (flat L) ≡ L
+flat-steps L =
+    let e : length (flat L) / 4 ≡ length L = omega (arith, flat-length L) in
+    ap (λ (n : ℕ). stepsIn n (flat L)) e ∙ ap (stepsIn (length L)) (sym (append-nil (flat L))) ∙ flat-back L []
 
 -- a list over whose front steps are laid holds those steps
 pub laid-back : (L : List Step) (list : List ℕ) → length L * 4 ≤ length list → stepsIn (length L) (sets list 0 (flat L)) ≡ L

@@ -1,11 +1,14 @@
--- A verdict on the rest of a list, once entries before it are made at a cost.
+-- A verdict on the rest of a list, once entries before it are made at a cost; and that no two cases of the answer give one verdict.
 -- Assumes nothing.
 use Prim.Native.Nat.{ℕ, suc, _+_}
-use mathlib.Core.Path.{_≡_, refl, ap}
+use mathlib.Core.Path.{_≡_, refl, sym, _∙_, ap}
 use mathlib.Core.Bool.{Bool, true, false}
 use native.Mathlib.Omega.{arith}
 use Rattle.semantics.specs.Verdict.{Verdict, plan, blocked, unfinished, missed}
 use Rattle.semantics.specs.PositionSets.{onward, finished}
+use Rattle.validate.specs.Verdict.{verdictOf}
+use Rattle.validate.specs.declared.verdict.Verdict as A
+use Rattle.validate.specs.declared.verdict.Verdict.the-variants.{Plan, Blocked, Unfinished, Missed}
 
 -- after i entries at cost c
 unfoldable pub later : ℕ → ℕ → Verdict → Verdict
@@ -40,3 +43,19 @@ later-finished c i true true = refl
 later-finished c i true false = refl
 later-finished c i false true = refl
 later-finished c i false false = refl
+
+-- the case of the answer that gives a verdict
+abbrev caseOf : Verdict → A.Verdict
+caseOf (plan cost) = Plan cost
+caseOf (blocked i) = Blocked i
+caseOf unfinished = Unfinished
+caseOf missed = Missed
+
+case-of-verdict : (v : A.Verdict) → caseOf (verdictOf v) ≡ v
+case-of-verdict (Plan cost) = refl
+case-of-verdict (Blocked i) = refl
+case-of-verdict Unfinished = refl
+case-of-verdict Missed = refl
+
+pub verdict-injective : (v w : A.Verdict) → verdictOf v ≡ verdictOf w → v ≡ w
+verdict-injective v w e = sym (case-of-verdict v) ∙ ap caseOf e ∙ case-of-verdict w

@@ -149,9 +149,9 @@ impl PositionSet {
         let mut marks = [false; 256];
         let mut members = [0u16; 256];
         let mut count: usize = 0;
-        let mut at: usize = 0;
-        while at < n {
-            let p = old[at];
+        let mut i: usize = 0;
+        while i < n {
+            let p = old[i];
             count = follow(
                 &mut marks,
                 &mut members,
@@ -162,7 +162,7 @@ impl PositionSet {
                 Wanted::Move(m),
                 p,
             );
-            at += 1;
+            i += 1;
         }
         PositionSet {
             marks: marks,

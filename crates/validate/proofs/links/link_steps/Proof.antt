@@ -1,11 +1,9 @@
-use mathlib.Core.Path.{refl}
-use Prim.Native.Nat.{_*_, _+_}
-use mathlib.Core.Path.{_≡_}
-use Rattle.validate.proofs.LinkLaws.{links-none, links-more}
-use Rattle.validate.specs.Links.{Linked}
-use Prim.Native.Nat.{_/_, _-_, _≤_}
-use lib.ListN.{length}
+use Prim.Native.Nat.{_*_, _+_, _/_, _-_, _≤_}
+use mathlib.Core.Path.{refl, _≡_}
 use native.Mathlib.Omega.{arith}
+use lib.ListN.{length}
+use Rattle.validate.specs.Links.{Linked}
+use Rattle.validate.proofs.LinkLaws.{links-none, links-more}
 use borrow.Author.Needs.{needs}
 use Rattle.validate.proofs.links.link_steps.Statement.{statement}
 use Rattle.validate.proofs.links.link_steps.Tie as tie

@@ -1,10 +1,9 @@
-use mathlib.Core.Path.{_≡_}
-use mathlib.Core.Path.{_∙_}
+use Prim.Native.Nat.{_-_}
+use mathlib.Core.Path.{_≡_, _∙_}
+use native.Mathlib.Omega.{arith}
+use lib.ListN.{length}
 use Rattle.validate.proofs.MoveLaws.{Checking, checking-start, checking-none, checking-stuck, checking-more, checking-end}
 use Rattle.validate.proofs.ReadyLaws.{ready-listed, some-position}
-use lib.ListN.{length}
-use Prim.Native.Nat.{_-_}
-use native.Mathlib.Omega.{arith}
 use borrow.Author.Needs.{needs}
 use Rattle.validate.proofs.moves.check_moves.Statement.{statement}
 use Rattle.validate.proofs.moves.check_moves.Tie as tie

@@ -1,10 +1,9 @@
-use Rattle.validate.proofs.LinkLaws.{last-within}
-use lib.ListN.{length, getD}
-use Prim.Native.Nat.{_-_, _+_, _*_, _<_, _/_}
-use Rattle.validate.proofs.FollowLaws.{Following, follow-start, follow-end, follow-more}
-use Rattle.validate.specs.Positions.{wantedBy}
+use Prim.Native.Nat.{_-_, _+_, _*_}
 use native.Mathlib.Omega.{arith}
-use mathlib.Core.Path.{_≡_}
+use lib.ListN.{getD}
+use Rattle.validate.specs.Positions.{wantedBy}
+use Rattle.validate.proofs.LinkLaws.{last-within}
+use Rattle.validate.proofs.FollowLaws.{Following, follow-start, follow-end, follow-more}
 use borrow.Author.Needs.{needs}
 use Rattle.validate.proofs.position_set.follow.Statement.{statement}
 use Rattle.validate.proofs.position_set.follow.Tie as tie

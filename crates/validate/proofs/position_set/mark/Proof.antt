@@ -1,5 +1,5 @@
-use Rattle.validate.proofs.MarkLaws.{mark-off, mark-old, mark-room, mark-new}
 use native.Mathlib.Omega.{arith}
+use Rattle.validate.proofs.MarkLaws.{mark-off, mark-old, mark-room, mark-new}
 use borrow.Author.Needs.{needs}
 use Rattle.validate.proofs.position_set.mark.Statement.{statement}
 use Rattle.validate.proofs.position_set.mark.Tie as tie

@@ -1,19 +1,18 @@
-use Prim.Native.Nat.{ℕ}
+use Prim.Native.Nat.{ℕ, _-_}
+use native.Mathlib.Omega.{arith}
 use lib.ListN.{length-replicate}
-use Rattle.validate.proofs.SetLaws.{Advancing, advancing-start, advancing-more, advancing-end, counted-few, member-inside}
 use Rattle.validate.specs.declared.position_set.Wanted.the-variants.{Move}
 use Rattle.validate.specs.Positions.{wantedBy}
-use Prim.Native.Nat.{_-_}
-use native.Mathlib.Omega.{arith}
+use Rattle.validate.proofs.SetLaws.{Advancing, advancing-start, advancing-more, advancing-end, counted-few, member-inside}
 use borrow.Author.Needs.{needs}
 use Rattle.validate.proofs.position_set.PositionSet.advanced.Statement.{statement}
 use Rattle.validate.proofs.position_set.PositionSet.advanced.Tie as tie
 
 abbrev Inv-loop : tie.InvT-loop
-Inv-loop list links m old n values marks₀ members₀ count₀ at₀ marks members count at = Advancing (wantedBy (Move m) values) list old n marks members count at
+Inv-loop list links m old n values marks₀ members₀ count₀ i₀ marks members count i = Advancing (wantedBy (Move m) values) list old n marks members count i
 
 abbrev μ-loop : tie.MeasureT-loop
-μ-loop list links m old n values marks₀ members₀ count₀ at₀ marks members count at = n - at
+μ-loop list links m old n values marks₀ members₀ count₀ i₀ marks members count i = n - i
 
 loop-holds : tie.Need-loop-holds Inv-loop μ-loop
 loop-holds c = advancing-start _ _ _ _ _ (length-replicate {A = ℕ} 256 0)

@@ -1,8 +1,8 @@
-use Rattle.validate.proofs.SetLaws.{Closing, closing-start, closing-more, closing-end, counted-few, member-inside}
-use Rattle.validate.specs.declared.position_set.Wanted.the-variants.{Silent}
-use Rattle.validate.specs.Positions.{wantedBy}
 use Prim.Native.Nat.{_-_}
 use native.Mathlib.Omega.{arith}
+use Rattle.validate.specs.declared.position_set.Wanted.the-variants.{Silent}
+use Rattle.validate.specs.Positions.{wantedBy}
+use Rattle.validate.proofs.SetLaws.{Closing, closing-start, closing-more, closing-end, counted-few, member-inside}
 use borrow.Author.Needs.{needs}
 use Rattle.validate.proofs.position_set.PositionSet.closed.Statement.{statement}
 use Rattle.validate.proofs.position_set.PositionSet.closed.Tie as tie

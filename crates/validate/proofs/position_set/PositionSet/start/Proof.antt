@@ -1,5 +1,5 @@
-use Rattle.validate.proofs.SetLaws.{first-counted}
 use mathlib.Core.Path.{refl}
+use Rattle.validate.proofs.SetLaws.{first-counted}
 use borrow.Author.Needs.{needs}
 use Rattle.validate.proofs.position_set.PositionSet.start.Statement.{statement}
 use Rattle.validate.proofs.position_set.PositionSet.start.Tie as tie

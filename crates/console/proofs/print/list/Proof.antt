@@ -2,20 +2,20 @@ use native.Mathlib.Omega.{arith}
 use Prim.Native.Nat.{_≤_, _-_}
 use lib.ListN.{length}
 use borrow.Author.Needs.{needs}
-use Rattle.compile_lists.proofs.print_list.Statement.{statement}
-use Rattle.compile_lists.proofs.print_list.Tie as tie
+use Rattle.console.proofs.print.list.Statement.{statement}
+use Rattle.console.proofs.print.list.Tie as tie
 
 abbrev Inv-loop : tie.InvT-loop
-Inv-loop list k₀ t4 t5 k = k ≤ length list
+Inv-loop numbers k₀ t4 t5 k = k ≤ length numbers
 
 abbrev μ-loop : tie.MeasureT-loop
-μ-loop list k₀ t4 t5 k = length list - k
+μ-loop numbers k₀ t4 t5 k = length numbers - k
 
 cast-number : tie.Need-cast-number Inv-loop μ-loop
 cast-number c = record { fits = omega (arith, c .shared-slice-known2 .given (c .before .before .before .before .loop .k)) }
 
-pub print-list-spec : {M : Type 1} → statement M
-print-list-spec =
+pub list-spec : {M : Type 1} → statement M
+list-spec =
     tie.close
     (tie.spec
     Inv-loop

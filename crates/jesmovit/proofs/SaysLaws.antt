@@ -1,0 +1,44 @@
+-- The verdicts that the checks compute are those of "Verdicts".
+-- Assumes nothing.
+use Prim.Native.Nat.{ℕ, _-_}
+use mathlib.Core.Path.{_≡_, sym, _∙_, ap, subst}
+use mathlib.Core.List.{List}
+use lib.ListN.{length}
+use Rattle.job.specs.Job.{Job}
+use Rattle.job.specs.Store.{jobOf}
+use Rattle.job.specs.declared.head.Head.{Head}
+use Rattle.semantics.specs.Verdict.{Verdict}
+use Rattle.semantics.specs.PositionSets.{verdictBy}
+use Rattle.semantics.specs.StepVerdict.{stepVerdict}
+use Rattle.semantics.proofs.CheckLaws.{verdict-by-judged}
+use Rattle.semantics.proofs.StepVerdictLaws.{step-verdict-judged}
+use Rattle.domain.specs.Domain.{domainOf}
+use Rattle.compile.specs.Program.{programOf}
+use Rattle.compile.specs.CompiledJob.{stepsOf, positionCount}
+use Rattle.validate.specs.Ready.{Ready, Entries}
+use Rattle.validate.proofs.ReadyLaws.{final-below}
+use Rattle.jesmovit.specs.Refusals.{boundFor}
+use Rattle.jesmovit.specs.Checking.{Says}
+use Rattle.jesmovit.specs.declared.offer.Sort.{Sort}
+use Rattle.jesmovit.specs.declared.offer.Sort.the-variants.{Moves, Steps}
+use Rattle.jesmovit.proofs.OfferLaws.{moves-of}
+
+module _ (h : Head) (table plan : List ℕ) where
+  abbrev j : Job
+  j = jobOf h table
+
+  module _ {sort : Sort} (e : sort ≡ Moves) where
+    pub move-entries : Entries plan (boundFor sort (jobOf h table)) → Entries plan (h .counts .moves)
+    move-entries x = subst (λ (b : ℕ). Entries plan b) (ap (λ (s : Sort). boundFor s j) e ∙ moves-of h table) x
+
+    pub says-moves : {list : List ℕ} {positions : ℕ} → Ready h table list positions → {v : Verdict} → v ≡ verdictBy 256 (domainOf (jobOf h table)) (programOf (jobOf h table)) plan
+        → Says sort (record { job = jobOf h table; entries = plan }) v
+    says-moves r f = rw (e, f) (verdict-by-judged (domainOf j) (programOf j) 256 (final-below r) plan)
+
+  module _ {sort : Sort} (e : sort ≡ Steps) where
+    pub step-entries : Entries plan (boundFor sort (jobOf h table)) → Entries plan (length (stepsOf (jobOf h table)))
+    step-entries x = subst (λ (b : ℕ). Entries plan b) (ap (λ (s : Sort). boundFor s j) e) x
+
+    pub says-steps : {list : List ℕ} {positions : ℕ} → Ready h table list positions → {v : Verdict} → v ≡ stepVerdict (domainOf (jobOf h table)) (stepsOf (jobOf h table)) (positions - 1) plan
+        → Says sort (record { job = jobOf h table; entries = plan }) v
+    says-steps r f = rw (e, f, r .positions) (step-verdict-judged (domainOf j) (stepsOf j) (positionCount j - 1) plan)

@@ -1,0 +1,63 @@
+-- The marked cases that ask for a verdict only, as a table of texts.
+use Prim.Native.Nat.{ℕ}
+use Prim.Native.String.{String}
+use mathlib.Core.Path.{_≡_}
+use mathlib.Core.List.{List, [], _∷_, _++_}
+use Rattle.text.specs.Bytes.{bytes}
+use Rattle.semantics.specs.Verdict.{Verdict, blocked, unfinished, missed}
+use Rattle.semantics.specs.PositionSets.{verdict}
+use Rattle.domain.specs.Domain.{domainOf}
+use Rattle.compile.specs.Program.{programOf}
+use Rattle.jesmovit.specs.Refusals.{Checked, passed, Offer, next}
+use Rattle.jesmovit.specs.Checking.{checking, Says}
+use Rattle.jesmovit.specs.declared.offer.Sort.the-variants.{Moves}
+
+-- the bytes of a job text and of a plan text, and the verdict on them
+pub record Case : Type 0 where
+  pub job : List ℕ
+  pub plan : List ℕ
+  pub says : Verdict
+
+abbrev marks : List ℕ → String → Verdict → Case
+marks job plan says = record { job = job; plan = bytes plan; says = says }
+
+-- "The sample", with this program
+abbrev sampleWith : String → List ℕ
+sampleWith program =
+    bytes "job=1\nfacts=2\ninit=0\nformulas=4\nf=1,0,0\nf=2,0,0\nf=2,1,0\nf=3,1,0\nmoves=2\nm=0,3,1\ne=0,1,1\nm=2,1,1\ne=0,0,1\ngoal=1\n" ++ bytes program
+
+abbrev pub sample : List ℕ
+sample = sampleWith "program=3\np=1,0,0,0\np=1,1,0,0\np=4,0,1,0\n"
+
+-- "With recipe star of (0 or 1)"
+abbrev pub starOfChoice : List ℕ
+starOfChoice = sampleWith "program=4\np=1,0,0,0\np=1,1,0,0\np=6,0,1,0\np=8,2,0,0\n"
+
+-- "With star of (while formula 3 do 0)"
+abbrev pub starOfWhile : List ℕ
+starOfWhile = sampleWith "program=3\np=1,0,0,0\np=7,3,0,0\np=8,1,0,0\n"
+
+-- "With init 0, goal fact 0 and one move of precondition true that clears and sets fact 0, recipe that move"; the clearing comes last in the text, and
+-- the move costs 5
+abbrev clearsAndSets : List ℕ
+clearsAndSets = bytes "job=1\nfacts=1\ninit=0\nformulas=2\nf=1,0,0\nf=2,0,0\nmoves=1\nm=0,1,2\ne=0,0,1\ne=0,0,0\ngoal=1\nprogram=1\np=1,0,0,0\n"
+
+-- "Marked, on the sample"
+unfoldable pub marked : List Case
+marked =
+    marks sample "plan=0\n" unfinished  -- "(2) empty list unfinished"
+    ∷ marks sample "plan=1\nm=1\n" (blocked 0)  -- "(3) list 1 blocked 0"
+    ∷ marks sample "plan=1\nm=0\n" unfinished  -- "(4) list 0 unfinished"
+    ∷ marks sample "plan=3\nm=0\nm=1\nm=1\n" (blocked 2)  -- "(5) 0,1,1 blocked 2"
+    ∷ marks starOfChoice "plan=0\n" missed  -- "(7) empty list goal missed"
+    ∷ marks starOfWhile "plan=1\nm=0\n" unfinished  -- "(8) list 0 unfinished"
+    ∷ marks clearsAndSets "plan=1\nm=0\n" (Verdict.plan 5)  -- "(9) … list 0 is a plan"
+    ∷ []
+
+-- nothing is refused, with a list of 4,096 places, and this is the verdict by the program's own runs
+abbrev pub Right : Case → Type 0
+Right c = (o : Offer) × (checking Moves (c .job) (c .plan) 4096 ≡ passed o) × Says Moves o (c .says)
+
+-- the verdict computed by position sets, or the refusal, with a list of so many places for the job's steps
+unfoldable pub saying : List ℕ → List ℕ → ℕ → Checked Verdict
+saying text plan places = next (checking Moves text plan places) (λ o. passed (verdict (domainOf (o .job)) (programOf (o .job)) (o .entries)))

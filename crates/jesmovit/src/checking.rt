@@ -1,0 +1,86 @@
+// Plan texts checked against job texts.
+ghost use mathlib.Core.Path.{_≡_};
+ghost use lib.ListN.{length};
+ghost use Rattle.job.specs.Store.{jobOf};
+ghost use Rattle.validate.specs.Ready.{Ready, Entries};
+ghost use Rattle.validate.specs.Verdict.{verdictOf};
+ghost use Rattle.jesmovit.specs.Refusals.{jobsOf, boundFor};
+ghost use Rattle.jesmovit.specs.Compiling.{listAfter};
+ghost use Rattle.jesmovit.specs.Checking.{checking, Says, Answers};
+use crate::offer::Offered;
+use crate::offer::Sort;
+use job::head::Head;
+use job::head::Refusal;
+use job::rows::TABLE;
+use validate::plan_text::ENTRIES;
+use validate::verdict::Verdict;
+
+// The verdict on a plan; or why the texts or the list are refused.
+pub enum CheckAnswer {
+    Said(Verdict),
+    Refused(Refusal),
+}
+
+// The verdict on the entries of a plan; the list holds the compiled job's steps and nothing else.
+fn verdict(
+    sort: Sort,
+    head: Head,
+    table: &[u16],
+    list: &[u16],
+    positions: u16,
+    plan: &[u16],
+) -> Verdict
+    requires { ⌜ Ready head (now table) (now list) positions ⌝ }
+    requires { ⌜ Entries (now plan) (boundFor sort (jobOf head (now table))) ⌝ }
+    ensures { λ r. ⌜ Says sort (record { job = jobOf head (now (table .entry)); entries = now (plan .entry) }) (verdictOf r) ⌝ }
+{
+    match sort {
+        Sort::Moves => validate::moves::check_moves(head, table, list, positions, plan),
+        Sort::Steps => validate::steps::check_steps(head, table, list, positions, plan),
+    }
+}
+
+fn check(sort: Sort, text: &[u8], plan: &[u8], list: &mut [u16]) -> CheckAnswer
+    ensures { λ r. ⌜ Answers sort (checking sort (now (text .entry)) (now (plan .entry)) (length (now (list .entry)))) r × (now (list .exit) ≡ listAfter (jobsOf (checking sort (now (text .entry)) (now (plan .entry)) (length (now (list .entry))))) (now (list .entry))) ⌝ }
+{
+    let mut table = [0u16; TABLE];
+    let mut entries = [0u16; ENTRIES];
+    let offered = crate::offer::offer(sort, text, plan, &mut table, &mut entries);
+    let Offered::Ready(head, sizes, n) = offered else {
+        let r = crate::offer::refusal(offered);
+        return CheckAnswer::Refused(r);
+    };
+    let need = (sizes.steps as usize) * 4;
+    if list.len() < need {
+        let short = Refusal {
+            number: 6,
+            place: need,
+        };
+        return CheckAnswer::Refused(short);
+    }
+    compile::program::compile(head, &table, list);
+    let v = verdict(
+        sort,
+        head,
+        &table,
+        &list[0..need],
+        sizes.positions,
+        &entries[0..n],
+    );
+    CheckAnswer::Said(v)
+}
+
+// The verdict on a list of moves against the job's program. Unless the texts or the list are refused, the list's front then holds the steps of the compiled
+// job, four numbers each.
+pub fn check_moves(text: &[u8], plan: &[u8], list: &mut [u16]) -> CheckAnswer
+    ensures { λ r. ⌜ Answers Sort.Moves (checking Sort.Moves (now (text .entry)) (now (plan .entry)) (length (now (list .entry)))) r × (now (list .exit) ≡ listAfter (jobsOf (checking Sort.Moves (now (text .entry)) (now (plan .entry)) (length (now (list .entry))))) (now (list .entry))) ⌝ }
+{
+    check(Sort::Moves, text, plan, list)
+}
+
+// The verdict on a list of steps against the compiled job, whose steps the list's front then holds, unless the texts or the list are refused.
+pub fn check_steps(text: &[u8], plan: &[u8], list: &mut [u16]) -> CheckAnswer
+    ensures { λ r. ⌜ Answers Sort.Steps (checking Sort.Steps (now (text .entry)) (now (plan .entry)) (length (now (list .entry)))) r × (now (list .exit) ≡ listAfter (jobsOf (checking Sort.Steps (now (text .entry)) (now (plan .entry)) (length (now (list .entry))))) (now (list .entry))) ⌝ }
+{
+    check(Sort::Steps, text, plan, list)
+}
