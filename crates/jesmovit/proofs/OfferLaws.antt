@@ -1,10 +1,10 @@
 -- A job text and a plan text loaded: refused as loading refuses, or by 5, or handed on.
 -- Assumes nothing.
 use Prim.Native.Nat.{ℕ, _≤_}
-use mathlib.Core.Path.{_≡_, refl, sym, _∙_, ap}
+use mathlib.Core.Path.{_≡_, sym, _∙_, ap}
 use mathlib.Core.List.{List}
-use lib.ListN.{length, take}
-use Rattle.job.specs.Job.{Job, countsOf}
+use lib.ListN.{length}
+use Rattle.job.specs.Job.{Job}
 use Rattle.job.specs.Store.{jobOf}
 use Rattle.job.specs.declared.head.Head.{Head}
 use Rattle.job.specs.declared.head.Counts.{Counts}

@@ -9,7 +9,7 @@ use native.Mathlib.Omega.{arith}
 use native.Mathlib.Decide.{decLt}
 use lib.ListN.{length, getD}
 use Rattle.semantics.specs.Label.{Label}
-use Rattle.semantics.specs.CompilingTable.{Step, labelIn}
+use Rattle.semantics.specs.CompilingTable.{labelIn}
 use Rattle.semantics.specs.Path.{StepAt}
 use Rattle.semantics.specs.PositionSets.{Marked}
 use Rattle.semantics.proofs.FlatLaws.{steps-at, steps-only}

@@ -1,6 +1,6 @@
 -- One more mark in a position set that is counted and listed.
 -- Assumes nothing.
-use Prim.Native.Nat.{ℕ, _+_, _≤_, _<_}
+use Prim.Native.Nat.{ℕ, _+_, _<_}
 use mathlib.Core.Path.{_≡_, refl, sym, _∙_, ap, subst}
 use mathlib.Core.Bool.{Bool, true, false, cond}
 use mathlib.Core.List.{List}
@@ -9,7 +9,7 @@ use native.Mathlib.Omega.{arith}
 use native.Mathlib.Decide.{decLt}
 use lib.ListN.{length, getD, set, length-set}
 use lib.Seq.{getD-set-same, getD-set-other, set-getD}
-use Rattle.semantics.specs.PositionSets.{Marked, count}
+use Rattle.semantics.specs.PositionSets.{Marked}
 use Rattle.semantics.proofs.Marks.{set-keeps, set-from, count-le, count-new}
 use Rattle.validate.specs.Positions.{Counted, Marking}
 

@@ -1,7 +1,7 @@
 -- The check of a list of moves, move by move: the verdict from the start is the verdict from here.
 -- Assumes nothing.
 use Prim.Native.Nat.{ℕ, _+_, _-_, _*_, _≤_, _<_}
-use mathlib.Core.Path.{_≡_, refl, sym, _∙_, ap}
+use mathlib.Core.Path.{_≡_, sym, _∙_, ap}
 use mathlib.Core.Bool.{Bool, true, false}
 use mathlib.Core.Option.{some}
 use mathlib.Core.List.{List, _∷_}
@@ -15,7 +15,7 @@ use Rattle.job.specs.Store.{jobOf}
 use Rattle.job.specs.declared.head.Head.{Head}
 use Rattle.semantics.specs.Domain.{Domain}
 use Rattle.semantics.specs.CompilingTable.{Step, end}
-use Rattle.semantics.specs.Verdict.{Verdict, blocked}
+use Rattle.semantics.specs.Verdict.{blocked}
 use Rattle.semantics.specs.PositionSets.{closure, spread, isMove, silentIn, anyMark, firstSet, nextSet, onward, finished, verdictFrom, verdictBy}
 use Rattle.semantics.proofs.Marks.{count-zero, count-some}
 use Rattle.semantics.proofs.SetVerdict.{verdict-none, verdict-stuck, verdict-onward}

@@ -18,7 +18,6 @@ use Rattle.domain.specs.Cost.{mostCost}
 use Rattle.domain.specs.Domain.{domainOf}
 use Rattle.domain.proofs.DomainLaws.{domain-bounded}
 use Rattle.compile.specs.Program.{programOf}
-use Rattle.compile.specs.CompiledJob.{stepsOf}
 use Rattle.compile.proofs.FitLaws.{few-positions, few-steps}
 use Rattle.validate.specs.Links.{Listed}
 use Rattle.validate.specs.Ready.{Ready}
@@ -42,11 +41,8 @@ module _ {head : Head} {table list : List ℕ} {positions : ℕ} (r : Ready head
   pub some-position : 1 ≤ positions
   some-position = omega (arith, r .positions)
 
-  pub list-short : length list ≤ 4096
+  list-short : length list ≤ 4096
   list-short = omega (arith, r .whole, few-steps j (r .fit))
-
-  pub step-quarters : length list / 4 ≡ length (stepsOf (jobOf head table))
-  step-quarters = omega (arith, r .whole)
 
   step-range : (k : ℕ) → k < length list / 4 → Range 0 (end (programOf j) 0) (getD list (k * 4 + 1) 0) (getD list (k * 4 + 2) 0)
   step-range k h = compiled (domainOf j) (programOf j) 0 .range (rw (r .steps) at (steps-at (length list / 4) list k h))
