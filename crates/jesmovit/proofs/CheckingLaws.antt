@@ -28,7 +28,7 @@ use Rattle.validate.proofs.PlanTexts.{read-entries}
 use Rattle.jesmovit.specs.Refusals.{Checked, passed, refused, next, jobIn, Offer, jobsOf, offered, keyFor, boundFor, offerIn, listNeed, listLong}
 use Rattle.jesmovit.specs.Offer.{offerOf, Fitting, refusalOf}
 use Rattle.jesmovit.specs.Compiling.{listAfter}
-use Rattle.jesmovit.specs.Checking.{checking, Says, Answers, says, refuses}
+use Rattle.jesmovit.specs.Checking.{checking, Says, Answers, says, refuses, Checks}
 use Rattle.jesmovit.specs.declared.offer.Sort.{Sort}
 use Rattle.jesmovit.specs.declared.offer.Offered.{Offered}
 use Rattle.jesmovit.specs.declared.checking.CheckAnswer.{CheckAnswer}
@@ -65,17 +65,20 @@ module _ (sort : Sort) (text plan list : List ℕ) where
   abbrev c₀ : Checked Offer
   c₀ = checking sort text plan (length list)
 
+  done : (c : Checked Offer) → c ≡ c₀ → {answer : CheckAnswer} {after : List ℕ} → Answers sort c answer → after ≡ listAfter (jobsOf c) list → Checks sort text plan list answer after
+  done c f {answer} {after} x y = let z = subst (λ (d : Checked Offer). Post d answer after) f (x, y) in record { answers = z .0; holds = z .1 }
+
   module _ (table entries : List ℕ) (a : Offered) (e : offerOf a table entries ≡ offerIn sort text plan) where
     lists : (c : Checked Offer) → c ≡ offerIn sort text plan → next c (λ o. listLong (length list) (o .job) o) ≡ c₀
     unfolding checking
     lists c f = ap (λ (x : Checked Offer). next x (λ o. listLong (length list) (o .job) o)) f
 
     -- what loading refuses
-    pub check-refused : {q r : Refusal} → a ≡ Offered.Refused q → r ≡ refusalOf a → Post c₀ (CheckAnswer.Refused r) list
+    pub check-refused : {q r : Refusal} → a ≡ Offered.Refused q → r ≡ refusalOf a → Checks sort text plan list (CheckAnswer.Refused r) list
     check-refused {q} {r} g f =
         let x : refused (r .number) (r .place) ≡ offerIn sort text plan =
         ap (λ (x : Refusal). refused (x .number) (x .place)) (f ∙ ap refusalOf g) ∙ ap (λ (x : Offered). offerOf x table entries) (sym g) ∙ e in
-        subst (λ (c : Checked Offer). Post c (CheckAnswer.Refused r) list) (lists (refused (r .number) (r .place)) x) (refuses, refl)
+        done (refused (r .number) (r .place)) (lists (refused (r .number) (r .place)) x) refuses refl
 
     module _ (h : Head) (s : Sizes) (n : ℕ) (g : a ≡ Offered.Ready h s n) (m : Fitting a table) where
       abbrev j : Job
@@ -99,10 +102,9 @@ module _ (sort : Sort) (text plan list : List ℕ) where
       listed : (b : Bool) → leb (listNeed j) (length list) ≡ b → cond b (passed o) (refused 6 (listNeed j)) ≡ c₀
       listed b f = ap (λ (x : Bool). cond x (passed o) (refused 6 (listNeed j))) (sym f) ∙ lists (passed o) passes
 
-      pub check-short : length list < s .steps * 4 → Post c₀ (CheckAnswer.Refused (record { number = 6; place = s .steps * 4 })) list
+      pub check-short : length list < s .steps * 4 → Checks sort text plan list (CheckAnswer.Refused (record { number = 6; place = s .steps * 4 })) list
       check-short l =
-          rw (sized .1) (subst (λ (c : Checked Offer). Post c (CheckAnswer.Refused (record { number = 6; place = listNeed j })) list)
-          (listed false (lt-leb (listNeed j) (length list) (omega (arith, sized .1)))) (refuses, refl))
+          rw (sized .1) (done (refused 6 (listNeed j)) (listed false (lt-leb (listNeed j) (length list) (omega (arith, sized .1)))) refuses refl)
 
       module _ (l : s .steps * 4 ≤ length list) where
         pub check-ready : WellFormed j × ((fits j ≡ true) × (stepCount j * 4 ≤ length list))
@@ -137,7 +139,7 @@ module _ (sort : Sort) (text plan list : List ℕ) where
           pub check-handed : length table ≡ allRows * 4 → Ready h table (take (s .steps * 4 - 0) after) (s .positions) × Entries (take (n - 0) entries) (boundFor sort j)
           check-handed size = rw (whole (s .steps * 4) after, whole n entries) (ready size, given)
 
-          pub check-done : {v : Verdict} → Says sort (record { job = jobOf h table; entries = take (n - 0) entries }) (verdictOf v) → Post c₀ (CheckAnswer.Said v) after
+          pub check-done : {v : Verdict} → Says sort (record { job = jobOf h table; entries = take (n - 0) entries }) (verdictOf v) → Checks sort text plan list (CheckAnswer.Said v) after
           check-done {v} x =
               let y : Says sort o (verdictOf v) = rw (whole n entries) at x in
-              subst (λ (c : Checked Offer). Post c (CheckAnswer.Said v) after) (listed true (le-leb (listNeed j) (length list) (omega (arith, sized .1)))) (says y, f)
+              done (passed o) (listed true (le-leb (listNeed j) (length list) (omega (arith, sized .1)))) (says y) f

@@ -1,6 +1,8 @@
 -- What checking a plan text against a job text answers.
 use Prim.Native.Nat.{ℕ, _-_}
+use mathlib.Core.Path.{_≡_}
 use mathlib.Core.List.{List}
+use lib.ListN.{length}
 use Rattle.semantics.specs.Verdict.{Verdict, Judged, byRuns, bySteps}
 use Rattle.domain.specs.Domain.{domainOf}
 use Rattle.compile.specs.Program.{programOf}
@@ -8,7 +10,8 @@ use Rattle.compile.specs.CompiledJob.{stepsOf, positionCount}
 use Rattle.validate.specs.Verdict.{verdictOf}
 use Rattle.validate.specs.declared.verdict.Verdict as A
 use Rattle.jesmovit.specs.Refusals as C
-use Rattle.jesmovit.specs.Refusals.{Checked, Offer, next, offerIn, listLong}
+use Rattle.jesmovit.specs.Refusals.{Checked, Offer, next, jobsOf, offerIn, listLong}
+use Rattle.jesmovit.specs.Compiling.{listAfter}
 use Rattle.jesmovit.specs.declared.offer.Sort.{Sort}
 use Rattle.jesmovit.specs.declared.offer.Sort.the-variants.{Moves, Steps}
 use Rattle.jesmovit.specs.declared.checking.CheckAnswer.{CheckAnswer}
@@ -27,3 +30,8 @@ Says Steps o v = Judged (domainOf (o .job)) (bySteps (domainOf (o .job)) (stepsO
 pub data Answers (sort : Sort) : Checked Offer → CheckAnswer → Type 0 where
   says : {o : Offer} {v : A.Verdict} → Says sort o (verdictOf v) → Answers sort (C.passed o) (Said v)
   refuses : {number place : ℕ} → Answers sort (C.refused number place) (Refused (record { number = number; place = place }))
+
+-- the whole promise of a check: the answer, and what the list holds afterwards
+pub record Checks (sort : Sort) (text plan list : List ℕ) (answer : CheckAnswer) (after : List ℕ) : Type 0 where
+  pub answers : Answers sort (checking sort text plan (length list)) answer
+  pub holds : after ≡ listAfter (jobsOf (checking sort text plan (length list))) list

@@ -1,12 +1,9 @@
 // Plan texts checked against job texts.
-ghost use mathlib.Core.Path.{_≡_};
-ghost use lib.ListN.{length};
 ghost use Rattle.job.specs.Store.{jobOf};
 ghost use Rattle.validate.specs.Ready.{Ready, Entries};
 ghost use Rattle.validate.specs.Verdict.{verdictOf};
-ghost use Rattle.jesmovit.specs.Refusals.{jobsOf, boundFor};
-ghost use Rattle.jesmovit.specs.Compiling.{listAfter};
-ghost use Rattle.jesmovit.specs.Checking.{checking, Says, Answers};
+ghost use Rattle.jesmovit.specs.Refusals.{boundFor};
+ghost use Rattle.jesmovit.specs.Checking.{Says, Checks};
 use crate::offer::Offered;
 use crate::offer::Sort;
 use job::head::Head;
@@ -41,7 +38,7 @@ fn verdict(
 }
 
 fn check(sort: Sort, text: &[u8], plan: &[u8], list: &mut [u16]) -> CheckAnswer
-    ensures { λ r. ⌜ Answers sort (checking sort (now (text .entry)) (now (plan .entry)) (length (now (list .entry)))) r × (now (list .exit) ≡ listAfter (jobsOf (checking sort (now (text .entry)) (now (plan .entry)) (length (now (list .entry))))) (now (list .entry))) ⌝ }
+    ensures { λ r. ⌜ Checks sort (now (text .entry)) (now (plan .entry)) (now (list .entry)) r (now (list .exit)) ⌝ }
 {
     let mut table = [0u16; TABLE];
     let mut entries = [0u16; ENTRIES];
@@ -73,14 +70,14 @@ fn check(sort: Sort, text: &[u8], plan: &[u8], list: &mut [u16]) -> CheckAnswer
 // The verdict on a list of moves against the job's program. Unless the texts or the list are refused, the list's front then holds the steps of the compiled
 // job, four numbers each.
 pub fn check_moves(text: &[u8], plan: &[u8], list: &mut [u16]) -> CheckAnswer
-    ensures { λ r. ⌜ Answers Sort.Moves (checking Sort.Moves (now (text .entry)) (now (plan .entry)) (length (now (list .entry)))) r × (now (list .exit) ≡ listAfter (jobsOf (checking Sort.Moves (now (text .entry)) (now (plan .entry)) (length (now (list .entry))))) (now (list .entry))) ⌝ }
+    ensures { λ r. ⌜ Checks Sort.Moves (now (text .entry)) (now (plan .entry)) (now (list .entry)) r (now (list .exit)) ⌝ }
 {
     check(Sort::Moves, text, plan, list)
 }
 
 // The verdict on a list of steps against the compiled job, whose steps the list's front then holds, unless the texts or the list are refused.
 pub fn check_steps(text: &[u8], plan: &[u8], list: &mut [u16]) -> CheckAnswer
-    ensures { λ r. ⌜ Answers Sort.Steps (checking Sort.Steps (now (text .entry)) (now (plan .entry)) (length (now (list .entry)))) r × (now (list .exit) ≡ listAfter (jobsOf (checking Sort.Steps (now (text .entry)) (now (plan .entry)) (length (now (list .entry))))) (now (list .entry))) ⌝ }
+    ensures { λ r. ⌜ Checks Sort.Steps (now (text .entry)) (now (plan .entry)) (now (list .entry)) r (now (list .exit)) ⌝ }
 {
     check(Sort::Steps, text, plan, list)
 }

@@ -1,21 +1,19 @@
 -- The check of a list of moves, move by move: the verdict from the start is the verdict from here.
 -- Assumes nothing.
-use Prim.Native.Nat.{ℕ, _+_, _-_, _*_, _≤_, _<_}
+use Prim.Native.Nat.{ℕ, suc, _+_, _-_, _*_, _≤_, _<_}
 use mathlib.Core.Path.{_≡_, sym, _∙_, ap}
 use mathlib.Core.Bool.{Bool, true, false}
 use mathlib.Core.Option.{some}
 use mathlib.Core.List.{List, _∷_}
 use native.Mathlib.Omega.{arith}
-use native.Mathlib.Numerals.{add-one}
 use lib.ListN.{length, getD, set, replicate, drop}
-use lib.Seq.{drop-cons, drop-length}
 use Rattle.job.specs.Job.{Job}
 use Rattle.job.specs.StateCount.{stateCount}
 use Rattle.job.specs.Store.{jobOf}
 use Rattle.job.specs.declared.head.Head.{Head}
 use Rattle.semantics.specs.Domain.{Domain}
 use Rattle.semantics.specs.CompilingTable.{Step, end}
-use Rattle.semantics.specs.Verdict.{blocked}
+use Rattle.semantics.specs.Verdict.{Verdict, blocked}
 use Rattle.semantics.specs.PositionSets.{closure, spread, isMove, silentIn, anyMark, firstSet, nextSet, onward, finished, verdictFrom, verdictBy}
 use Rattle.semantics.proofs.Marks.{count-zero, count-some}
 use Rattle.semantics.proofs.SetVerdict.{verdict-none, verdict-stuck, verdict-onward}
@@ -29,7 +27,7 @@ use Rattle.validate.specs.Links.{stepsOn}
 use Rattle.validate.specs.Positions.{CountedSet, silentBy}
 use Rattle.validate.specs.Ready.{Ready}
 use Rattle.validate.specs.declared.position_set.PositionSet.{PositionSet}
-use Rattle.validate.proofs.VerdictLaws.{later, later-none, later-onward, later-blocked, later-finished}
+use Rattle.validate.proofs.VerdictLaws.{Left, left-start, left-blocked, left-more, left-end}
 use Rattle.validate.proofs.WantedLaws.{silent-told}
 use Rattle.validate.proofs.ReadyLaws.{init-below, job-bounded, last-final}
 
@@ -46,16 +44,19 @@ module _ (head : Head) (table list : List ℕ) (plan : List ℕ) where
   abbrev e : ℕ
   e = end (programOf (jobOf head table)) 0
 
-  -- after i moves, at this cost, in this state, where its formulas have these values and the program may be at the positions of S
+  -- after i moves at this cost, in this state, where its formulas have these values and the program may be at the positions of S
   pub record Checking (state : ℕ) (values : List Bool) (S : PositionSet) (cost i : ℕ) : Type 0 where
-    pub same : verdictBy 256 (domainOf (jobOf head table)) (programOf (jobOf head table)) plan
-        ≡ later cost i (verdictFrom (domainOf (jobOf head table)) (stepsOf (jobOf head table)) (end (programOf (jobOf head table)) 0) state (S .marks) (drop i plan))
+    pub left : Left plan (verdictBy 256 (domainOf (jobOf head table)) (programOf (jobOf head table)) plan)
+        (verdictFrom (domainOf (jobOf head table)) (stepsOf (jobOf head table)) (end (programOf (jobOf head table)) 0) state (S .marks)) cost i
     pub counted : CountedSet S
     pub told : Tells (jobOf head table) state values
     pub room : length values ≡ 255
     pub state-below : state < stateCount (head .counts .facts)
     pub cost-within : cost ≤ 3600 * i
-    pub within : i ≤ length plan
+
+  -- the verdict on the whole list
+  abbrev whole : Verdict
+  whole = verdictBy 256 D (programOf j) plan
 
   module _ {positions : ℕ} (r : Ready head table list positions) where
     -- marks as the code closes them
@@ -66,13 +67,12 @@ module _ (head : Head) (table list : List ℕ) (plan : List ℕ) where
       pub checking-start : T ≡ set (replicate 256 false) 0 true → S .marks ≡ closure (silentBy values) (stepsOn list) T → Checking (head .init) values S 0 0
       unfolding verdictBy firstSet
       checking-start f g = record {
-        same = sym (later-none _ ∙ ap (λ U. verdictFrom D L e (head .init) U plan) (closed-is values T (head .init) told g ∙ rw f));
+        left = left-start plan whole (verdictFrom D L e (head .init) (S .marks)) (ap (λ U. verdictFrom D L e (head .init) U plan) (sym (closed-is values T (head .init) told g ∙ rw f)));
         counted = counted;
         told = told;
         room = room;
         state-below = init-below r;
         cost-within = omega arith;
-        within = omega arith;
       }
 
     module _ (state : ℕ) (values : List Bool) (S : PositionSet) (cost i : ℕ) (x : Checking state values S cost i) where
@@ -81,20 +81,17 @@ module _ (head : Head) (table list : List ℕ) (plan : List ℕ) where
         m = getD plan i 0
 
         abbrev rest : List ℕ
-        rest = drop (i + 1) plan
+        rest = drop (suc i) plan
 
-        here : verdictBy 256 D (programOf j) plan ≡ later cost i (verdictFrom D L e state (S .marks) (m ∷ rest))
-        here = x .same ∙ rw (drop-cons plan i 0 h, add-one i)
-
-        stops : verdictFrom D L e state (S .marks) (m ∷ rest) ≡ blocked 0 → blocked i ≡ verdictBy 256 D (programOf j) plan
-        stops f = sym (here ∙ ap (later cost i) f ∙ later-blocked cost i)
+        stops : verdictFrom D L e state (S .marks) (m ∷ rest) ≡ blocked 0 → blocked i ≡ whole
+        stops f = left-blocked plan whole (x .left) h f
 
         -- the move is not applicable
-        pub checking-none : {a : Successor} → a ≡ Inapplicable → successorIn a ≡ D .successor m state → blocked i ≡ verdictBy 256 D (programOf j) plan
+        pub checking-none : {a : Successor} → a ≡ Inapplicable → successorIn a ≡ D .successor m state → blocked i ≡ whole
         checking-none f g = stops (verdict-none D L e state m (S .marks) rest (sym g ∙ ap successorIn f))
 
-        module _ {a : Successor} {next : ℕ} (to : a ≡ To next) (after : successorIn a ≡ D .successor m state) (told : List Bool) (tells : Tells j next told) (A : List Bool) (B : PositionSet)
-            (advanced : A ≡ spread (isMove m) (stepsOn list) (S .marks) (replicate 256 false))
+        module _ {a : Successor} {next : ℕ} (to : a ≡ To next) (after : successorIn a ≡ D .successor m state) (told : List Bool) (tells : Tells j next told)
+            (A : List Bool) (B : PositionSet) (advanced : A ≡ spread (isMove m) (stepsOn list) (S .marks) (replicate 256 false))
             (closed : B .marks ≡ closure (silentBy told) (stepsOn list) A) (counted : CountedSet B) where
           made : D .successor m state ≡ some next
           made = sym after ∙ ap successorIn to
@@ -104,22 +101,23 @@ module _ (head : Head) (table list : List ℕ) (plan : List ℕ) where
           is-next = closed-is told A next tells closed ∙ rw (advanced, r .steps, x .counted .size)
 
           -- no position is left
-          pub checking-stuck : B .count ≡ 0 → blocked i ≡ verdictBy 256 D (programOf j) plan
+          pub checking-stuck : B .count ≡ 0 → blocked i ≡ whole
           checking-stuck f =
               stops (verdict-stuck D L e state m (S .marks) rest next made (ap anyMark (sym is-next) ∙ count-zero (B .marks) (sym (counted .counted) ∙ f)))
 
+          goes-on : (B .count ≡ 0 → ⊥) → verdictFrom D L e state (S .marks) (m ∷ rest) ≡ onward (D .cost m state) (verdictFrom D L e next (B .marks) rest)
+          goes-on f =
+              verdict-onward D L e state m (S .marks) rest next made (ap anyMark (sym is-next) ∙ count-some (B .marks) (omega (arith, counted .counted, f)))
+              ∙ ap (λ T. onward (D .cost m state) (verdictFrom D L e next T rest)) (sym is-next)
+
           pub checking-more : (B .count ≡ 0 → ⊥) → {c : ℕ} → c ≡ D .cost m state → c ≤ 3600 → length told ≡ 255 → Checking next told B (cost + c) (i + 1)
           checking-more f {c} g k room = record {
-            same = here
-                ∙ ap (later cost i) (verdict-onward D L e state m (S .marks) rest next made (ap anyMark (sym is-next) ∙ count-some (B .marks) (omega (arith, counted .counted, f))))
-                ∙ later-onward cost i (D .cost m state) _
-                ∙ rw (← is-next, g);
+            left = rw g (left-more plan whole (x .left) h (verdictFrom D L e next (B .marks)) (D .cost m state) (goes-on f));
             counted = counted;
             told = tells;
             room = room;
             state-below = job-bounded r .successors m state next (x .state-below) made;
             cost-within = omega (arith, x .cost-within);
-            within = omega arith;
           }
 
       -- all moves are made
@@ -127,7 +125,4 @@ module _ (head : Head) (table list : List ℕ) (plan : List ℕ) where
           → onward cost (finished complete goal) ≡ verdictBy 256 D (programOf j) plan
       unfolding verdictFrom
       checking-end h {complete} {goal} f g =
-          let k : i ≡ length plan = omega (arith, x .within) in
-          let last : verdictFrom D L e state (S .marks) (drop i plan) ≡ finished (getD (S .marks) e false) (D .goal state) = rw (k, drop-length) in
-          let same : finished (getD (S .marks) e false) (D .goal state) ≡ finished complete goal = rw (f, g, last-final r, x .told (head .goal)) in
-          sym (x .same ∙ ap (later cost i) (last ∙ same) ∙ later-finished cost i complete goal)
+          left-end plan whole (x .left) h complete goal (rw (f, g, last-final r, x .told (head .goal)))

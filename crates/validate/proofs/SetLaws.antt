@@ -50,6 +50,14 @@ module _ (on : Label → Bool) (list : List ℕ) where
   abbrev Done : List ℕ → List Bool → ℕ → Type 0
   Done ms T i = (k q : ℕ) (l : Label) → StepAt L k (getD ms i 0) l q → on l ≡ true → Marked T q
 
+  -- one member more
+  done-also : (ms : List ℕ) (at : ℕ) {T U : List Bool} {ts us : List ℕ} {m u : ℕ} → ((i : ℕ) → i < at → Done ms T i)
+      → Followed on L (getD ms at 0) 0 T ts m U us u → (i : ℕ) → i < at + 1 → Done ms U i
+  done-also ms at f y i a k q l s o = elim (decLt i at) [
+    | yes b ↦ y .grown q (f i b k q l s o)
+    | no b ↦ (let e : i ≡ at = omega arith in y .ends k q l (omega arith) (subst (λ j. StepAt L k (getD ms j 0) l q) e s) o)
+  ]
+
   -- closing S: the steps from the first `at` members are followed
   module _ (S : List Bool) where
     pub record Closing (T : List Bool) (ms : List ℕ) (n at : ℕ) : Type 0 where
@@ -76,12 +84,7 @@ module _ (on : Label → Bool) (list : List ℕ) where
       ]
 
       done-more : (i : ℕ) → i < at + 1 → Done us U i
-      done-more i a k q l s o =
-          let s′ = subst (λ p. StepAt L k p l q) (y .kept i (omega arith)) s in
-          elim (decLt i at) [
-            | yes b ↦ y .grown q (x .done i b k q l s′ o)
-            | no b ↦ (let e : i ≡ at = omega arith in y .ends k q l (omega arith) (subst (λ j. StepAt L k (getD ms j 0) l q) e s′) o)
-          ]
+      done-more i a k q l s o = done-also ms at (x .done) y i a k q l (subst (λ p. StepAt L k p l q) (y .kept i (omega arith)) s) o
 
       pub closing-more : Closing U us u (at + 1)
       closing-more = record {
@@ -130,14 +133,8 @@ module _ (on : Label → Bool) (list : List ℕ) where
         | new {k} {l} s o ↦ record { member = at; listed = h; number = k; label = l; step = s; passes = o }
       ]
 
-      done-also : (i : ℕ) → i < at + 1 → Done ms U i
-      done-also i a k q l s o = elim (decLt i at) [
-        | yes b ↦ y .grown q (x .done i b k q l s o)
-        | no b ↦ (let e : i ≡ at = omega arith in y .ends k q l (omega arith) (subst (λ j. StepAt L k (getD ms j 0) l q) e s) o)
-      ]
-
       pub advancing-more : Advancing U us u (at + 1)
-      advancing-more = record { counted = y .counted; within = omega arith; came = came-more; done = done-also }
+      advancing-more = record { counted = y .counted; within = omega arith; came = came-more; done = done-also ms at (x .done) y }
 
     pub advancing-end : {S T : List Bool} {ts : List ℕ} {m at : ℕ} → Counted S ms n → Advancing T ts m at → n ≤ at → T ≡ spread on (stepsOn list) S (replicate 256 false)
     advancing-end {S} {T} {ts} {m} {at} from x h =

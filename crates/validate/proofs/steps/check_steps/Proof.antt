@@ -7,20 +7,20 @@ use Rattle.domain.specs.Cost.{mostCost}
 use Rattle.domain.specs.Domain.{domainOf}
 use Rattle.compile.specs.CompiledJob.{stepsOf}
 use Rattle.validate.proofs.ReadyLaws.{job-bounded}
-use Rattle.validate.proofs.StepLaws.{Left, left-start, left-blocked, left-more, left-end}
+use Rattle.validate.proofs.StepLaws.{Stepping, stepping-start, stepping-blocked, stepping-more, stepping-end}
 use borrow.Author.Needs.{needs}
 use Rattle.validate.proofs.steps.check_steps.Statement.{statement}
 use Rattle.validate.proofs.steps.check_steps.Tie as tie
 
 abbrev Inv-loop : tie.InvT-loop
 Inv-loop head table list positions plan state₀ position₀ cost₀ i₀ state position cost i =
-    Left (domainOf (jobOf head table)) mostCost (stepsOf (jobOf head table)) (positions - 1) plan state position cost i
+    Stepping (domainOf (jobOf head table)) mostCost (stepsOf (jobOf head table)) (positions - 1) plan state position cost i
 
 abbrev μ-loop : tie.MeasureT-loop
 μ-loop head table list positions plan state₀ position₀ cost₀ i₀ state position cost i = length plan - i
 
 loop-holds : tie.Need-loop-holds Inv-loop μ-loop
-loop-holds c = left-start (job-bounded (c .before .before .before .pre .0))
+loop-holds c = stepping-start (job-bounded (c .before .before .before .pre .0))
 
 make-step-requires : tie.Need-make-step-requires Inv-loop μ-loop
 make-step-requires c κs =
@@ -33,18 +33,18 @@ returns : tie.Need-returns Inv-loop μ-loop
 returns c =
     let r = c .before .before .before .before .before .before .before .before .before .pre .0 in
     let made = rw (c .enum-told .given .1, r .steps) at (c .before .before .make-step .ensures) in
-    left-blocked (c .before .before .before .before .before .loop .inv) (c .before .before .before .before .loop-test .taken) made
+    stepping-blocked (c .before .before .before .before .before .loop .inv) (c .before .before .before .before .loop-test .taken) made
 
 loop-again : tie.Need-loop-again Inv-loop μ-loop
 loop-again c =
     let r = c .before .before .before .before .before .before .before .before .before .before .pre .0 in
     let made = rw (c .before .step .given .1, r .steps) at (c .before .before .before .make-step .ensures) in
-    left-more (c .before .before .before .before .before .before .loop .inv) (c .before .before .before .before .before .loop-test .taken) (job-bounded r) made
+    stepping-more (c .before .before .before .before .before .before .loop .inv) (c .before .before .before .before .before .loop-test .taken) (job-bounded r) made
 
 returns-2 : tie.Need-returns-2 Inv-loop μ-loop
 returns-2 c =
     let told = c .before .value-at .ensures ∙ c .before .before .before .formula-values .ensures _ in
-    let end = left-end (c .before .before .before .before .before .loop .inv) (c .before .before .before .before .loop-test .left) in
+    let end = stepping-end (c .before .before .before .before .before .loop .inv) (c .before .before .before .before .loop-test .left) in
     c .finish .ensures ∙ rw told end
 
 pub check-steps-spec : {M : Type 1} → statement M
