@@ -35,6 +35,7 @@ abbrev pub refusalOf : Offered → Refusal
 refusalOf (Ready head sizes n) = record { number = 0; place = 0 }
 refusalOf (Refused r) = r
 
+-- the same of a plan's reader: 5, at its line
 abbrev pub planRefusal : PlanAnswer → Refusal
 planRefusal (PlanAnswer.Read n) = record { number = 0; place = 0 }
 planRefusal (PlanAnswer.Refused line) = record { number = 5; place = line }

@@ -37,6 +37,7 @@ pub record Offer : Type 0 where
   pub job : Job
   pub entries : List ℕ
 
+-- the job alone
 abbrev pub jobsOf : Checked Offer → Checked Job
 jobsOf c = next c (λ o. passed (o .job))
 
