@@ -22,8 +22,12 @@ use Rattle.compile.specs.CompiledJob.{fits}
 use Rattle.validate.specs.PlanText.{entryIn, readEntries, readLines, readPlan}
 use Rattle.jesmovit.specs.Refusals.{Checked, passed, refused, Offer, next, jobIn, offerIn}
 use Rattle.jesmovit.specs.Checking.{checking, Says}
-use Rattle.jesmovit.specs.MarkedCases.{Case, marked, Right, saying}
+use Rattle.jesmovit.specs.MarkedCases.{Case, marked, Right}
 use Rattle.jesmovit.specs.declared.offer.Sort.the-variants.{Moves}
+
+-- the verdict computed by position sets, or the refusal, with a list of so many places for the job's steps
+unfoldable saying : List ℕ → List ℕ → ℕ → Checked Verdict
+saying text plan places = next (checking Moves text plan places) (λ o. passed (verdict (domainOf (o .job)) (programOf (o .job)) (o .entries)))
 
 computed : map (λ c. saying (c .job) (c .plan) 4096) marked ≡ map (λ c. passed (c .says)) marked
 unfolding bytes lines hasKey valueOf byteRead numbers
@@ -36,7 +40,7 @@ computed = refl
 
 -- what is computed is the verdict by the program's own runs
 module _ (text plan : List ℕ) (places : ℕ) (v : Verdict) where
-  pub saying-judged : saying text plan places ≡ passed v → (o : Offer) × (checking Moves text plan places ≡ passed o) × Says Moves o v
+  saying-judged : saying text plan places ≡ passed v → (o : Offer) × (checking Moves text plan places ≡ passed o) × Says Moves o v
   unfolding saying
   saying-judged e = judged (checking Moves text plan places) refl e
     where

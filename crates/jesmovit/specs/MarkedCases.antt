@@ -5,10 +5,7 @@ use mathlib.Core.Path.{_≡_}
 use mathlib.Core.List.{List, [], _∷_, _++_}
 use Rattle.text.specs.Bytes.{bytes}
 use Rattle.semantics.specs.Verdict.{Verdict, blocked, unfinished, missed}
-use Rattle.semantics.specs.PositionSets.{verdict}
-use Rattle.domain.specs.Domain.{domainOf}
-use Rattle.compile.specs.Program.{programOf}
-use Rattle.jesmovit.specs.Refusals.{Checked, passed, Offer, next}
+use Rattle.jesmovit.specs.Refusals.{passed, Offer}
 use Rattle.jesmovit.specs.Checking.{checking, Says}
 use Rattle.jesmovit.specs.declared.offer.Sort.the-variants.{Moves}
 
@@ -57,7 +54,3 @@ marked =
 -- nothing is refused, with a list of 4,096 places, and this is the verdict by the program's own runs
 abbrev pub Right : Case → Type 0
 Right c = (o : Offer) × (checking Moves (c .job) (c .plan) 4096 ≡ passed o) × Says Moves o (c .says)
-
--- the verdict computed by position sets, or the refusal, with a list of so many places for the job's steps
-unfoldable pub saying : List ℕ → List ℕ → ℕ → Checked Verdict
-saying text plan places = next (checking Moves text plan places) (λ o. passed (verdict (domainOf (o .job)) (programOf (o .job)) (o .entries)))

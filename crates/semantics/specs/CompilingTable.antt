@@ -1,5 +1,5 @@
 -- "Compiling table": the steps of a program that is compiled from position n, and the position e where it ends.
-use Prim.Native.Nat.{ℕ, zero, suc, _+_, _*_}
+use Prim.Native.Nat.{ℕ, zero, suc}
 use mathlib.Core.Bool.{cond}
 use mathlib.Core.List.{List, [], _∷_, _++_}
 use lib.Dec.{eqb}
@@ -80,7 +80,3 @@ labelIn kind arg = cond (eqb kind 0) noop (cond (eqb kind 1) (holds arg) (cond (
 unfoldable pub stepsIn : ℕ → List ℕ → List Step
 stepsIn zero l = []
 stepsIn (suc n) l = arc (labelIn (getD l 0 0) (getD l 3 0)) (getD l 1 0) (getD l 2 0) ∷ stepsIn n (drop 4 l)
-
--- step k of a list
-abbrev pub stepIn : List ℕ → ℕ → Step
-stepIn l k = arc (labelIn (getD l (k * 4) 0) (getD l (k * 4 + 3) 0)) (getD l (k * 4 + 1) 0) (getD l (k * 4 + 2) 0)
