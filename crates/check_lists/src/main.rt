@@ -11,13 +11,19 @@ fn check(steps: bool, text: &[u8], plan: &[u8], list: &mut [u16]) -> CheckAnswer
     jesmovit::check_moves(text, plan, list)
 }
 
+fn print_answer(answer: CheckAnswer) {
+    let mut out = io::buffer();
+    let end = report::check(answer, &mut out);
+    print::text(&out[..end]);
+}
+
 // With the first n places of the list.
 fn check_with(steps: bool, text: &[u8], plan: &[u8], list: &mut [u16], n: usize) {
     if list.len() < n {
         return;
     }
     let answer = check(steps, text, plan, &mut list[..n]);
-    print::check_answer(answer);
+    print_answer(answer);
     print::list(list);
 }
 

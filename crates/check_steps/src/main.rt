@@ -8,14 +8,13 @@ fn main() {
     let mut text = io::large_buffer();
     let mut plan = io::large_buffer();
     let mut list = [0u16; LIST];
-    let job = console::files::read_argument(1, b"job.txt", &mut text);
-    let n = job.count;
-    if job.read {
-        let offered = console::files::read_argument(2, b"plan.txt", &mut plan);
-        let m = offered.count;
-        if offered.read {
-            let answer = jesmovit::check_steps(&text[..n], &plan[..m], &mut list);
-            console::print::check_answer(answer);
-        }
+    let mut out = io::large_buffer();
+    let got = console::files::read_texts(&mut text, &mut plan);
+    let n = got.job;
+    let m = got.plan;
+    if got.read {
+        let answer = jesmovit::check_steps(&text[..n], &plan[..m], &mut list);
+        let end = report::check(answer, &mut out);
+        console::print::text(&out[..end]);
     }
 }

@@ -13,7 +13,7 @@ use Rattle.job.specs.Store.{programAt, rowAt, jobOf}
 use Rattle.job.specs.WellFormed.{WellFormed, beforeRow}
 use Rattle.job.specs.declared.head.Head.{Head}
 use Rattle.job.proofs.StoreLaws.{rows-length, rows-at}
-use Rattle.job.proofs.TextLaws.{kind-listed}
+use Rattle.job.proofs.RowLaws.{kind-listed}
 use Rattle.semantics.specs.Program.{Program, nil, move, any, test, seq, ifElse, choice, while, star}
 use Rattle.compile.specs.Program.{build, programs, rowProgram}
 

@@ -82,3 +82,30 @@ pub fn read_argument(i: usize, otherwise: &[u8], buf: &mut [u8]) -> Filled
     }
     read_file(&path[..n], buf)
 }
+
+// Whether two files were read, and how many bytes each filled.
+pub struct Texts {
+    pub read: bool,
+    pub job: usize,
+    pub plan: usize,
+}
+
+// Fills a buffer from the file that argument 1 names and one from that of argument 2, or from job.txt and plan.txt.
+pub fn read_texts(job: &mut [u8], plan: &mut [u8]) -> Texts
+    ensures { λ r. ⌜ Counts (r .job) (now (job .exit)) × Counts (r .plan) (now (plan .exit)) ⌝ }
+{
+    let first = read_argument(1, b"job.txt", job);
+    if first.read {
+        let second = read_argument(2, b"plan.txt", plan);
+        return Texts {
+            read: second.read,
+            job: first.count,
+            plan: second.count,
+        };
+    }
+    Texts {
+        read: false,
+        job: 0,
+        plan: 0,
+    }
+}

@@ -1,8 +1,6 @@
 // Printing to standard output.
-use jesmovit::CheckAnswer;
 use job::head::Refusal;
 use libc::STDOUT_FILENO;
-use validate::verdict::Verdict;
 
 pub fn text(t: &[u8]) {
     io::write_all(STDOUT_FILENO, t);
@@ -37,29 +35,4 @@ pub fn refusal(r: Refusal) {
     text(b",");
     number(r.place as u64);
     text(b"\n");
-}
-
-// `cost=` and `answer=plan`, or another verdict alone.
-pub fn verdict(v: Verdict) {
-    match v {
-        Verdict::Plan(cost) => {
-            text(b"cost=");
-            number(cost as u64);
-            text(b"\nanswer=plan\n");
-        }
-        Verdict::Blocked(i) => {
-            text(b"answer=blocked,");
-            number(i as u64);
-            text(b"\n");
-        }
-        Verdict::Unfinished => text(b"answer=unfinished\n"),
-        Verdict::Missed => text(b"answer=missed\n"),
-    }
-}
-
-pub fn check_answer(a: CheckAnswer) {
-    match a {
-        CheckAnswer::Said(v) => verdict(v),
-        CheckAnswer::Refused(r) => refusal(r),
-    }
 }

@@ -1,41 +1,51 @@
 -- Compiling: refused as loading refuses, or by 6, or done.
 -- Assumes nothing.
-use Prim.Native.Nat.{ℕ, _*_, _≤_, _<_}
+use Prim.Native.Nat.{ℕ, _-_, _*_, _≤_, _<_}
 use mathlib.Core.Path.{_≡_, sym, _∙_, ap}
 use mathlib.Core.Bool.{Bool, true, false, cond}
 use mathlib.Core.List.{List}
 use native.Mathlib.Omega.{arith}
 use lib.Dec.{leb}
-use lib.ListN.{length}
+use lib.ListN.{length, take}
 use lib.Seq.{sets}
 use borrow.Author.Tests.{le-leb, lt-leb}
 use Rattle.job.specs.Job.{Job}
-use Rattle.job.specs.Store.{jobOf}
+use Rattle.job.specs.Store.{allRows, jobOf}
 use Rattle.job.specs.WellFormed.{WellFormed}
 use Rattle.job.specs.declared.head.Head.{Head}
 use Rattle.job.specs.declared.head.Refusal.{Refusal}
 use Rattle.semantics.specs.CompilingTable.{flat}
 use Rattle.compile.specs.CompiledJob.{stepsOf, positionCount, stepCount, fits}
 use Rattle.compile.specs.declared.sizes.Sizes.{Sizes}
-use Rattle.jesmovit.specs.Refusals.{Checked, passed, refused, next, jobIn, listNeed, listLong}
-use Rattle.jesmovit.specs.Load.{checkedOf, Measured, refusalOf}
+use Rattle.validate.specs.Ready.{Ready}
+use Rattle.offers.specs.Refusals.{Checked, passed, refused, next, jobIn, listNeed, listLong}
+use Rattle.offers.specs.Load.{checkedOf, Measured, refusalOf}
+use Rattle.offers.specs.declared.load.Loaded.{Loaded}
+use Rattle.offers.proofs.LoadLaws.{passed-right, loaded-refused, loaded-passed, loaded-sized}
 use Rattle.jesmovit.specs.Compiling.{compiling, compileAnswer, listAfter}
-use Rattle.jesmovit.specs.declared.load.Loaded.{Loaded}
 use Rattle.jesmovit.specs.declared.compiling.CompileAnswer.{CompileAnswer}
-use Rattle.jesmovit.proofs.LoadLaws.{passed-right, loaded-refused, loaded-passed, loaded-sized}
+use Rattle.jesmovit.proofs.FrontLaws.{list-ready, front-ready}
 
 -- the post of the operation
 abbrev Post : List ℕ → List ℕ → CompileAnswer → List ℕ → Type 0
 Post text list answer after = (answer ≡ compileAnswer (compiling text (length list))) × (after ≡ listAfter (compiling text (length list)) list)
 
-done : (text list : List ℕ) (c : Checked Job) → c ≡ compiling text (length list) → Post text list (compileAnswer c) (listAfter c list)
-done text list c f = (ap compileAnswer f, ap (λ (x : Checked Job). listAfter x list) f)
+module _ (text list : List ℕ) where
+  done : (c : Checked Job) → c ≡ compiling text (length list) → Post text list (compileAnswer c) (listAfter c list)
+  done c f = (ap compileAnswer f, ap (λ (x : Checked Job). listAfter x list) f)
 
-module _ (text table list : List ℕ) (a : Loaded) (e : checkedOf a table ≡ jobIn text) where
+  pub compile-refused : {r : Refusal} → refused (r .number) (r .place) ≡ compiling text (length list) → Post text list (CompileAnswer.Refused r) list
+  compile-refused {r} f = done (refused (r .number) (r .place)) f
+
+  pub compile-done : (j : Job) {positions steps : ℕ} → (passed j ≡ compiling text (length list)) × (positions ≡ positionCount j) × (steps ≡ stepCount j)
+      → {after : List ℕ} → after ≡ sets list 0 (flat (stepsOf j)) → Post text list (CompileAnswer.Compiled positions steps) after
+  compile-done j e f = let x = done (passed j) (e .0) in (rw (e .1, e .2) (x .0), f ∙ x .1)
+
+module _ (text list table : List ℕ) (a : Loaded) (e : checkedOf a table ≡ jobIn text) where
   -- what loading refuses
-  pub compile-refused : {q r : Refusal} → a ≡ Loaded.Refused q → r ≡ refusalOf a → Post text list (CompileAnswer.Refused r) list
+  pub compiling-refused : {q r : Refusal} → a ≡ Loaded.Refused q → r ≡ refusalOf a → refused (r .number) (r .place) ≡ compiling text (length list)
   unfolding compiling
-  compile-refused {q} {r} g f = done text list (refused (r .number) (r .place)) (ap (λ (x : Checked Job). next x (λ j. listLong (length list) j j)) (loaded-refused text table a e g f))
+  compiling-refused g f = ap (λ (x : Checked Job). next x (λ j. listLong (length list) j j)) (loaded-refused text table a e g f)
 
   module _ (h : Head) (s : Sizes) (g : a ≡ Loaded.Ready h s) (m : Measured a table) where
     abbrev j : Job
@@ -47,21 +57,27 @@ module _ (text table list : List ℕ) (a : Loaded) (e : checkedOf a table ≡ jo
     sized : (s .positions ≡ positionCount j) × (s .steps ≡ stepCount j)
     sized = loaded-sized text table a e h s g m
 
-    right : WellFormed j × (fits j ≡ true)
-    right = passed-right text j (sym passes)
+    pub load-right : WellFormed (jobOf h table) × (fits (jobOf h table) ≡ true)
+    load-right = passed-right text j (sym passes)
 
     lists : (b : Bool) → leb (listNeed j) (length list) ≡ b → cond b (passed j) (refused 6 (listNeed j)) ≡ compiling text (length list)
     unfolding compiling
     lists b f = ap (λ (x : Bool). cond x (passed j) (refused 6 (listNeed j))) (sym f) ∙ ap (λ (x : Checked Job). next x (λ j. listLong (length list) j j)) passes
 
-    pub compile-short : length list < s .steps * 4 → Post text list (CompileAnswer.Refused (record { number = 6; place = s .steps * 4 })) list
-    compile-short l = rw (sized .1) (done text list (refused 6 (listNeed j)) (lists false (lt-leb (listNeed j) (length list) (omega (arith, sized .1)))))
+    pub compiling-short : length list < s .steps * 4 → {r : Refusal} → r ≡ record { number = 6; place = s .steps * 4 }
+        → refused (r .number) (r .place) ≡ compiling text (length list)
+    compiling-short l f =
+        ap (λ (x : Refusal). refused (x .number) (x .place)) f ∙ ap (λ (k : ℕ). refused 6 (k * 4)) (sized .1)
+        ∙ lists false (lt-leb (listNeed j) (length list) (omega (arith, sized .1)))
 
     module _ (l : s .steps * 4 ≤ length list) where
-      pub compile-ready : WellFormed j × ((fits j ≡ true) × (stepCount j * 4 ≤ length list))
-      compile-ready = (right .0, (right .1, omega (arith, sized .1)))
+      pub compile-ready : WellFormed (jobOf h table) × ((fits (jobOf h table) ≡ true) × (stepCount (jobOf h table) * 4 ≤ length list))
+      compile-ready = list-ready h table s sized load-right list l
 
-      pub compile-done : {after : List ℕ} → after ≡ sets list 0 (flat (stepsOf j)) → Post text list (CompileAnswer.Compiled (s .positions) (s .steps)) after
-      compile-done {after} f =
-          let x = done text list (passed j) (lists true (le-leb (listNeed j) (length list) (omega (arith, sized .1)))) in
-          (rw (sized .0, sized .1) (x .0), f ∙ x .1)
+      pub compiled-ready : {after : List ℕ} → after ≡ sets list 0 (flat (stepsOf (jobOf h table))) → length table ≡ allRows * 4
+          → Ready h table (take (s .steps * 4 - 0) after) (s .positions)
+      compiled-ready f size = front-ready h table s sized load-right list l f size
+
+      pub compiling-passed : (passed (jobOf h table) ≡ compiling text (length list))
+          × (s .positions ≡ positionCount (jobOf h table)) × (s .steps ≡ stepCount (jobOf h table))
+      compiling-passed = (lists true (le-leb (listNeed j) (length list) (omega (arith, sized .1))), sized .0, sized .1)

@@ -1,10 +1,6 @@
-pub mod LoadLaws
-pub mod OfferLaws
+pub mod FrontLaws
 pub mod CompilingLaws
 pub mod SaysLaws
 pub mod CheckingLaws
-pub mod OneAnswer
-pub mod Agreement
-pub mod StepPlans
-pub mod MarkedCases
-pub mod Examples
+pub mod CostingLaws
+pub mod JudgingLaws

@@ -17,11 +17,11 @@ use Rattle.compile.specs.Program.{programOf}
 use Rattle.compile.specs.CompiledJob.{stepsOf, positionCount}
 use Rattle.validate.specs.Ready.{Ready, Entries}
 use Rattle.validate.proofs.ReadyLaws.{final-below}
-use Rattle.jesmovit.specs.Refusals.{boundFor}
+use Rattle.offers.specs.Refusals.{boundFor}
+use Rattle.offers.specs.declared.offer.Sort.{Sort}
+use Rattle.offers.specs.declared.offer.Sort.the-variants.{Moves, Steps}
+use Rattle.offers.proofs.OfferLaws.{moves-of}
 use Rattle.jesmovit.specs.Checking.{Says}
-use Rattle.jesmovit.specs.declared.offer.Sort.{Sort}
-use Rattle.jesmovit.specs.declared.offer.Sort.the-variants.{Moves, Steps}
-use Rattle.jesmovit.proofs.OfferLaws.{moves-of}
 
 module _ (h : Head) (table plan : List ℕ) where
   abbrev j : Job

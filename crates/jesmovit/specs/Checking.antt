@@ -9,11 +9,11 @@ use Rattle.compile.specs.Program.{programOf}
 use Rattle.compile.specs.CompiledJob.{stepsOf, positionCount}
 use Rattle.validate.specs.Verdict.{verdictOf}
 use Rattle.validate.specs.declared.verdict.Verdict as A
-use Rattle.jesmovit.specs.Refusals as C
-use Rattle.jesmovit.specs.Refusals.{Checked, Offer, next, jobsOf, offerIn, listLong}
+use Rattle.offers.specs.Refusals as C
+use Rattle.offers.specs.Refusals.{Checked, Offer, next, jobsOf, offerIn, listLong}
+use Rattle.offers.specs.declared.offer.Sort.{Sort}
+use Rattle.offers.specs.declared.offer.Sort.the-variants.{Moves, Steps}
 use Rattle.jesmovit.specs.Compiling.{listAfter}
-use Rattle.jesmovit.specs.declared.offer.Sort.{Sort}
-use Rattle.jesmovit.specs.declared.offer.Sort.the-variants.{Moves, Steps}
 use Rattle.jesmovit.specs.declared.checking.CheckAnswer.{CheckAnswer}
 use Rattle.jesmovit.specs.declared.checking.CheckAnswer.the-variants.{Said, Refused}
 

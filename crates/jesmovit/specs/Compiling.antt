@@ -5,8 +5,8 @@ use lib.Seq.{sets}
 use Rattle.job.specs.Job.{Job}
 use Rattle.semantics.specs.CompilingTable.{flat}
 use Rattle.compile.specs.CompiledJob.{stepsOf, positionCount, stepCount}
-use Rattle.jesmovit.specs.Refusals as C
-use Rattle.jesmovit.specs.Refusals.{Checked, next, jobIn, listLong}
+use Rattle.offers.specs.Refusals as C
+use Rattle.offers.specs.Refusals.{Checked, next, jobIn, listLong}
 use Rattle.jesmovit.specs.declared.compiling.CompileAnswer.{CompileAnswer}
 use Rattle.jesmovit.specs.declared.compiling.CompileAnswer.the-variants.{Compiled, Refused}
 

@@ -2,14 +2,14 @@
 ghost use Rattle.job.specs.Store.{jobOf};
 ghost use Rattle.validate.specs.Ready.{Ready, Entries};
 ghost use Rattle.validate.specs.Verdict.{verdictOf};
-ghost use Rattle.jesmovit.specs.Refusals.{boundFor};
+ghost use Rattle.offers.specs.Refusals.{boundFor};
 ghost use Rattle.jesmovit.specs.Checking.{Says, Checks};
-use crate::offer::Offered;
-use crate::offer::Sort;
 use job::head::Head;
 use job::head::Refusal;
 use job::rows::TABLE;
-use validate::plan_text::ENTRIES;
+use offers::offer::Offered;
+use offers::offer::Sort;
+use plans::plan_text::ENTRIES;
 use validate::verdict::Verdict;
 
 // The verdict on a plan; or why the texts or the list are refused.
@@ -42,17 +42,14 @@ fn check(sort: Sort, text: &[u8], plan: &[u8], list: &mut [u16]) -> CheckAnswer
 {
     let mut table = [0u16; TABLE];
     let mut entries = [0u16; ENTRIES];
-    let offered = crate::offer::offer(sort, text, plan, &mut table, &mut entries);
+    let offered = offers::offer::offer(sort, text, plan, &mut table, &mut entries);
     let Offered::Ready(head, sizes, n) = offered else {
-        let r = crate::offer::refusal(offered);
+        let r = offers::offer::refusal(offered);
         return CheckAnswer::Refused(r);
     };
     let need = (sizes.steps as usize) * 4;
     if list.len() < need {
-        let short = Refusal {
-            number: 6,
-            place: need,
-        };
+        let short = offers::room::too_short(need);
         return CheckAnswer::Refused(short);
     }
     compile::program::compile(head, &table, list);

@@ -2,9 +2,9 @@
 ghost use mathlib.Core.Path.{_≡_};
 ghost use lib.ListN.{length};
 ghost use Rattle.jesmovit.specs.Compiling.{compiling, compileAnswer, listAfter};
-use crate::load::Loaded;
 use job::head::Refusal;
 use job::rows::TABLE;
+use offers::load::Loaded;
 
 // How many positions and steps the compiled job has; or why it is refused.
 pub enum CompileAnswer {
@@ -17,17 +17,14 @@ pub fn compile(text: &[u8], list: &mut [u16]) -> CompileAnswer
     ensures { λ r. ⌜ (r ≡ compileAnswer (compiling (now (text .entry)) (length (now (list .entry))))) × (now (list .exit) ≡ listAfter (compiling (now (text .entry)) (length (now (list .entry)))) (now (list .entry))) ⌝ }
 {
     let mut table = [0u16; TABLE];
-    let loaded = crate::load::load(text, &mut table);
+    let loaded = offers::load::load(text, &mut table);
     let Loaded::Ready(head, sizes) = loaded else {
-        let r = crate::load::refusal(loaded);
+        let r = offers::load::refusal(loaded);
         return CompileAnswer::Refused(r);
     };
     let need = (sizes.steps as usize) * 4;
     if list.len() < need {
-        let short = Refusal {
-            number: 6,
-            place: need,
-        };
+        let short = offers::room::too_short(need);
         return CompileAnswer::Refused(short);
     }
     compile::program::compile(head, &table, list);

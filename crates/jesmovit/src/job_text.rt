@@ -4,8 +4,8 @@ ghost use Rattle.job.specs.ReadJob.{readJob};
 ghost use Rattle.jesmovit.specs.JobText.{readAnswer};
 use job::head::Counts;
 use job::head::Refusal;
-use job::reading::Answer;
 use job::rows::TABLE;
+use reader::reading::Answer;
 
 // How many facts and rows of each sort the job has; or why the text is refused.
 pub enum ReadAnswer {
@@ -18,9 +18,9 @@ pub fn read_job(text: &[u8]) -> ReadAnswer
     ensures { λ r. ⌜ r ≡ readAnswer (readJob (now (text .entry))) ⌝ }
 {
     let mut table = [0u16; TABLE];
-    let answer = job::reading::read_job(text, &mut table);
+    let answer = reader::reading::read_job(text, &mut table);
     let Answer::Accepted(_, head) = answer else {
-        let r = job::reading::refusal(answer);
+        let r = reader::reading::refusal(answer);
         return ReadAnswer::Refused(r);
     };
     let counts = head.counts;

@@ -2,8 +2,7 @@
 mod checking;
 mod compiling;
 mod job_text;
-mod load;
-mod offer;
+mod judging;
 
 pub use checking::CheckAnswer;
 pub use checking::check_moves;
@@ -12,3 +11,8 @@ pub use compiling::CompileAnswer;
 pub use compiling::compile;
 pub use job_text::ReadAnswer;
 pub use job_text::read_job;
+pub use judging::JudgeAnswer;
+pub use judging::Judgement;
+pub use judging::LeastAnswer;
+pub use judging::judge;
+pub use judging::least_cost;

@@ -1,10 +1,3 @@
-pub mod LineLaws
+pub mod FaultLaws
 pub mod StoreLaws
-pub mod RoomLaws
 pub mod RowLaws
-pub mod ReadLaws
-pub mod LongTexts
-pub mod TextLaws
-pub mod ToldLaws
-pub mod Acceptance
-pub mod Examples

@@ -4,7 +4,5 @@ pub mod Line
 pub mod Fields
 pub mod Fault
 pub mod ReadJob
-pub mod JobText
 pub mod WellFormed
 pub mod Store
-pub mod Room

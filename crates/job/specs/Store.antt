@@ -6,14 +6,9 @@ use mathlib.Core.Option.{Option, none, some}
 use lib.ListN.{getD, take}
 use Rattle.job.specs.Job.{Job, Move, formulaOf, moveOf, effectOf, rowOf}
 use Rattle.job.specs.Line.{formOf}
-use Rattle.job.specs.ReadJob.{Reading, on, Outcome, accepted, refused}
 use Rattle.job.specs.declared.head.Head.{Head}
-use Rattle.job.specs.declared.head.Refusal.{Refusal}
 use Rattle.job.specs.declared.line.Line.{Line}
 use Rattle.job.specs.declared.line.Numbers.{Numbers}
-use Rattle.job.specs.declared.reading.State.{State}
-use Rattle.job.specs.declared.reading.Answer.{Answer}
-use Rattle.job.specs.declared.reading.Answer.the-variants.{Accepted, Refused}
 
 -- where the rows of each sort begin, and how many rows there are in all
 abbrev pub formulasAt : ℕ
@@ -53,36 +48,9 @@ jobOf h l = record {
   program = rowsFrom rowOf l programAt (h .counts .program);
 }
 
--- a head with other scalars
-abbrev pub withNumbers : Head → ℕ → ℕ → ℕ → Head
-withNumbers h facts init goal = record {
-  counts = record {
-    facts = facts;
-    formulas = h .counts .formulas;
-    moves = h .counts .moves;
-    effects = h .counts .effects;
-    program = h .counts .program;
-  };
-  init = init;
-  goal = goal;
-}
-
-abbrev pub readingOf : State → List ℕ → Reading
-readingOf s l = on (s .next) (s .rows) (s .effects) (jobOf (s .head) l)
-
 -- a line's numbers, as many as its sort has
 abbrev pub listOf : Line → Numbers → List ℕ
 listOf next r = take (formOf next .width) (r .a ∷ r .b ∷ r .c ∷ r .d ∷ [])
 
 abbrev pub numbersOf : Line → Numbers → Option (List ℕ)
 numbersOf next r = cond (r .formed) (some (listOf next r)) none
-
--- the paper's number and values for each case of the answer, with the rows that the table holds
-abbrev pub outcomeOf : Answer → List ℕ → Outcome
-outcomeOf (Accepted n h) l = accepted n (jobOf h l)
-outcomeOf (Refused r) l = refused (r .number) (r .place)
-
--- the refusal that an answer is
-abbrev pub refusalOf : Answer → Refusal
-refusalOf (Accepted n h) = record { number = 0; place = 0 }
-refusalOf (Refused r) = r

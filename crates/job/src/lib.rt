@@ -1,8 +1,7 @@
-// A job text, read line by line into a head of numbers and a table of rows.
+// A job: its head of numbers, its table of rows, and which reason refuses a line of its text.
 pub mod fault;
 pub mod fields;
 pub mod head;
 pub mod line;
-pub mod reading;
 pub mod rows;
 pub mod states;

@@ -1,8 +1,4 @@
 // The sorts of lines, and the numbers of a line.
-ghost use mathlib.Core.Path.{_≡_};
-ghost use Rattle.text.specs.Lines.{valueOf};
-ghost use Rattle.job.specs.Line.{formOf, rowNumbers};
-ghost use Rattle.job.specs.Store.{numbersOf};
 
 // The sorts of lines in the order in which they first come; the end is where no line may come.
 pub enum Line {
@@ -27,61 +23,4 @@ pub struct Numbers {
     pub b: u16,
     pub c: u16,
     pub d: u16,
-}
-
-// How many numbers a line has.
-fn width(next: Line) -> usize
-    ensures { λ r. ⌜ r ≡ formOf next .width ⌝ }
-{
-    match next {
-        Line::Job => 1,
-        Line::Facts => 1,
-        Line::Init => 1,
-        Line::Formulas => 1,
-        Line::Formula => 3,
-        Line::Moves => 1,
-        Line::Move => 3,
-        Line::Effect => 3,
-        Line::Goal => 1,
-        Line::Program => 1,
-        Line::Row => 4,
-        Line::End => 0,
-    }
-}
-
-// The value after a line's key, as a part of the line.
-fn value(next: Line, line: &[u8]) -> &[u8]
-    ensures { λ r. ⌜ now r ≡ valueOf (formOf next .key) (now (line .entry)) ⌝ }
-{
-    match next {
-        Line::Job => text::lines::value(line, b"job"),
-        Line::Facts => text::lines::value(line, b"facts"),
-        Line::Init => text::lines::value(line, b"init"),
-        Line::Formulas => text::lines::value(line, b"formulas"),
-        Line::Formula => text::lines::value(line, b"f"),
-        Line::Moves => text::lines::value(line, b"moves"),
-        Line::Move => text::lines::value(line, b"m"),
-        Line::Effect => text::lines::value(line, b"e"),
-        Line::Goal => text::lines::value(line, b"goal"),
-        Line::Program => text::lines::value(line, b"program"),
-        Line::Row => text::lines::value(line, b"p"),
-        Line::End => text::lines::value(line, b""),
-    }
-}
-
-// A line of the sort that comes next, as numbers.
-pub fn read_line(next: Line, line: &[u8]) -> Numbers
-    ensures { λ r. ⌜ numbersOf next r ≡ rowNumbers next (now (line .entry)) ⌝ }
-{
-    let mut n = [0u16; 4];
-    let w = width(next);
-    let v = value(next, line);
-    let formed = text::numbers::read_numbers(v, &mut n[0..w]);
-    Numbers {
-        formed: formed,
-        a: n[0],
-        b: n[1],
-        c: n[2],
-        d: n[3],
-    }
 }

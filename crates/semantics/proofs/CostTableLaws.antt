@@ -3,7 +3,7 @@
 use Prim.Native.Nat.{ℕ, _+_, _≤_}
 use mathlib.Core.Path.{_≡_}
 use mathlib.Core.Bool.{true}
-use mathlib.Core.Option.{Option, none, some}
+use mathlib.Core.Option.{Option, some}
 use mathlib.Core.List.{List}
 use native.Mathlib.Omega.{arith}
 use Rattle.semantics.specs.Program.{Program}
@@ -28,14 +28,6 @@ module _ (D : Domain) (L : List Step) (d : ℕ → ℕ → Option ℕ) (T : Sett
   from-start : {u q : ℕ} {is ms : List ℕ} → Path D L (D .start) 0 is ms u q → AtMost d u q (cost D (D .start) ms)
   from-start k = at-most (omega arith) (path-at-most (T .starts .entry) (T .starts .is) k)
 
-  -- an entry is at most the cost of every path to it
-  pub entry-least : (u q c : ℕ) (is ms : List ℕ) → d u q ≡ some c → Path D L (D .start) 0 is ms u q → c ≤ cost D (D .start) ms
-  entry-least u q c is ms e k = let w = from-start k in let f : c ≡ w .entry = cc (w .is) in omega arith
-
-  -- no entry, no path
-  pub absent-unreached : (u q : ℕ) (is ms : List ℕ) → d u q ≡ none → Path D L (D .start) 0 is ms u q → ⊥
-  absent-unreached u q is ms e k = let w = from-start k in let z : _≡_ {A = ℕ} 0 1 = cc (w .is) in omega arith
-
 module _ (D : Domain) (σ : Program) (d : ℕ → ℕ → Option ℕ) (T : Settled D (steps (D .moves) σ 0) d) where
   -- each allowed plan has an entry at the final position, in a state where the goal holds, that is at most its cost
   allowed-at-most : (ms : List ℕ) (a : Allowed D σ ms) → AtMost d (a .last) (end σ 0) (cost D (D .start) ms)
@@ -51,7 +43,3 @@ module _ (D : Domain) (σ : Program) (d : ℕ → ℕ → Option ℕ) (T : Settl
         costs = v .3;
         least = λ ms a. let w = allowed-at-most ms a in omega (arith, low (a .last) (w .entry) (a .reached) (w .is));
       }
-
-  -- no such entry, no allowed plan of any length
-  pub settled-none : ((t : ℕ) → D .goal t ≡ true → d t (end σ 0) ≡ none) → (ms : List ℕ) → Allowed D σ ms → ⊥
-  settled-none f ms a = let w = allowed-at-most ms a in let z : _≡_ {A = ℕ} 0 1 = cc (w .is, f (a .last) (a .reached)) in omega arith

@@ -20,5 +20,10 @@ pub mod FirstSet
 pub mod SetVerdict
 pub mod CheckLaws
 pub mod CostTableLaws
+pub mod FilledLaws
+pub mod JudgementLaws
+pub mod Totals
+pub mod CellLaws
+pub mod CellSound
 pub mod StepVerdictLaws
 pub mod FlatLaws

@@ -2,4 +2,3 @@ pub mod LineLaws
 pub mod NumberLaws
 pub mod WrittenLaws
 pub mod LineText
-pub mod Fronts

@@ -26,11 +26,11 @@ fuel (suc k) (suc j) n h g = elim (decLt n 10) [
       rw (le-ltb n 10 e) (ap (λ l. l ++ ((48 + n % 10) ∷ [])) (fuel k j (n / 10) (omega arith) (omega arith))))
 ]
 
-decimal-digit : (n : ℕ) → n < 10 → decimal n ≡ (48 + n) ∷ []
+pub decimal-digit : (n : ℕ) → n < 10 → decimal n ≡ (48 + n) ∷ []
 unfolding digitsWithin
 decimal-digit n h = rw (lt-ltb n 10 h)
 
-decimal-tens : (n : ℕ) → 10 ≤ n → decimal n ≡ decimal (n / 10) ++ ((48 + n % 10) ∷ [])
+pub decimal-tens : (n : ℕ) → 10 ≤ n → decimal n ≡ decimal (n / 10) ++ ((48 + n % 10) ∷ [])
 unfolding digitsWithin
 decimal-tens n h = rw (le-ltb n 10 h) (ap (λ l. l ++ ((48 + n % 10) ∷ [])) (fuel n (suc (n / 10)) (n / 10) (omega arith) (omega arith)))
 

@@ -1,7 +1,7 @@
 // A value's numbers, read byte by byte.
 ghost use mathlib.Core.Path.{_≡_};
 ghost use Prim.Native.Nat.{_≤_, _<_};
-ghost use mathlib.Core.Bool.{Bool, true};
+ghost use mathlib.Core.Bool.{true};
 ghost use lib.ListN.{length, take};
 ghost use Rattle.text.specs.Numbers.{isDigit, firstDigit, moreDigits, numberEnd, byteRead, result, numbers};
 ghost use Rattle.text.specs.Progress.{readingOf, countOf, answered, Goes, Steps};

@@ -1,6 +1,3 @@
-pub mod PlanLaws
-pub mod PlanTexts
-pub mod LongPlans
 pub mod LinkLaws
 pub mod WantedLaws
 pub mod MarkLaws

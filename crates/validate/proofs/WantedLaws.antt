@@ -31,7 +31,7 @@ module _ (values : List Bool) (kind arg : ℕ) where
     silent-fails e = rw e (ap not told)
 
   module _ (a : kind ≡ 0 → ⊥) (b : kind ≡ 1 → ⊥) (c : kind ≡ 2 → ⊥) where
-    is-make : labelIn kind arg ≡ make arg
+    pub is-make : labelIn kind arg ≡ make arg
     is-make = rw (ne-eqb kind 0 a, ne-eqb kind 1 b, ne-eqb kind 2 c)
 
     pub silent-move : false ≡ silentBy values (labelIn kind arg)

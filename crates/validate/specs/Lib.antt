@@ -1,4 +1,3 @@
-pub mod PlanText
 pub mod Links
 pub mod Positions
 pub mod Verdict

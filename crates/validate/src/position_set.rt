@@ -1,7 +1,7 @@
 // The set of positions that a program may be at.
 ghost use mathlib.Core.Path.{_≡_};
-ghost use mathlib.Core.Bool.{true, false, cond};
-ghost use Prim.Native.Nat.{_/_, _<_, _≤_};
+ghost use mathlib.Core.Bool.{true, false};
+ghost use Prim.Native.Nat.{_/_, _<_};
 ghost use lib.ListN.{length, getD, set, replicate};
 ghost use Rattle.semantics.specs.CompilingTable.{labelIn};
 ghost use Rattle.semantics.specs.PositionSets.{closure, spread, isMove};
@@ -22,7 +22,7 @@ pub enum Wanted {
 }
 
 // Whether a step can be made silently, by the formulas' values.
-fn is_silent(values: &[bool], kind: u16, arg: u16) -> bool
+pub fn is_silent(values: &[bool], kind: u16, arg: u16) -> bool
     ensures { λ r. ⌜ r ≡ silentBy (now (values .entry)) (labelIn kind arg) ⌝ }
 {
     match kind {

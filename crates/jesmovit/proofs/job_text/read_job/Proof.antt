@@ -1,6 +1,6 @@
 use mathlib.Core.Path.{sym, _∙_, ap}
-use Rattle.job.specs.Store.{outcomeOf, refusalOf}
 use Rattle.job.proofs.StoreLaws.{counts-of}
+use Rattle.reader.specs.Reading.{outcomeOf, refusalOf}
 use Rattle.jesmovit.specs.JobText.{readAnswer}
 use Rattle.jesmovit.specs.declared.job_text.ReadAnswer.{ReadAnswer}
 use borrow.Author.Needs.{needs}

@@ -3,7 +3,7 @@ use Rattle.job.specs.declared.line.Line.the-variants.{Job, Facts, Init, 
 use mathlib.Core.Bool.{cond}
 use borrow.Author.Tests.{not-true, not-false}
 use Rattle.job.specs.Fault.{fault}
-use Rattle.job.proofs.LineLaws.{fault-of, fault-form}
+use Rattle.job.proofs.FaultLaws.{fault-of, fault-form}
 use borrow.Author.Needs.{needs}
 use Rattle.job.proofs.fault.reason.Statement.{statement}
 use Rattle.job.proofs.fault.reason.Tie as tie

@@ -1,0 +1,131 @@
+// The least cost of a job text, and plan texts judged by it.
+ghost use mathlib.Core.Path.{_≡_};
+ghost use Prim.Native.Nat.{_*_, _≤_};
+ghost use lib.ListN.{length};
+ghost use Rattle.job.specs.StateCount.{stateCount};
+ghost use Rattle.job.specs.Store.{jobOf};
+ghost use Rattle.validate.specs.Ready.{Ready, Entries};
+ghost use Rattle.jesmovit.specs.Judging.{CostsLeast, compared, Found, Judges};
+use job::head::Head;
+use job::head::Refusal;
+use job::rows::TABLE;
+use offers::load::Loaded;
+use offers::offer::Offered;
+use offers::offer::Sort;
+use plans::plan_text::ENTRIES;
+use validate::verdict::Verdict;
+
+// The least cost of all plans that the job's program allows, or none where it allows no plan of any length; or why the text, the list or the table is refused.
+pub enum LeastAnswer {
+    Costs(u32),
+    NoPlan,
+    Refused(Refusal),
+}
+
+// What an offered plan is: one of least cost; one of a cost above the least, with both; or no plan, with the check's verdict.
+pub enum Judgement {
+    Least(u32),
+    Dearer(u32, u32),
+    Other(Verdict),
+}
+
+// How many positions and steps the compiled job has, and what the plan is; or why the texts, the list or the table are refused.
+pub enum JudgeAnswer {
+    Judged(u16, u16, Judgement),
+    Refused(Refusal),
+}
+
+// The least cost. Unless the text, the list or the table is refused, the list's front then holds the steps of the compiled job, four numbers each, and the
+// table's front the least cost of reaching each state and position.
+pub fn least_cost(text: &[u8], list: &mut [u16], table: &mut [u32]) -> LeastAnswer
+    ensures { λ r. ⌜ CostsLeast (now (text .entry)) (now (list .entry)) (now (table .entry)) r (now (list .exit)) (now (table .exit)) ⌝ }
+{
+    let mut rows = [0u16; TABLE];
+    let loaded = offers::load::load(text, &mut rows);
+    let Loaded::Ready(head, sizes) = loaded else {
+        let r = offers::load::refusal(loaded);
+        return LeastAnswer::Refused(r);
+    };
+    let need = (sizes.steps as usize) * 4;
+    if list.len() < need {
+        let short = offers::room::too_short(need);
+        return LeastAnswer::Refused(short);
+    }
+    let cells = offers::room::cells(head, sizes.positions);
+    if table.len() < cells {
+        let short = offers::room::too_short(cells);
+        return LeastAnswer::Refused(short);
+    }
+    compile::program::compile(head, &rows, list);
+    let least = search::least::least_cost(table, head, &rows, &list[0..need], sizes.positions);
+    if least < sweep::UNREACHED {
+        return LeastAnswer::Costs(least);
+    }
+    LeastAnswer::NoPlan
+}
+
+// A plan's cost beside the least cost.
+fn compare(cost: u32, least: u32) -> Judgement
+    ensures { λ r. ⌜ r ≡ compared cost least ⌝ }
+{
+    if cost <= least {
+        return Judgement::Least(cost);
+    }
+    Judgement::Dearer(cost, least)
+}
+
+// What the entries of a plan are, and the cost table filled if they are a plan. The list holds the compiled job's steps and nothing else.
+fn judge_entries(
+    table: &mut [u32],
+    head: Head,
+    rows: &[u16],
+    list: &[u16],
+    positions: u16,
+    plan: &[u16],
+) -> Judgement
+    requires { ⌜ Ready head (now rows) (now list) positions ⌝ }
+    requires { ⌜ Entries (now plan) (head .counts .moves) ⌝ }
+    requires { ⌜ stateCount (head .counts .facts) * positions ≤ length (now table) ⌝ }
+    ensures { λ r. ⌜ Found (jobOf head (now (rows .entry))) (now (plan .entry)) r (now (table .entry)) (now (table .exit)) ⌝ }
+{
+    let verdict = validate::moves::check_moves(head, rows, list, positions, plan);
+    let Verdict::Plan(cost) = verdict else {
+        return Judgement::Other(verdict);
+    };
+    let least = search::least::least_cost(table, head, rows, list, positions);
+    compare(cost, least)
+}
+
+// Judges a list of moves. Unless the texts, the list or the table are refused, the list's front then holds the steps of the compiled job, four numbers
+// each; for a plan, the table's front then holds the least cost of reaching each state and position.
+pub fn judge(text: &[u8], plan: &[u8], list: &mut [u16], table: &mut [u32]) -> JudgeAnswer
+    ensures { λ r. ⌜ Judges (now (text .entry)) (now (plan .entry)) (now (list .entry)) (now (table .entry)) r (now (list .exit)) (now (table .exit)) ⌝ }
+{
+    let mut rows = [0u16; TABLE];
+    let mut entries = [0u16; ENTRIES];
+    let offered = offers::offer::offer(Sort::Moves, text, plan, &mut rows, &mut entries);
+    let Offered::Ready(head, sizes, n) = offered else {
+        let r = offers::offer::refusal(offered);
+        return JudgeAnswer::Refused(r);
+    };
+    let need = (sizes.steps as usize) * 4;
+    if list.len() < need {
+        let short = offers::room::too_short(need);
+        return JudgeAnswer::Refused(short);
+    }
+    let size = offers::room::cells(head, sizes.positions);
+    if table.len() < size {
+        let short = offers::room::too_short(size);
+        return JudgeAnswer::Refused(short);
+    }
+    compile::program::compile(head, &rows, list);
+    let found = judge_entries(
+        table,
+        head,
+        &rows,
+        &list[0..need],
+        sizes.positions,
+        &entries[0..n],
+    );
+    JudgeAnswer::Judged(sizes.positions, sizes.steps, found)
+}

@@ -1,0 +1,23 @@
+// judge JOB PLAN: the compiled job, and what the list of moves is among the plans that the job's program allows, each text in the file that its argument names
+// (job.txt and plan.txt without one), or the refusal.
+
+// How many numbers the list of steps and the cost table hold.
+const LIST: usize = 4096;
+
+const TABLE: usize = 12288;
+
+fn main() {
+    let mut text = io::large_buffer();
+    let mut plan = io::large_buffer();
+    let mut list = [0u16; LIST];
+    let mut table = [0u32; TABLE];
+    let mut out = io::large_buffer();
+    let got = console::files::read_texts(&mut text, &mut plan);
+    let n = got.job;
+    let m = got.plan;
+    if got.read {
+        let answer = jesmovit::judge(&text[..n], &plan[..m], &mut list, &mut table);
+        let end = report::judge(answer, &list, &mut out);
+        console::print::text(&out[..end]);
+    }
+}

@@ -1,0 +1,101 @@
+-- Loading: what is read is refused by 4, or handed on with its sizes.
+-- Assumes nothing.
+use Prim.Native.Nat.{ℕ, _≤_, _<_, min}
+use mathlib.Core.Path.{_≡_, refl, sym, _∙_, ap}
+use mathlib.Core.Bool.{Bool, true, false, cond}
+use mathlib.Core.List.{List}
+use native.Mathlib.Omega.{arith}
+use borrow.Author.Tests.{le-leb, lt-leb}
+use Rattle.job.specs.Job.{Job}
+use Rattle.job.specs.ReadJob as R
+use Rattle.job.specs.ReadJob.{readJob}
+use Rattle.job.specs.Store.{jobOf}
+use Rattle.job.specs.WellFormed.{WellFormed}
+use Rattle.job.specs.declared.head.Head.{Head}
+use Rattle.job.specs.declared.head.Refusal.{Refusal}
+use Rattle.reader.specs.Reading as S
+use Rattle.reader.specs.Reading.{outcomeOf}
+use Rattle.reader.specs.declared.reading.Answer.{Answer}
+use Rattle.reader.proofs.ReadLaws.{accepted-well-formed}
+use Rattle.compile.specs.CompiledJob.{positionCount, stepCount, fits}
+use Rattle.compile.specs.Size.{capped}
+use Rattle.compile.specs.declared.sizes.Sizes.{Sizes}
+use Rattle.offers.specs.Refusals.{passed, refused, limits, jobIn}
+use Rattle.offers.specs.Load.{checkedOf, Measured, refusalOf}
+use Rattle.offers.specs.declared.load.Loaded.{Loaded}
+
+-- fitting, as two comparisons
+module _ (j : Job) where
+  unfit-positions : 256 < positionCount j → fits j ≡ false
+  unfolding fits
+  unfit-positions h = rw (lt-leb (positionCount j) 256 h)
+
+  unfit-steps : positionCount j ≤ 256 → 1024 < stepCount j → fits j ≡ false
+  unfolding fits
+  unfit-steps g h = rw (le-leb (positionCount j) 256 g, lt-leb (stepCount j) 1024 h)
+
+  fit : positionCount j ≤ 256 → stepCount j ≤ 1024 → fits j ≡ true
+  unfolding fits
+  fit g h = rw (le-leb (positionCount j) 256 g, le-leb (stepCount j) 1024 h)
+
+module _ (text table : List ℕ) where
+  -- what reading refuses
+  pub load-refused : {a : Answer} {q r : Refusal} → a ≡ Answer.Refused q → r ≡ S.refusalOf a → outcomeOf a table ≡ readJob text
+      → checkedOf (Loaded.Refused r) table ≡ jobIn text
+  unfolding jobIn
+  load-refused {a} {q} {r} g f e =
+      ap (λ (x : Refusal). refused (x .number) (x .place)) (f ∙ ap S.refusalOf g) ∙ ap limits (ap (λ (x : Answer). outcomeOf x table) (sym g) ∙ e)
+
+  module _ {a : Answer} (n : ℕ) (h : Head) (g : a ≡ Answer.Accepted n h) (e : outcomeOf a table ≡ readJob text) where
+    abbrev j : Job
+    j = jobOf h table
+
+    accepts : readJob text ≡ R.accepted n j
+    accepts = sym e ∙ ap (λ (x : Answer). outcomeOf x table) g
+
+    pub load-well-formed : WellFormed j
+    load-well-formed = accepted-well-formed text n j accepts
+
+    limited : (b : Bool) → fits j ≡ b → cond b (passed j) (refused 4 n) ≡ jobIn text
+    unfolding jobIn
+    limited b f = ap (λ (x : Bool). cond x (passed j) (refused 4 n)) (sym f) ∙ ap limits (sym accepts)
+
+    module _ (positions steps : ℕ) (m : (positions ≡ min (positionCount j) 1026) × (steps ≡ capped (stepCount j))) where
+      pub load-positions : 256 < positions → refused 4 n ≡ jobIn text
+      load-positions k = limited false (unfit-positions j (omega (arith, m .0)))
+
+      module _ (k : positions ≤ 256) where
+        few : positionCount j ≤ 256
+        few = omega (arith, m .0, k)
+
+        pub load-steps : 1024 < steps → refused 4 n ≡ jobIn text
+        load-steps l = limited false (unfit-steps j few (omega (arith, m .1)))
+
+        pub load-ready : steps ≤ 1024 → (passed j ≡ jobIn text) × ((positions ≡ positionCount j) × (steps ≡ stepCount j))
+        load-ready l = (limited true (fit j few (omega (arith, m .1, l))), (omega (arith, m .0, k), omega (arith, m .1, l)))
+
+-- what is handed on is well formed, and fits
+module _ (text : List ℕ) (j : Job) where
+  within : (o : R.Outcome) → readJob text ≡ o → limits o ≡ passed j → WellFormed j × (fits j ≡ true)
+  within (R.accepted n k) e f = by (fits k) refl f
+    where
+      by : (b : Bool) → fits k ≡ b → cond b (passed k) (refused 4 n) ≡ passed j → WellFormed j × (fits j ≡ true)
+      by true x y = let z : k ≡ j = cc in (rw (← z) (accepted-well-formed text n k e), rw (← z) x)
+      by false x y = let z : _≡_ {A = ℕ} 0 1 = cc in absurd (omega arith)
+  within (R.refused n p) e f = let z : _≡_ {A = ℕ} 0 1 = cc in absurd (omega arith)
+
+  pub passed-right : jobIn text ≡ passed j → WellFormed j × (fits j ≡ true)
+  unfolding jobIn
+  passed-right e = within (readJob text) refl e
+
+-- what a caller of loading knows
+module _ (text table : List ℕ) (a : Loaded) (e : checkedOf a table ≡ jobIn text) where
+  pub loaded-refused : {q r : Refusal} → a ≡ Loaded.Refused q → r ≡ refusalOf a → refused (r .number) (r .place) ≡ jobIn text
+  loaded-refused g f = ap (λ (x : Refusal). refused (x .number) (x .place)) (f ∙ ap refusalOf g) ∙ ap (λ (x : Loaded). checkedOf x table) (sym g) ∙ e
+
+  module _ (h : Head) (s : Sizes) (g : a ≡ Loaded.Ready h s) where
+    pub loaded-passed : passed (jobOf h table) ≡ jobIn text
+    loaded-passed = ap (λ (x : Loaded). checkedOf x table) (sym g) ∙ e
+
+    pub loaded-sized : Measured a table → (s .positions ≡ positionCount (jobOf h table)) × (s .steps ≡ stepCount (jobOf h table))
+    loaded-sized m = rw g at m

@@ -1,0 +1,41 @@
+-- What loading a job text and a plan text answers, beside a table that then holds the job's rows and a list that holds the plan's entries.
+use Prim.Native.Nat.{ℕ, _≤_}
+use mathlib.Core.Path.{_≡_}
+use mathlib.Core.List.{List}
+use lib.ListN.{take}
+use Rattle.job.specs.Store.{jobOf}
+use Rattle.job.specs.declared.head.Refusal.{Refusal}
+use Rattle.compile.specs.CompiledJob.{positionCount, stepCount}
+use Rattle.plans.specs.PlanText.{mostEntries}
+use Rattle.plans.specs.declared.plan_text.PlanAnswer.{PlanAnswer}
+use Rattle.offers.specs.Refusals as C
+use Rattle.offers.specs.Refusals.{Checked, Offer}
+use Rattle.offers.specs.declared.offer.Sort.{Sort}
+use Rattle.offers.specs.declared.offer.Sort.the-variants.{Moves, Steps}
+use Rattle.offers.specs.declared.offer.Offered.{Offered}
+use Rattle.offers.specs.declared.offer.Offered.the-variants.{Ready, Refused}
+
+abbrev pub offerOf : Offered → List ℕ → List ℕ → Checked Offer
+offerOf (Ready head sizes n) table entries = C.passed (record { job = jobOf head table; entries = take n entries })
+offerOf (Refused r) table entries = C.refused (r .number) (r .place)
+
+-- how many entries of a sort there are, of so many moves and steps
+abbrev pub countFor : Sort → ℕ → ℕ → ℕ
+countFor Moves moves steps = moves
+countFor Steps moves steps = steps
+
+-- the sizes that come with a job are its own, and its entries have room
+abbrev pub Fitting : Offered → List ℕ → Type 0
+Fitting (Ready head sizes n) table =
+    (sizes .positions ≡ positionCount (jobOf head table)) × (sizes .steps ≡ stepCount (jobOf head table)) × (n ≤ mostEntries)
+Fitting (Refused r) table = Unit {0}
+
+-- the refusal that an answer is
+abbrev pub refusalOf : Offered → Refusal
+refusalOf (Ready head sizes n) = record { number = 0; place = 0 }
+refusalOf (Refused r) = r
+
+-- the same of a plan's reader: 5, at its line
+abbrev pub planRefusal : PlanAnswer → Refusal
+planRefusal (PlanAnswer.Read n) = record { number = 0; place = 0 }
+planRefusal (PlanAnswer.Refused line) = record { number = 5; place = line }

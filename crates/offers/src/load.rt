@@ -1,0 +1,54 @@
+// A job text loaded: read, and within the limits of the compiled job.
+ghost use mathlib.Core.Path.{_≡_};
+ghost use Prim.Native.Nat.{_*_};
+ghost use lib.ListN.{length};
+ghost use Rattle.job.specs.Store.{allRows};
+ghost use Rattle.offers.specs.Refusals.{jobIn};
+ghost use Rattle.offers.specs.Load.{checkedOf, Measured, refusalOf};
+use compile::sizes::Sizes;
+use job::head::Head;
+use job::head::Refusal;
+use reader::reading::Answer;
+
+// The head of the job, whose rows the table then holds, and the sizes of its compiled job; or the refusal.
+pub enum Loaded {
+    Ready(Head, Sizes),
+    Refused(Refusal),
+}
+
+// The refusal that an answer is; number 0 where it is none.
+pub fn refusal(a: Loaded) -> Refusal
+    ensures { λ r. ⌜ r ≡ refusalOf a ⌝ }
+{
+    match a {
+        Loaded::Ready(_, _) => Refusal {
+            number: 0,
+            place: 0,
+        },
+        Loaded::Refused(r) => r,
+    }
+}
+
+// Reasons 1 to 4.
+pub fn load(text: &[u8], table: &mut [u16]) -> Loaded
+    requires { ⌜ length (now table) ≡ allRows * 4 ⌝ }
+    ensures { λ r. ⌜ (checkedOf r (now (table .exit)) ≡ jobIn (now (text .entry))) × Measured r (now (table .exit)) ⌝ }
+{
+    let answer = reader::reading::read_job(text, table);
+    let Answer::Accepted(lines, head) = answer else {
+        let r = reader::reading::refusal(answer);
+        return Loaded::Refused(r);
+    };
+    let sizes = compile::sizes::measure(head, table);
+    let large = Refusal {
+        number: 4,
+        place: lines,
+    };
+    if 256 < sizes.positions {
+        return Loaded::Refused(large);
+    }
+    if 1024 < sizes.steps {
+        return Loaded::Refused(large);
+    }
+    Loaded::Ready(head, sizes)
+}

@@ -1,0 +1,25 @@
+// Refusal 6, and how long a cost table has to be.
+ghost use mathlib.Core.Path.{_≡_};
+ghost use Prim.Native.Nat.{_*_, _≤_};
+ghost use Rattle.job.specs.StateCount.{stateCount};
+use job::head::Head;
+use job::head::Refusal;
+
+// The refusal of a list or a table that is shorter than it has to be.
+pub fn too_short(need: usize) -> Refusal
+    ensures { λ r. ⌜ r ≡ record { number = 6; place = need } ⌝ }
+{
+    Refusal {
+        number: 6,
+        place: need,
+    }
+}
+
+// How many numbers a cost table has, one for each state and position.
+pub fn cells(head: Head, positions: u16) -> usize
+    requires { ⌜ head .counts .facts ≤ 12 ⌝ }
+    ensures { λ r. ⌜ r ≡ stateCount (head .counts .facts) * positions ⌝ }
+{
+    let states = job::states::state_count(head.counts.facts);
+    (states as usize) * (positions as usize)
+}

@@ -1,0 +1,25 @@
+use Rattle.plans.proofs.PlanLaws.{entry-below, entry-past, entry-none}
+use borrow.Author.Needs.{needs}
+use Rattle.plans.proofs.plan_text.read_entry.Statement.{statement}
+use Rattle.plans.proofs.plan_text.read_entry.Tie as tie
+
+returns : tie.Need-returns
+returns c = entry-below _ _ _ _ _ _ (c .before .before .before .before .before .value .ensures) (c .before .before .before .read-numbers .ensures) (c .before .if1 .taken) (c .if2 .taken)
+
+returns-2 : tie.Need-returns-2
+returns-2 c = entry-past _ _ _ _ _ _ (c .before .before .before .before .before .value .ensures) (c .before .before .before .read-numbers .ensures) (c .before .if1 .taken) (c .if2 .left)
+
+returns-3 : tie.Need-returns-3
+returns-3 c = entry-none _ _ _ _ _ _ (c .before .before .before .before .value .ensures) (c .before .before .read-numbers .ensures) (c .if1 .left)
+
+pub read-entry-spec : {M : Type 1} → statement M
+read-entry-spec =
+    tie.close
+    (tie.spec
+    (λ c κs. search needs)
+    (λ c. search needs)
+    (λ c κs. search needs)
+    (λ c. search needs)
+    returns
+    returns-2
+    returns-3)

@@ -1,0 +1,134 @@
+-- Reading line by line; every accepted job is well formed, and its lines are counted.
+-- Assumes nothing.
+use Prim.Native.Nat.{ℕ, _+_, _-_, _≤_, _<_}
+use mathlib.Core.Path.{_≡_, refl, sym, _∙_, ap, subst}
+use mathlib.Core.Bool.{Bool, true, false, cond}
+use mathlib.Core.List.{List, [], _∷_}
+use mathlib.Core.Option.{Option, none, some, Option·getD}
+use native.Mathlib.Omega.{arith}
+use lib.Dec.{eqb}
+use lib.ListN.{length, take, drop}
+use borrow.Author.Tests.{eq-eqb, ne-eqb, eqb-true}
+use Rattle.laws.proofs.Tests.{never}
+use Rattle.text.specs.Lines.{lines, lineLength}
+use Rattle.text.proofs.LineLaws.{lines-at, lines-past}
+use Rattle.job.specs.Job as J
+use Rattle.job.specs.Job.{countsOf}
+use Rattle.job.specs.Line.{rowNumbers}
+use Rattle.job.specs.Fault.{fault}
+use Rattle.job.specs.ReadJob.{Reading, accepted, refused, isEnd, ended, readFrom, begun, taken, readJob}
+use Rattle.job.specs.Store.{jobOf, listOf, numbersOf}
+use Rattle.job.specs.WellFormed.{WellFormed}
+use Rattle.job.specs.declared.line.Line.{Line}
+use Rattle.job.specs.declared.line.Line.the-variants.{Job, Facts, Init, Formulas, Formula, Moves, Move, Effect, Goal, Program, Row, End}
+use Rattle.job.specs.declared.line.Numbers.{Numbers}
+use Rattle.job.proofs.FaultLaws.{right-formed}
+use Rattle.job.proofs.StoreLaws.{counts-of}
+use Rattle.reader.specs.Reading.{readingOf}
+use Rattle.reader.specs.Room.{Room}
+use Rattle.reader.specs.declared.reading.State.{State}
+use Rattle.reader.proofs.RoomLaws.{Right, fault-right}
+use Rattle.reader.proofs.KeptLaws.{Kept, taken-kept, begun-kept, end-well-formed}
+
+abbrev reason : Reading → List ℕ → ℕ
+reason s line = fault (s .next) (countsOf (s .job)) (rowNumbers (s .next) line)
+
+-- one line more: it is right, or it decides
+module _ (n : ℕ) (s : Reading) (line : List ℕ) (rest : List (List ℕ)) where
+  pub line-right : (r : List ℕ) → rowNumbers (s .next) line ≡ some r → reason s line ≡ 0 → readFrom n s (line ∷ rest) ≡ readFrom (n + 1) (taken s r) rest
+  unfolding readFrom
+  line-right r e h = rw (eq-eqb _ _ h, e)
+
+  pub line-wrong : (reason s line ≡ 0 → ⊥) → readFrom n s (line ∷ rest) ≡ refused (reason s line) (n + 1)
+  unfolding readFrom
+  line-wrong h = rw (ne-eqb _ _ h)
+
+-- the text from place i on, whose first line ends at e
+module _ (text : List ℕ) (i e n : ℕ) (s : Reading) (within : i < length text) (line-end : e ≡ i + lineLength (drop i text))
+    (so-far : readJob text ≡ readFrom n s (lines (drop i text))) where
+  pub read-on : (r : List ℕ) → rowNumbers (s .next) (take (e - i) (drop i text)) ≡ some r → reason s (take (e - i) (drop i text)) ≡ 0
+      → readJob text ≡ readFrom (n + 1) (taken s r) (lines (drop e text))
+  read-on r g h = so-far ∙ ap (readFrom n s) (lines-at text i e within line-end) ∙ line-right n s _ _ r g h
+
+  pub read-refused : (reason s (take (e - i) (drop i text)) ≡ 0 → ⊥) → readJob text ≡ refused (reason s (take (e - i) (drop i text))) (n + 1)
+  read-refused h = so-far ∙ ap (readFrom n s) (lines-at text i e within line-end) ∙ line-wrong n s _ _ h
+
+pub read-ended : (text : List ℕ) (i n : ℕ) (s : Reading) → length text ≤ i → readJob text ≡ readFrom n s (lines (drop i text)) → readJob text ≡ ended n s
+unfolding readFrom
+read-ended text i n s h e = e ∙ rw (lines-past text i h)
+
+-- the numbers of a line as the code has them
+module _ (s : State) (table line : List ℕ) (r : Numbers) (read : numbersOf (s .next) r ≡ rowNumbers (s .next) line) where
+  pub reason-of : fault (s .next) (s .head .counts) (numbersOf (s .next) r) ≡ reason (readingOf s table) line
+  reason-of = rw (counts-of (s .head) table, read)
+
+  module _ (zero-reason : fault (s .next) (s .head .counts) (numbersOf (s .next) r) ≡ 0) where
+    pub row-of : rowNumbers (s .next) line ≡ some (listOf (s .next) r)
+    row-of = sym read ∙ rw (right-formed (s .next) (s .head .counts) r zero-reason)
+
+    pub right-of : Right (s .next) (countsOf (jobOf (s .head) table)) (listOf (s .next) r)
+    right-of =
+        fault-right (s .next) (countsOf (jobOf (s .head) table)) (listOf (s .next) r)
+        (ap (fault (s .next) (countsOf (jobOf (s .head) table))) (sym row-of) ∙ sym reason-of ∙ zero-reason)
+
+pub room-of : (s : State) (table : List ℕ) → Kept (readingOf s table) → Room (s .next) (s .rows) (s .effects) (s .head .counts)
+room-of s table k = rw (counts-of (s .head) table) at (k .room)
+
+-- the end, where a text is accepted
+end-is : (k : Line) → isEnd k ≡ true → k ≡ End
+end-is Job e = never e
+end-is Facts e = never e
+end-is Init e = never e
+end-is Formulas e = never e
+end-is Formula e = never e
+end-is Moves e = never e
+end-is Move e = never e
+end-is Effect e = never e
+end-is Goal e = never e
+end-is Program e = never e
+end-is Row e = never e
+end-is End e = refl
+
+not-accepted : {A : Type 0} (a b m : ℕ) (j : J.Job) → refused a b ≡ accepted m j → A
+not-accepted a b m j e = let z : _≡_ {A = ℕ} 0 1 = cc in absurd (omega arith)
+
+-- what holds at the end, and before a right line where it holds after it, holds wherever reading goes on to accept
+module _ (m : ℕ) (j : J.Job) (P : ℕ → Reading → List (List ℕ) → Type 0)
+    (at-end : (s : Reading) → s .next ≡ End → s .job ≡ j → P m s [])
+    (at-line : (n : ℕ) (s : Reading) (line r : List ℕ) (ls : List (List ℕ)) → rowNumbers (s .next) line ≡ some r → Right (s .next) (countsOf (s .job)) r
+    → P (n + 1) (taken s r) ls → P n s (line ∷ ls)) where
+  end-by : (n : ℕ) (s : Reading) (b : Bool) → isEnd (s .next) ≡ b → cond b (accepted n (s .job)) (refused 1 (n + 1)) ≡ accepted m j → P n s []
+  end-by n s true g e = let a : m ≡ n = cc in subst (λ k. P k s []) a (at-end s (end-is (s .next) g) (cc))
+  end-by n s false g e = not-accepted 1 (n + 1) m j e
+
+  line-by : (n : ℕ) (s : Reading) (ls : List (List ℕ)) (line : List ℕ) (o : Option (List ℕ)) (b : Bool) → rowNumbers (s .next) line ≡ o
+      → eqb (fault (s .next) (countsOf (s .job)) o) 0 ≡ b
+      → cond b (readFrom (n + 1) (taken s (Option·getD o [])) ls) (refused (fault (s .next) (countsOf (s .job)) o) (n + 1)) ≡ accepted m j
+      → ((q : Reading) → readFrom (n + 1) q ls ≡ accepted m j → P (n + 1) q ls) → P n s (line ∷ ls)
+  unfolding fault
+  line-by n s ls line none true d g e f = never g
+  line-by n s ls line none false d g e f = not-accepted _ (n + 1) m j e
+  line-by n s ls line (some r) true d g e f =
+      at-line n s line r ls d (fault-right (s .next) (countsOf (s .job)) r (eqb-true _ 0 g)) (f (taken s r) e)
+  line-by n s ls line (some r) false d g e f = not-accepted _ (n + 1) m j e
+
+  pub accepted-has : (n : ℕ) (s : Reading) (ls : List (List ℕ)) → readFrom n s ls ≡ accepted m j → P n s ls
+  unfolding readFrom ended
+  accepted-has n s [] e = end-by n s (isEnd (s .next)) refl e
+  accepted-has n s (line ∷ ls) e = line-by n s ls line (rowNumbers (s .next) line) _ refl refl e (λ q. accepted-has (n + 1) q ls)
+
+-- every accepted job is well formed
+pub accepted-well-formed : (text : List ℕ) (n : ℕ) (j : J.Job) → readJob text ≡ accepted n j → WellFormed j
+unfolding readJob
+accepted-well-formed text n j e =
+    accepted-has n j (λ k s ls. Kept s → WellFormed j)
+    (λ s g f k. subst WellFormed f (end-well-formed s k g))
+    (λ k s line r ls d x f h. f (taken-kept s r x h))
+    0 begun (lines text) e begun-kept
+
+-- an accepted text has the lines that its answer counts
+pub accepted-lines : (text : List ℕ) (n : ℕ) (j : J.Job) → readJob text ≡ accepted n j → n ≡ length (lines text)
+unfolding readJob
+accepted-lines text n j e =
+    let h = accepted-has n j (λ k s ls. n ≡ k + length ls) (λ s g f. omega arith) (λ k s line r ls d x f. omega (arith, f)) 0 begun (lines text) e in
+    omega (arith, h)

@@ -1,0 +1,24 @@
+use native.Mathlib.Omega.{arith}
+use Rattle.reader.proofs.AddLaws.{reading-of, rows-within, formula-added}
+use borrow.Author.Needs.{needs}
+use Rattle.reader.proofs.reading.add_formula.Statement.{statement}
+use Rattle.reader.proofs.reading.add_formula.Tie as tie
+
+returns : tie.Need-returns
+returns c =
+    let a = c .before .before .before .before .before .before .before .before .before .before .before .args in
+    reading-of _ _ _ _ _ _ _ _ (c .on .ensures) (c .before .before .before .before .before .before .put-row .ensures) (c .before .after-formulas .ensures)
+    (c .before .before .before .with-counts .ensures) (formula-added (a .s .head) (a .table .now) _ _ _ _ (c .before .before .before .before .before .before .before .before .before .before .before .pre .1) (rows-within (c .before .before .before .before .before .before .before .before .before .before .before .pre .0)) (omega (arith, c .before .before .before .before .before .before .before .before .before .before .before .pre .0)))
+
+pub add-formula-spec : {M : Type 1} → statement M
+add-formula-spec =
+    tie.close
+    (tie.spec
+    (λ c κs. search needs)
+    (λ c. search needs)
+    (λ c κs. search needs)
+    (λ c. search needs)
+    (λ c κs. search needs)
+    (λ c κs. search needs)
+    (λ c. search needs)
+    returns)

@@ -1,0 +1,26 @@
+use mathlib.Core.Path.{refl}
+use native.Mathlib.Omega.{arith}
+use Rattle.reader.proofs.AddLaws.{reading-of, rows-within, move-added}
+use borrow.Author.Needs.{needs}
+use Rattle.reader.proofs.reading.add_move.Statement.{statement}
+use Rattle.reader.proofs.reading.add_move.Tie as tie
+
+returns : tie.Need-returns
+returns c =
+    let a = c .before .before .before .before .before .before .before .before .before .before .before .args in
+    reading-of _ _ _ _ _ _ _ _ (c .on .ensures) (c .before .before .before .before .before .before .put-row .ensures) (c .before .after-moves .ensures)
+    (c .before .before .before .with-counts .ensures) (move-added (a .s .head) (a .table .now) _ _ _ _ (c .before .before .before .before .before .before .before .before .before .before .before .pre .1) (rows-within (c .before .before .before .before .before .before .before .before .before .before .before .pre .0)) (omega (arith, c .before .before .before .before .before .before .before .before .before .before .before .pre .0)) refl)
+
+pub add-move-spec : {M : Type 1} → statement M
+add-move-spec =
+    tie.close
+    (tie.spec
+    (λ c. search needs)
+    (λ c κs. search needs)
+    (λ c. search needs)
+    (λ c κs. search needs)
+    (λ c. search needs)
+    (λ c κs. search needs)
+    (λ c κs. search needs)
+    (λ c. search needs)
+    returns)

@@ -1,0 +1,95 @@
+use Prim.Native.Nat.{_+_, _-_, _*_, _≤_}
+use mathlib.Core.Path.{_≡_, sym, _∙_, ap, subst}
+use native.Mathlib.Omega.{arith}
+use lib.ListN.{length, drop}
+use Rattle.text.specs.Lines.{lines}
+use Rattle.text.proofs.LineLaws.{line-within}
+use Rattle.job.specs.ReadJob.{refused, readFrom, readJob}
+use Rattle.job.specs.Store.{allRows}
+use Rattle.reader.specs.Reading.{readingOf, outcomeOf}
+use Rattle.reader.proofs.KeptLaws.{Kept, taken-kept, begun-kept}
+use Rattle.reader.proofs.ReadLaws.{read-on, read-refused, read-ended, reason-of, row-of, right-of, room-of}
+use borrow.Author.Needs.{needs}
+use Rattle.reader.proofs.reading.read_job.Statement.{statement}
+use Rattle.reader.proofs.reading.read_job.Tie as tie
+
+abbrev Inv-loop : tie.InvT-loop
+Inv-loop text table₀ s₀ at₀ n₀ table s at n = (at ≤ length text) × (n ≤ at) × (length table ≡ allRows * 4) × Kept (readingOf s table) × (readJob text ≡ readFrom n (readingOf s table) (lines (drop at text)))
+
+abbrev μ-loop : tie.MeasureT-loop
+μ-loop text table₀ s₀ at₀ n₀ table s at n = length text - at
+
+loop-holds : tie.Need-loop-holds Inv-loop μ-loop
+unfolding readJob
+loop-holds c = let e = c .start .ensures (c .before .before .before .args .table .now) in (search needs, search needs, c .before .before .before .pre, subst Kept (sym e) begun-kept, ap (λ q. readFrom 0 q (lines (c .before .before .before .args .text .now))) (sym e))
+
+sub-line : tie.Need-sub-line Inv-loop μ-loop
+sub-line c = omega (arith, c .line-end .ensures, line-within (c .before .before .before .before .before .before .args .text .now) (c .before .before .loop .at) (c .before .loop-test .taken) .0)
+
+part-line-start : tie.Need-part-line-start Inv-loop μ-loop
+part-line-start c = omega (arith, c .line-end .ensures, line-within (c .before .before .before .before .before .before .args .text .now) (c .before .before .loop .at) (c .before .loop-test .taken) .0)
+
+part-line-end : tie.Need-part-line-end Inv-loop μ-loop
+part-line-end c = omega (arith, c .line-end .ensures, line-within (c .before .before .before .before .before .before .args .text .now) (c .before .before .loop .at) (c .before .loop-test .taken) .1)
+
+add-n : tie.Need-add-n Inv-loop μ-loop
+add-n c = omega (arith, c .before .before .before .before .before .loop .inv .1, c .before .before .before .before .loop-test .taken, c .before .before .before .before .before .before .before .before .before .good .0 .1)
+
+reason-requires : tie.Need-reason-requires Inv-loop μ-loop
+reason-requires c κs = room-of (c .before .before .before .before .before .loop .s) (c .before .before .before .before .before .loop .table) (c .before .before .before .before .before .loop .inv .3) .facts
+
+same-length : tie.Need-same-length Inv-loop μ-loop
+same-length c = omega (arith, c .before .before .before .before .before .before .before .before .loop .inv .2, c .before .before .before .before .before .before .before .before .before .before .before .before .pre)
+
+returns : tie.Need-returns Inv-loop μ-loop
+returns c = let l = c .before .before .before .before .before .before .before .before .loop in let t = c .before .before .before .before .before .before .before .before .before .before .before .before .args .text .now in let e = reason-of (l .s) (l .table) _ (c .before .before .before .before .read-line .result) (c .before .before .before .before .read-line .ensures) in let g = c .before .before .reason .ensures ∙ e in ap (λ a. outcomeOf a (l .table)) (c .refused .ensures) ∙ ap (λ k. refused k (l .n + 1)) g ∙ sym (read-refused t (l .at) _ (l .n) (readingOf (l .s) (l .table)) (c .before .before .before .before .before .before .before .loop-test .taken) (c .before .before .before .before .before .before .line-end .ensures) (l .inv .4) (λ z. c .before .if1 .taken (g ∙ z)))
+
+take-line-requires : tie.Need-take-line-requires Inv-loop μ-loop
+take-line-requires c κs = (room-of (c .before .before .before .before .before .before .before .before .loop .s) (c .before .before .before .before .before .before .before .before .loop .table) (c .before .before .before .before .before .before .before .before .loop .inv .3), c .before .before .before .before .before .before .before .before .loop .inv .2)
+
+loop-less : tie.Need-loop-less Inv-loop μ-loop
+loop-less c = omega (arith, c .before .before .before .before .before .before .before .before .before .line-end .ensures, line-within (c .before .before .before .before .before .before .before .before .before .before .before .before .before .before .before .args .text .now) (c .before .before .before .before .before .before .before .before .before .before .before .loop .at) (c .before .before .before .before .before .before .before .before .before .before .loop-test .taken) .0, line-within (c .before .before .before .before .before .before .before .before .before .before .before .before .before .before .before .args .text .now) (c .before .before .before .before .before .before .before .before .before .before .before .loop .at) (c .before .before .before .before .before .before .before .before .before .before .loop-test .taken) .1)
+
+loop-again : tie.Need-loop-again Inv-loop μ-loop
+loop-again c = let l = c .before .before .before .before .before .before .before .before .before .before .before .loop in let t = c .before .before .before .before .before .before .before .before .before .before .before .before .before .before .before .args .text .now in let e = reason-of (l .s) (l .table) _ (c .before .before .before .before .before .before .before .read-line .result) (c .before .before .before .before .before .before .before .read-line .ensures) in let z = sym (c .before .before .before .before .before .reason .ensures) ∙ c .before .before .before .before .if1 .left in let f = c .before .before .take-line .ensures in (
+  omega (arith, c .before .before .before .before .before .before .before .before .before .line-end .ensures, line-within (c .before .before .before .before .before .before .before .before .before .before .before .before .before .before .before .args .text .now) (c .before .before .before .before .before .before .before .before .before .before .before .loop .at) (c .before .before .before .before .before .before .before .before .before .before .loop-test .taken) .1),
+  omega (arith, l .inv .1, c .before .before .before .before .before .before .before .before .before .line-end .ensures, line-within (c .before .before .before .before .before .before .before .before .before .before .before .before .before .before .before .args .text .now) (c .before .before .before .before .before .before .before .before .before .before .before .loop .at) (c .before .before .before .before .before .before .before .before .before .before .loop-test .taken) .0),
+  omega (arith, l .inv .2, c .before .before .take-line .kept .1 .1 .0),
+  subst Kept (sym f) (taken-kept (readingOf (l .s) (l .table)) _ (right-of (l .s) (l .table) _ (c .before .before .before .before .before .before .before .read-line .result) (c .before .before .before .before .before .before .before .read-line .ensures) z) (l .inv .3)),
+  read-on t (l .at) _ (l .n) (readingOf (l .s) (l .table)) (c .before .before .before .before .before .before .before .before .before .before .loop-test .taken) (c .before .before .before .before .before .before .before .before .before .line-end .ensures) (l .inv .4) _ (row-of (l .s) (l .table) _ (c .before .before .before .before .before .before .before .read-line .result) (c .before .before .before .before .before .before .before .read-line .ensures) z) (sym e ∙ z)
+      ∙ ap (λ q. readFrom (l .n + 1) q (lines (drop (c .before .before .before .before .before .before .before .before .before .line-end .result) t))) (sym f),
+)
+
+finish-requires : tie.Need-finish-requires Inv-loop μ-loop
+finish-requires c κs = omega (arith, c .before .loop .inv .0, c .before .loop .inv .1, c .before .before .before .before .before .good .0 .1)
+
+same-length-2 : tie.Need-same-length-2 Inv-loop μ-loop
+same-length-2 c = omega (arith, c .before .before .loop .inv .2, c .before .before .before .before .before .before .pre)
+
+returns-2 : tie.Need-returns-2 Inv-loop μ-loop
+returns-2 c = c .finish .ensures (c .before .before .loop .table) ∙ sym (read-ended (c .before .before .before .before .before .before .args .text .now) (c .before .before .loop .at) (c .before .before .loop .n) (readingOf (c .before .before .loop .s) (c .before .before .loop .table)) (c .before .loop-test .left) (c .before .before .loop .inv .4))
+
+pub read-job-spec : {M : Type 1} → statement M
+read-job-spec =
+    tie.close
+    (tie.spec
+    Inv-loop
+    μ-loop
+    (λ c κs. search needs)
+    loop-holds
+    (λ c κs. search needs)
+    sub-line
+    part-line-start
+    part-line-end
+    (λ c κs. search needs)
+    add-n
+    reason-requires
+    (λ c κs. search needs)
+    same-length
+    returns
+    take-line-requires
+    loop-less
+    loop-again
+    finish-requires
+    same-length-2
+    returns-2)

@@ -1,0 +1,294 @@
+// Reading a job text, line by line.
+ghost use mathlib.Core.Path.{_≡_};
+ghost use mathlib.Core.List.{List};
+ghost use Prim.Native.Nat.{ℕ, _*_, _+_, _^_, _<_};
+ghost use lib.ListN.{length};
+ghost use Rattle.job.specs.ReadJob.{afterFormulas, afterMoves, afterRows, begun, taken, takenAt, ended, readJob};
+ghost use Rattle.job.specs.ReadJob.{isEnd as atEnd};
+ghost use Rattle.job.specs.Store.{allRows, listOf};
+ghost use Rattle.reader.specs.Reading.{readingOf, outcomeOf, refusalOf, withNumbers};
+ghost use Rattle.reader.specs.Room.{Room};
+use job::head::Counts;
+use job::head::Head;
+use job::head::Refusal;
+use job::line::Line;
+use job::line::Numbers;
+use job::rows::EFFECTS;
+use job::rows::MOVES;
+use job::rows::PROGRAM;
+
+// A text that is being read: the line that comes next, the rows of its sort and the effects of the last move that are due, and the head so far.
+pub struct State {
+    pub next: Line,
+    pub rows: u16,
+    pub effects: u16,
+    pub head: Head,
+}
+
+// The number of lines and the head of the job, whose rows the table then holds; or the refusal.
+pub enum Answer {
+    Accepted(usize, Head),
+    Refused(Refusal),
+}
+
+fn refused(number: u8, place: usize) -> Answer
+    ensures { λ r. ⌜ r ≡ Answer.Refused (record { number = number; place = place }) ⌝ }
+{
+    let r = Refusal {
+        number: number,
+        place: place,
+    };
+    Answer::Refused(r)
+}
+
+// The refusal that an answer is; number 0 where it is none.
+pub fn refusal(a: Answer) -> Refusal
+    ensures { λ r. ⌜ r ≡ refusalOf a ⌝ }
+{
+    match a {
+        Answer::Accepted(_, _) => Refusal {
+            number: 0,
+            place: 0,
+        },
+        Answer::Refused(r) => r,
+    }
+}
+
+fn after_formulas(rows: u16) -> Line
+    ensures { λ r. ⌜ r ≡ afterFormulas rows ⌝ }
+{
+    if rows == 0 {
+        Line::Moves
+    } else {
+        Line::Formula
+    }
+}
+
+fn after_moves(rows: u16, effects: u16) -> Line
+    ensures { λ r. ⌜ r ≡ afterMoves rows effects ⌝ }
+{
+    if effects == 0 {
+        if rows == 0 {
+            return Line::Goal;
+        }
+        return Line::Move;
+    }
+    Line::Effect
+}
+
+fn after_rows(rows: u16) -> Line
+    ensures { λ r. ⌜ r ≡ afterRows rows ⌝ }
+{
+    if rows == 0 { Line::End } else { Line::Row }
+}
+
+fn on(next: Line, rows: u16, effects: u16, head: Head) -> State
+    ensures { λ r. ⌜ r ≡ record { next = next; rows = rows; effects = effects; head = head } ⌝ }
+{
+    State {
+        next: next,
+        rows: rows,
+        effects: effects,
+        head: head,
+    }
+}
+
+fn with_scalars(head: Head, facts: u16, init: u16, goal: u16) -> Head
+    ensures { λ r. ⌜ r ≡ withNumbers head facts init goal ⌝ }
+{
+    let mut c = head.counts;
+    c.facts = facts;
+    Head {
+        counts: c,
+        init: init,
+        goal: goal,
+    }
+}
+
+fn with_counts(head: Head, c: Counts) -> Head
+    ensures { λ r. ⌜ r ≡ record { counts = c; init = head .init; goal = head .goal } ⌝ }
+{
+    Head {
+        counts: c,
+        init: head.init,
+        goal: head.goal,
+    }
+}
+
+// Each line that is a row adds it to the table, behind the earlier rows of its sort.
+fn add_formula(s: State, row: Numbers, table: &mut [u16]) -> State
+    requires { ⌜ Room Line.Formula (s .rows) (s .effects) (s .head .counts) ⌝ }
+    requires { ⌜ length (now table) ≡ allRows * 4 ⌝ }
+    ensures { λ r. ⌜ readingOf r (now (table .exit)) ≡ takenAt Line.Formula (readingOf s (now (table .entry))) (listOf Line.Formula row) ⌝ }
+{
+    let head = s.head;
+    let mut c = head.counts;
+    let i = c.formulas;
+    job::rows::put_row(table, i, row.a, row.b, row.c, 0);
+    c.formulas = i + 1;
+    let h = with_counts(head, c);
+    let rows = s.rows - 1;
+    on(after_formulas(rows), rows, s.effects, h)
+}
+
+fn add_move(s: State, row: Numbers, table: &mut [u16]) -> State
+    requires { ⌜ Room Line.Move (s .rows) (s .effects) (s .head .counts) ⌝ }
+    requires { ⌜ length (now table) ≡ allRows * 4 ⌝ }
+    ensures { λ r. ⌜ readingOf r (now (table .exit)) ≡ takenAt Line.Move (readingOf s (now (table .entry))) (listOf Line.Move row) ⌝ }
+{
+    let head = s.head;
+    let mut c = head.counts;
+    let i = c.moves;
+    job::rows::put_row(table, MOVES + i, row.a, row.b, row.c, c.effects);
+    c.moves = i + 1;
+    let h = with_counts(head, c);
+    let rows = s.rows - 1;
+    on(after_moves(rows, row.c), rows, row.c, h)
+}
+
+fn add_effect(s: State, row: Numbers, table: &mut [u16]) -> State
+    requires { ⌜ Room Line.Effect (s .rows) (s .effects) (s .head .counts) ⌝ }
+    requires { ⌜ length (now table) ≡ allRows * 4 ⌝ }
+    ensures { λ r. ⌜ readingOf r (now (table .exit)) ≡ takenAt Line.Effect (readingOf s (now (table .entry))) (listOf Line.Effect row) ⌝ }
+{
+    let head = s.head;
+    let mut c = head.counts;
+    let i = c.effects;
+    job::rows::put_row(table, EFFECTS + i, row.a, row.b, row.c, 0);
+    c.effects = i + 1;
+    let h = with_counts(head, c);
+    let effects = s.effects - 1;
+    on(after_moves(s.rows, effects), s.rows, effects, h)
+}
+
+fn add_row(s: State, row: Numbers, table: &mut [u16]) -> State
+    requires { ⌜ Room Line.Row (s .rows) (s .effects) (s .head .counts) ⌝ }
+    requires { ⌜ length (now table) ≡ allRows * 4 ⌝ }
+    ensures { λ r. ⌜ readingOf r (now (table .exit)) ≡ takenAt Line.Row (readingOf s (now (table .entry))) (listOf Line.Row row) ⌝ }
+{
+    let head = s.head;
+    let mut c = head.counts;
+    let i = c.program;
+    job::rows::put_row(table, PROGRAM + i, row.a, row.b, row.c, row.d);
+    c.program = i + 1;
+    let h = with_counts(head, c);
+    let rows = s.rows - 1;
+    on(after_rows(rows), rows, s.effects, h)
+}
+
+// The numbers of a right line taken in.
+fn take_line(s: State, row: Numbers, table: &mut [u16]) -> State
+    requires { ⌜ Room (s .next) (s .rows) (s .effects) (s .head .counts) ⌝ }
+    requires { ⌜ length (now table) ≡ allRows * 4 ⌝ }
+    ensures { λ r. ⌜ readingOf r (now (table .exit)) ≡ taken (readingOf s (now (table .entry))) (listOf (s .next) row) ⌝ }
+{
+    let next = s.next;
+    let h = s.head;
+    let rows = s.rows;
+    let effects = s.effects;
+    let facts = h.counts.facts;
+    match next {
+        Line::Job => on(Line::Facts, rows, effects, h),
+        Line::Facts => on(
+            Line::Init,
+            rows,
+            effects,
+            with_scalars(h, row.a, h.init, h.goal),
+        ),
+        Line::Init => on(
+            Line::Formulas,
+            rows,
+            effects,
+            with_scalars(h, facts, row.a, h.goal),
+        ),
+        Line::Formulas => on(Line::Formula, row.a, effects, h),
+        Line::Formula => add_formula(s, row, table),
+        Line::Moves => on(after_moves(row.a, 0), row.a, 0, h),
+        Line::Move => add_move(s, row, table),
+        Line::Effect => add_effect(s, row, table),
+        Line::Goal => on(
+            Line::Program,
+            rows,
+            effects,
+            with_scalars(h, facts, h.init, row.a),
+        ),
+        Line::Program => on(Line::Row, row.a, effects, h),
+        Line::Row => add_row(s, row, table),
+        Line::End => s,
+    }
+}
+
+fn start() -> State
+    ensures { λ r. ⌜ ((l : List ℕ) → readingOf r l ≡ begun) ⌝ }
+{
+    let c = Counts {
+        facts: 0,
+        formulas: 0,
+        moves: 0,
+        effects: 0,
+        program: 0,
+    };
+    let h = Head {
+        counts: c,
+        init: 0,
+        goal: 0,
+    };
+    on(Line::Job, 0, 0, h)
+}
+
+fn is_end(next: Line) -> bool
+    ensures { λ r. ⌜ r ≡ atEnd next ⌝ }
+{
+    match next {
+        Line::Job => false,
+        Line::Facts => false,
+        Line::Init => false,
+        Line::Formulas => false,
+        Line::Formula => false,
+        Line::Moves => false,
+        Line::Move => false,
+        Line::Effect => false,
+        Line::Goal => false,
+        Line::Program => false,
+        Line::Row => false,
+        Line::End => true,
+    }
+}
+
+// The answer where the text has no more lines.
+fn finish(s: State, n: usize) -> Answer
+    requires { ⌜ n < 2 ^ 63 ⌝ }
+    ensures { λ r. ⌜ ((l : List ℕ) → outcomeOf r l ≡ ended n (readingOf s l)) ⌝ }
+{
+    let next = s.next;
+    let h = s.head;
+    if is_end(next) {
+        return Answer::Accepted(n, h);
+    }
+    refused(1, n + 1)
+}
+
+// Reads a text as a job, whose rows go into the table.
+pub fn read_job(text: &[u8], table: &mut [u16]) -> Answer
+    requires { ⌜ length (now table) ≡ allRows * 4 ⌝ }
+    ensures { λ r. ⌜ outcomeOf r (now (table .exit)) ≡ readJob (now (text .entry)) ⌝ }
+{
+    let mut s = start();
+    let mut at = 0;
+    let mut n = 0;
+    while at < text.len() {
+        let e = text::lines::line_end(text, at);
+        let line = &text[at..e];
+        let next = s.next;
+        let row = crate::line::read_line(next, line);
+        let counts = s.head.counts;
+        n += 1;
+        let reason = job::fault::reason(next, row, counts);
+        if reason != 0 {
+            return refused(reason, n);
+        }
+        s = take_line(s, row, table);
+        at = e;
+    }
+    finish(s, n)
+}

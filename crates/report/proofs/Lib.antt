@@ -1,0 +1,4 @@
+pub mod PutLaws
+pub mod StepLaws
+pub mod CompiledPrintout
+pub mod Examples

@@ -1,0 +1,14 @@
+use native.Mathlib.Omega.{arith}
+use mathlib.Core.List.{append-assoc, [], _∷_}
+use Rattle.text.specs.Written.{decimal, written}
+use Rattle.report.proofs.PutLaws.{put-append, put-as}
+use borrow.Author.Needs.{needs}
+use Rattle.report.proofs.lines.line.Statement.{statement}
+use Rattle.report.proofs.lines.line.Tie as tie
+
+returns : tie.Need-returns
+unfolding written
+returns c = put-as _ (append-assoc (c .before .before .before .before .before .before .before .before .before .before .before .before .before .before .args .front .now) (decimal (c .before .before .before .before .before .before .before .before .before .before .before .before .before .before .args .n)) (10 ∷ [])) (omega arith) (put-append (put-append (c .before .before .before .before .before .before .before .before .before .before .text .ensures) (c .before .before .before .before .before .before .number .ensures)) (c .before .before .byte .ensures))
+
+pub line-spec : {M : Type 1} → statement M
+line-spec = tie.close (tie.spec (λ c κs. search needs) (λ c κs. search needs) (λ c κs. search needs) (λ c. search needs) returns)

@@ -1,0 +1,24 @@
+use native.Mathlib.Omega.{arith}
+use Rattle.text.specs.Bytes.{bytes}
+use Rattle.report.proofs.PutLaws.{put-append, put-as}
+use Rattle.report.proofs.StepLaws.{refused-text}
+use borrow.Author.Needs.{needs}
+use Rattle.report.proofs.lines.refusal.Statement.{statement}
+use Rattle.report.proofs.lines.refusal.Tie as tie
+
+returns : tie.Need-returns
+unfolding bytes
+returns c = put-as 64 (refused-text (c .before .before .before .before .before .before .before .before .before .before .before .before .before .before .before .before .args .r)) (omega arith) (put-append (put-append (c .before .before .before .before .before .before .before .before .before .before .before .before .text .ensures) (c .before .before .before .before .before .before .before .number .ensures)) (c .before .before .line .ensures))
+
+pub refusal-spec : {M : Type 1} → statement M
+refusal-spec =
+    tie.close
+    (tie.spec
+    (λ c. search needs)
+    (λ c κs. search needs)
+    (λ c. search needs)
+    (λ c κs. search needs)
+    (λ c. search needs)
+    (λ c κs. search needs)
+    (λ c. search needs)
+    returns)

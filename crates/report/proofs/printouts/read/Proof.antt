@@ -1,0 +1,26 @@
+use native.Mathlib.Omega.{arith}
+use mathlib.Core.Path.{sym, ap}
+use Rattle.report.proofs.PutLaws.{put-as, put-prints}
+use Rattle.report.specs.Printout.{readPrintout}
+use borrow.Author.Needs.{needs}
+use Rattle.report.proofs.printouts.read.Statement.{statement}
+use Rattle.report.proofs.printouts.read.Tie as tie
+
+returns : tie.Need-returns
+returns c = put-prints (omega arith) (put-as 160 (sym (ap readPrintout (c .before .before .before .before .before .answer .given .1))) (omega arith) (c .before .before .counts .ensures))
+
+returns-2 : tie.Need-returns-2
+returns-2 c = put-prints (omega arith) (put-as 64 (sym (ap readPrintout (c .before .before .before .before .before .answer2 .given .1))) (omega arith) (c .before .before .refusal .ensures))
+
+pub read-spec : {M : Type 1} → statement M
+read-spec =
+    tie.close
+    (tie.spec
+    (λ c. search needs)
+    (λ c κs. search needs)
+    (λ c. search needs)
+    (λ c κs. search needs)
+    (λ c. search needs)
+    returns
+    (λ c. search needs)
+    returns-2)

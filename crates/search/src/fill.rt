@@ -1,0 +1,145 @@
+// The cost table filled.
+ghost use Prim.Native.Nat.{_*_, _≤_, _<_};
+ghost use lib.ListN.{length, getD};
+ghost use Rattle.job.specs.StateCount.{stateCount};
+ghost use Rattle.job.specs.Store.{jobOf};
+ghost use Rattle.semantics.specs.CostTable.{unreached, Filled};
+ghost use Rattle.semantics.specs.Cells.{Relaxed};
+ghost use Rattle.domain.specs.Domain.{domainOf};
+ghost use Rattle.compile.specs.CompiledJob.{stepsOf};
+ghost use Rattle.validate.specs.Ready.{Ready};
+ghost use Rattle.sweep.specs.Rows.{graphOf, Laid, Keyed};
+ghost use Rattle.sweep.specs.Departures.{Sweep, Better};
+ghost use Rattle.search.specs.Filling.{Search, Settled};
+use job::head::Head;
+use sweep::UNREACHED;
+use sweep::queue::QUEUE;
+
+// Up to which key a row is swept again before another is: costs so close are mostly final, and the row's values and successors are at hand.
+fn near(k: u32) -> u32
+    requires { ⌜ k < unreached ⌝ }
+    ensures { λ r. ⌜ r < unreached ⌝ }
+{
+    if k < 4294967000 {
+        return k + 60;
+    }
+    k
+}
+
+// Sweeps the row of a state that has a key, until its key is above the limit.
+fn sweep_near(
+    costs: &mut [u32],
+    queue: &mut [u32],
+    known: &mut [u16],
+    head: Head,
+    rows: &[u16],
+    list: &[u16],
+    links: &[u16],
+    values: &[bool],
+    positions: usize,
+    state: u16,
+    limit: u32,
+)
+    requires { ⌜ Ready head (now rows) (now list) positions × Laid (now list) (now links) positions ⌝ }
+    requires { ⌜ Sweep head (now rows) (now values) positions state (now costs) (now queue) (now known) × (getD (now queue) state 0 < unreached) × (limit < unreached) ⌝ }
+    requires { ⌜ Relaxed (graphOf head (now rows) (now list) positions) (Keyed (now queue)) (now costs) ⌝ }
+    ensures { λ _. ⌜ Better (graphOf head (now (rows .entry)) (now (list .entry)) positions) (stateCount (head .counts .facts)) (now (costs .entry)) (now (queue .entry)) (now (costs .exit)) (now (queue .exit)) ⌝ }
+{
+    let s = state as usize;
+    loop {
+        sweep::row::sweep(
+            costs,
+            queue,
+            known,
+            head,
+            rows,
+            list,
+            links,
+            values,
+            positions,
+            state,
+        );
+        if limit < queue[s] {
+            return;
+        }
+    }
+}
+
+// Sweeps the row of a state that has a key, until its key is far above that.
+fn visit(
+    costs: &mut [u32],
+    queue: &mut [u32],
+    head: Head,
+    rows: &[u16],
+    list: &[u16],
+    links: &[u16],
+    positions: usize,
+    state: u16,
+)
+    requires { ⌜ Search head (now rows) (now list) (now links) positions (now costs) (now queue) ⌝ }
+    requires { ⌜ (state < stateCount (head .counts .facts)) × (getD (now queue) state 0 < unreached) ⌝ }
+    requires { ⌜ Relaxed (graphOf head (now rows) (now list) positions) (Keyed (now queue)) (now costs) ⌝ }
+    ensures { λ _. ⌜ Better (graphOf head (now (rows .entry)) (now (list .entry)) positions) (stateCount (head .counts .facts)) (now (costs .entry)) (now (queue .entry)) (now (costs .exit)) (now (queue .exit)) ⌝ }
+{
+    let values = domain::formulas::formula_values(head, rows, state);
+    let mut known = [0u16; 64];
+    let states = job::states::state_count(head.counts.facts) as usize;
+    let s = state as usize;
+    let limit = near(queue[s]);
+    sweep_near(
+        costs,
+        queue,
+        &mut known,
+        head,
+        rows,
+        list,
+        links,
+        &values,
+        positions,
+        state,
+        limit,
+    );
+    sweep::queue::rename(queue, states, s);
+}
+
+// Visits rows until none has a key.
+fn settle(
+    costs: &mut [u32],
+    queue: &mut [u32],
+    head: Head,
+    rows: &[u16],
+    list: &[u16],
+    links: &[u16],
+    positions: usize,
+)
+    requires { ⌜ Search head (now rows) (now list) (now links) positions (now costs) (now queue) ⌝ }
+    requires { ⌜ Relaxed (graphOf head (now rows) (now list) positions) (Keyed (now queue)) (now costs) ⌝ }
+    ensures { λ _. ⌜ Settled (graphOf head (now (rows .entry)) (now (list .entry)) positions) (now (costs .entry)) (now (costs .exit)) ⌝ }
+{
+    let states = job::states::state_count(head.counts.facts) as usize;
+    loop {
+        let s = sweep::queue::choose(queue, states);
+        if s == states {
+            return;
+        }
+        visit(costs, queue, head, rows, list, links, positions, s as u16);
+    }
+}
+
+// Fills the table's front with the least cost of each state and position; the list holds the steps of the job's program.
+pub fn fill(costs: &mut [u32], head: Head, rows: &[u16], list: &[u16], positions: u16)
+    requires { ⌜ Ready head (now rows) (now list) positions ⌝ }
+    requires { ⌜ stateCount (head .counts .facts) * positions ≤ length (now costs) ⌝ }
+    ensures { λ _. ⌜ Filled (domainOf (jobOf head (now (rows .entry)))) (stepsOf (jobOf head (now (rows .entry)))) positions (now (costs .entry)) (now (costs .exit)) ⌝ }
+{
+    let width = positions as usize;
+    let states = job::states::state_count(head.counts.facts) as usize;
+    let init = head.init as usize;
+    let links = validate::links::link_steps(list);
+    let mut queue = [UNREACHED; QUEUE];
+    sweep::queue::order(&mut queue, states);
+    sweep::queue::lower(&mut queue, states, init, 0);
+    sweep::cells::clear(costs, states * width);
+    costs[init * width] = 0;
+    settle(costs, &mut queue, head, rows, list, &links, width);
+}

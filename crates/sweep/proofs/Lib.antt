@@ -1,0 +1,9 @@
+pub mod CellLaws
+pub mod QueueLaws
+pub mod SuccessorLaws
+pub mod StepLaws
+pub mod GraphLaws
+pub mod HeightLaws
+pub mod SilentLaws
+pub mod DepartureLaws
+pub mod RowLaws

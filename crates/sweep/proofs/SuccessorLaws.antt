@@ -1,0 +1,64 @@
+-- What is kept of the moves' successors.
+-- Assumes nothing.
+use Prim.Native.Nat.{ℕ, _+_, _-_, _<_}
+use native.Mathlib.Omega.{arith}
+use native.Mathlib.Decide.{ℕ-discrete}
+use mathlib.Core.Path.{_≡_, sym, _∙_, ap, subst}
+use mathlib.Core.Option.{none, some}
+use mathlib.Core.List.{List}
+use lib.ListN.{set, replicate, length-set, length-replicate, getD-replicate}
+use lib.Seq.{getD-set-same, getD-set-other}
+use Rattle.job.specs.StateCount.{stateCount}
+use Rattle.job.specs.Job.{Job}
+use Rattle.job.specs.Store.{jobOf}
+use Rattle.job.specs.WellFormed.{WellFormed}
+use Rattle.job.specs.declared.head.Head.{Head}
+use Rattle.semantics.specs.Domain.{Domain}
+use Rattle.domain.specs.Domain.{domainOf}
+use Rattle.domain.specs.Successor.{successorIn}
+use Rattle.domain.specs.declared.Successor.{Successor}
+use Rattle.domain.specs.declared.Successor.the-variants.{To, Inapplicable}
+use Rattle.domain.proofs.DomainLaws.{domain-bounded}
+use Rattle.domain.proofs.FactLaws.{count-within}
+use Rattle.domain.proofs.StoreLaws.{counts-within}
+use Rattle.sweep.specs.Successors.{Kept, nothing, inapplicable, successor, Known, noted}
+
+pub known-none : (D : Domain) (s : ℕ) → Known D s (replicate 64 0)
+known-none D s = record {
+  size = length-replicate {A = ℕ} 64 0;
+  kept = λ m h. subst (Kept D s m) (sym (getD-replicate {A = ℕ} 64 m 0 0 h)) nothing;
+}
+
+module _ {D : Domain} {s : ℕ} where
+  pub kept-some : {m x : ℕ} → Kept D s m x → 1 < x → D .successor m s ≡ some (x - 2)
+  kept-some nothing h = absurd (omega arith)
+  kept-some (inapplicable e) h = absurd (omega arith)
+  kept-some (successor {t} e) h = let z : t ≡ t + 2 - 2 = omega arith in e ∙ ap some z
+
+  pub kept-none : {m x : ℕ} → Kept D s m x → x ≡ 1 → D .successor m s ≡ none
+  kept-none nothing h = absurd (omega arith)
+  kept-none (inapplicable e) h = e
+  kept-none (successor {t} e) h = absurd (omega arith)
+
+  noted-kept : {m : ℕ} (after : Successor) → successorIn after ≡ D .successor m s → Kept D s m (noted after)
+  noted-kept (To t) e = successor (sym e)
+  noted-kept Inapplicable e = inapplicable (sym e)
+
+  -- one more successor noted
+  pub known-more : (known : List ℕ) (m x : ℕ) (after : Successor) → m < 64 → Known D s known → successorIn after ≡ D .successor m s → x ≡ noted after
+      → Known D s (set known m x)
+  known-more known m x after h f is e = record {
+    size = length-set known m x ∙ f .size;
+    kept = λ n l. elim (ℕ-discrete n m) [
+      | yes z ↦ rw (z, getD-set-same known m x 0 (omega (arith, f .size)), e) (noted-kept after is)
+      | no z ↦ rw (getD-set-other known m n x 0 z) (f .kept n l)
+    ];
+  }
+
+pub few-moves : (head : Head) (rows : List ℕ) (m : ℕ) → WellFormed (jobOf head rows) → m < head .counts .moves → m < 64
+few-moves head rows m k h = omega (arith, counts-within head rows k .1)
+
+pub noted-small : (j : Job) → WellFormed j → (m s : ℕ) (after : Successor) → s < stateCount (j .scalars .facts) → successorIn after ≡ domainOf j .successor m s
+    → noted after < 65536
+noted-small j k m s (To t) h e = omega (arith, domain-bounded j k .successors m s t h (sym e), count-within (j .scalars .facts) (k .facts))
+noted-small j k m s Inapplicable h e = omega arith

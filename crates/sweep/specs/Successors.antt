@@ -1,0 +1,22 @@
+-- What is kept of the moves' successors in a state: 0 nothing, 1 that the move is not applicable, and otherwise the successor and 2.
+use Prim.Native.Nat.{ℕ, _+_, _<_}
+use mathlib.Core.Path.{_≡_}
+use mathlib.Core.Option.{none, some}
+use mathlib.Core.List.{List}
+use lib.ListN.{length, getD}
+use Rattle.semantics.specs.Domain.{Domain}
+use Rattle.domain.specs.declared.Successor.{Successor}
+use Rattle.domain.specs.declared.Successor.the-variants.{To, Inapplicable}
+
+pub data Kept (D : Domain) (s m : ℕ) : ℕ → Type 0 where
+  nothing : Kept D s m 0
+  inapplicable : D .successor m s ≡ none → Kept D s m 1
+  successor : {t : ℕ} → D .successor m s ≡ some t → Kept D s m (t + 2)
+
+pub record Known (D : Domain) (s : ℕ) (known : List ℕ) : Type 0 where
+  pub size : length known ≡ 64
+  pub kept : (m : ℕ) → m < 64 → Kept D s m (getD known m 0)
+
+abbrev pub noted : Successor → ℕ
+noted (To t) = t + 2
+noted Inapplicable = 1

@@ -1,0 +1,14 @@
+// One state's row of the cost table, swept.
+//
+// A state's row is its cells, one a position. Its key is above the entry of no cell whose steps have yet to be followed: it is taken back when the row is
+// swept, and comes down again with the cells that other rows' moves lower.
+pub mod cells;
+pub mod departures;
+pub mod queue;
+pub mod row;
+pub mod silent;
+pub mod steps;
+pub mod successors;
+
+// What a cell holds that is not reached, and the key of a row with nothing to follow.
+pub const UNREACHED: u32 = 4294967295;

@@ -1,0 +1,16 @@
+pub mod TextLaws
+pub mod ToldLaws
+pub mod Acceptance
+pub mod PlanTexts
+pub mod Fronts
+pub mod LongTexts
+pub mod LongPlans
+pub mod Agreement
+pub mod StepPlans
+pub mod OneAnswer
+pub mod JudgedCosts
+pub mod Exhibited
+pub mod ExhibitedLeast
+pub mod MarkedCases
+pub mod JobExamples
+pub mod OperationExamples

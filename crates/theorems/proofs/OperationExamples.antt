@@ -1,0 +1,80 @@
+-- Small texts, compiled by the definition: the sample, the programs of the marked cases, and examples of refusals 4, 5 and 6.
+-- Assumes nothing.
+use mathlib.Core.Path.{_≡_, refl}
+use mathlib.Core.List.{[], _∷_}
+use Rattle.text.specs.Bytes.{bytes}
+use Rattle.text.specs.Lines.{lines, hasKey, valueOf}
+use Rattle.text.specs.Numbers.{byteRead, numbers}
+use Rattle.job.specs.Line.{rowNumbers}
+use Rattle.job.specs.Fault.{fault}
+use Rattle.job.specs.ReadJob.{taken, ended, readFrom, readJob}
+use Rattle.semantics.specs.CompilingTable.{end, steps, branchSteps, whileSteps, starSteps, flat}
+use Rattle.compile.specs.Program.{build, programs}
+use Rattle.compile.specs.CompiledJob.{fits}
+use Rattle.plans.specs.PlanText.{entryIn, readEntries, readLines, readPlan}
+use Rattle.offers.specs.Refusals.{refused, jobIn, offerIn}
+use Rattle.offers.specs.declared.offer.Sort.the-variants.{Moves}
+use Rattle.jesmovit.specs.Checking.{checking}
+use Rattle.jesmovit.specs.Judging.{costing, judging}
+use Rattle.theorems.specs.MarkedCases.{sample, starOfChoice, starOfWhile}
+use Rattle.jesmovit.specs.Compiling.{compiling, compileAnswer, listAfter}
+use Rattle.jesmovit.specs.declared.compiling.CompileAnswer.{CompileAnswer}
+
+-- "`positions=3` `steps=2` `s=3,0,1,0` `s=3,1,2,1`"
+compiles-sample : compileAnswer (compiling sample 9) ≡ CompileAnswer.Compiled 3 2
+unfolding bytes lines hasKey valueOf byteRead numbers rowNumbers fault taken ended readFrom readJob end steps build programs fits jobIn compiling
+compiles-sample = refl
+
+-- "With recipe star of (0 or 1), 8 positions and 9 steps"
+compiles-choice : compileAnswer (compiling starOfChoice 4096) ≡ CompileAnswer.Compiled 8 9
+unfolding bytes lines hasKey valueOf byteRead numbers rowNumbers fault taken ended readFrom readJob end steps branchSteps starSteps build programs fits jobIn compiling
+compiles-choice = refl
+
+-- "With star of (while formula 3 do 0), 6 positions"
+compiles-while : compileAnswer (compiling starOfWhile 4096) ≡ CompileAnswer.Compiled 6 7
+unfolding bytes lines hasKey valueOf byteRead numbers rowNumbers fault taken ended readFrom readJob end steps whileSteps starSteps build programs fits jobIn compiling
+compiles-while = refl
+
+-- with a later entry, which does not change
+fills-list : listAfter (compiling sample 9) (7 ∷ 7 ∷ 7 ∷ 7 ∷ 7 ∷ 7 ∷ 7 ∷ 7 ∷ 7 ∷ []) ≡ 3 ∷ 0 ∷ 1 ∷ 0 ∷ 3 ∷ 1 ∷ 2 ∷ 1 ∷ 7 ∷ []
+unfolding bytes lines hasKey valueOf byteRead numbers rowNumbers fault taken ended readFrom readJob end steps flat build programs fits jobIn compiling
+fills-list = refl
+
+-- a list that is one place too short
+refuses-list : compiling sample 7 ≡ refused 6 8
+unfolding bytes lines hasKey valueOf byteRead numbers rowNumbers fault taken ended readFrom readJob end steps build programs fits jobIn compiling
+refuses-list = refl
+
+-- "`p=1,0,0,0`, then `p=4,k,k,0` for k from 0 to 7: 257 positions"
+refuses-positions : jobIn (bytes "job=1\nfacts=0\ninit=0\nformulas=1\nf=1,0,0\nmoves=1\nm=0,0,0\ngoal=0\nprogram=9\np=1,0,0,0\np=4,0,0,0\np=4,1,1,0\np=4,2,2,0\np=4,3,3,0\np=4,4,4,0\np=4,5,5,0\np=4,6,6,0\np=4,7,7,0\n") ≡ refused 4 18
+unfolding bytes lines hasKey valueOf byteRead numbers rowNumbers fault taken ended readFrom readJob end steps build programs fits jobIn
+refuses-positions = refl
+
+-- "`plan=1`, `m=2` on the sample: line 2"
+refuses-entry : checking Moves sample (bytes "plan=1\nm=2\n") 4096 ≡ refused 5 2
+unfolding bytes lines hasKey valueOf byteRead numbers rowNumbers fault taken ended readFrom readJob end steps build programs fits
+    entryIn readEntries readLines readPlan jobIn offerIn checking
+refuses-entry = refl
+
+-- "An entry of the other sort is of wrong form."
+refuses-step : checking Moves sample (bytes "plan=1\nt=0\n") 4096 ≡ refused 5 2
+unfolding bytes lines hasKey valueOf byteRead numbers rowNumbers fault taken ended readFrom readJob end steps build programs fits
+    entryIn readEntries readLines readPlan jobIn offerIn checking
+refuses-step = refl
+
+-- "so 6 doesn't look at the plan": a plan that would be blocked, with a list that is one place too short
+refuses-before-verdict : checking Moves sample (bytes "plan=1\nm=1\n") 7 ≡ refused 6 8
+unfolding bytes lines hasKey valueOf byteRead numbers rowNumbers fault taken ended readFrom readJob end steps build programs fits
+    entryIn readEntries readLines readPlan jobIn offerIn checking
+refuses-before-verdict = refl
+
+-- "11 numbers for the sample's cost table: 12"
+refuses-table : costing sample 8 11 ≡ refused 6 12
+unfolding bytes lines hasKey valueOf byteRead numbers rowNumbers fault taken ended readFrom readJob end steps build programs fits jobIn compiling costing
+refuses-table = refl
+
+-- "Where it and a cost table are both too short, it decides."
+refuses-list-first : judging sample (bytes "plan=0\n") 7 11 ≡ refused 6 8
+unfolding bytes lines hasKey valueOf byteRead numbers rowNumbers fault taken ended readFrom readJob end steps build programs fits
+    entryIn readEntries readLines readPlan jobIn offerIn checking judging
+refuses-list-first = refl

@@ -1,0 +1,392 @@
+-- Every well-formed job has a text that is read as that job.
+-- Assumes nothing.
+use Prim.Native.Nat.{ℕ, zero, suc, _+_, _-_, _^_, _≤_, _<_}
+use mathlib.Core.Path.{_≡_, refl, sym, _∙_, ap, subst}
+use mathlib.Core.Bool.{true}
+use mathlib.Core.List.{List, [], _∷_, _++_, map, foldl, flatten, append-assoc, append-nil}
+use mathlib.Core.Option.{some}
+use native.Mathlib.Omega.{arith}
+use native.Mathlib.Nat.{pow-le-pow-right}
+use lib.Dec.{ltb, leb}
+use lib.Seq.{length-take-le}
+use lib.ListN.{length, getD, take, drop, length-append, length-drop, length-map, take-append-drop}
+use borrow.Author.Tests.{lt-ltb, le-leb, ne-eqb}
+use Rattle.laws.proofs.Tests.{and-both}
+use Rattle.text.specs.Written.{Small}
+use Rattle.text.specs.Bytes.{bytes}
+use Rattle.text.specs.Lines.{lines}
+use Rattle.text.proofs.LineText.{line-complete, plain, endsOnce, line-of, line-ends}
+use Rattle.job.specs.Job as J
+use Rattle.job.specs.Job.{countsOf}
+use Rattle.job.specs.Line.{formOf, rowNumbers}
+use Rattle.job.specs.Fields.{bound, within, Within, formulaFields, rowFields}
+use Rattle.job.specs.Fault.{checks, fault}
+use Rattle.job.specs.ReadJob.{Reading, on, accepted, ended, begun, readFrom, readJob, taken, takenAt, afterFormulas, afterMoves, afterRows}
+use Rattle.theorems.specs.JobText.{lineOf, formulaLine, moveLine, effectLine, rowLine, moveLines, programLines, jobLines, jobText}
+use Rattle.job.specs.WellFormed.{WellFormed, MoveFits, EffectFits, Tiled, beforeFormula, beforeRow}
+use Rattle.job.specs.declared.head.Counts.{Counts}
+use Rattle.job.specs.declared.fields.Field.{Field}
+use Rattle.job.specs.declared.fields.Field.the-variants as F
+use Rattle.job.specs.declared.line.Line.{Line}
+use Rattle.job.specs.declared.line.Line.the-variants.{Job, Facts, Init, Formulas, Formula, Moves, Move, Effect, Goal, Program, Row, End}
+use Rattle.job.proofs.RowLaws.{kind-listed, tiled-own}
+use Rattle.reader.proofs.ReadLaws.{line-right}
+
+-- the statement of fields passes their test, and their numbers are small
+true-within : (c : Counts) (fs : List Field) (xs : List ℕ) → Within c fs xs → within c fs xs ≡ true
+true-within c [] [] w = refl
+true-within c [] (x ∷ xs) w = absurd w
+true-within c (f ∷ fs) [] w = absurd w
+true-within c (f ∷ fs) (x ∷ xs) w = and-both (ltb x (bound c f)) (within c fs xs) (lt-ltb x (bound c f) (w .0)) (true-within c fs xs (w .1))
+
+small-within : (c : Counts) → ((f : Field) → bound c f ≤ 65536) → (fs : List Field) (xs : List ℕ) → Within c fs xs → Small xs
+small-within c b [] [] w = tt
+small-within c b [] (x ∷ xs) w = absurd w
+small-within c b (f ∷ fs) [] w = absurd w
+small-within c b (f ∷ fs) (x ∷ xs) w = (omega (arith, w .0, b f), small-within c b fs xs (w .1))
+
+-- counts within the limits bound every field by a small number
+bound-small : (c : Counts) → c .facts ≤ 12 → c .formulas ≤ 255 → c .moves ≤ 64 → c .program ≤ 128 → (f : Field) → bound c f ≤ 65536
+bound-small c a b d e F.Unused = omega arith
+bound-small c a b d e F.Fact = omega arith
+bound-small c a b d e F.Formula = omega arith
+bound-small c a b d e F.Move = omega arith
+bound-small c a b d e F.Row = omega arith
+
+-- a row of a table of kinds: its fields pass, and its numbers are small
+abbrev KindText : Counts → List (List Field) → ℕ → List ℕ → Type 0
+KindText c table kind xs = (within c (getD table kind []) xs ≡ true) × Small (kind ∷ xs)
+
+kind-text : (c : Counts) (table : List (List Field)) → length table ≤ 65535 → ((f : Field) → bound c f ≤ 65536) → (kind x : ℕ) (xs : List ℕ)
+    → Within c (getD table kind []) (x ∷ xs) → KindText c table kind (x ∷ xs)
+kind-text c table t b kind x xs w =
+    (true-within c (getD table kind []) (x ∷ xs) w, (omega (arith, kind-listed c table kind x xs w), small-within c b (getD table kind []) (x ∷ xs) w))
+
+-- a line of right numbers is taken in
+module _ (k : Line) (rows effects : ℕ) (j : J.Job) (n a : ℕ) (ns : List ℕ) (rest : List (List ℕ)) where
+  abbrev s : Reading
+  s = on k rows effects j
+
+  text-line : length (a ∷ ns) ≡ formOf k .width → Small (a ∷ ns)
+      → checks k (countsOf j) (a ∷ ns) .form ≡ true → checks k (countsOf j) (a ∷ ns) .range ≡ true → checks k (countsOf j) (a ∷ ns) .fields ≡ true
+      → readFrom n s (lineOf k (a ∷ ns) ∷ rest) ≡ readFrom (n + 1) (takenAt k s (a ∷ ns)) rest
+  unfolding rowNumbers taken fault
+  text-line w t x y z =
+      let e : rowNumbers k (lineOf k (a ∷ ns)) ≡ some (a ∷ ns) = line-complete (formOf k .key) (formOf k .width) a ns w t in
+      line-right n s (lineOf k (a ∷ ns)) rest (a ∷ ns) e (rw (e, x, y, z))
+
+-- rows of one sort, one after the other: `st m` is the reading with m of them due
+Along : {A : Type 0} → (J.Job → A → Type 0) → (J.Job → A → J.Job) → J.Job → List A → Type 0
+Along Q put j [] = Unit {0}
+Along Q put j (a ∷ l) = Q j a × Along Q put (put j a) l
+
+module _ {A : Type 0} (st : ℕ → J.Job → Reading) (ln : A → List ℕ) (put : J.Job → A → J.Job) (Q : J.Job → A → Type 0)
+    (step : (m n : ℕ) (j : J.Job) (a : A) (rest : List (List ℕ)) → Q j a → readFrom n (st (suc m) j) (ln a ∷ rest) ≡ readFrom (n + 1) (st m (put j a)) rest) where
+  section : (l : List A) (j : J.Job) (n : ℕ) (tail : List (List ℕ)) → Along Q put j l
+      → readFrom n (st (length l) j) (map ln l ++ tail) ≡ readFrom (n + length l) (st 0 (foldl put j l)) tail
+  unfolding Along
+  section [] j n tail h = let e : n ≡ n + 0 = omega arith in ap (λ k. readFrom k (st 0 j) tail) e
+  section (a ∷ l) j n tail h =
+      let e : n + 1 + length l ≡ n + suc (length l) = omega arith in
+      step (length l) n j a (map ln l ++ tail) (h .0) ∙ section l (put j a) (n + 1) tail (h .1)
+      ∙ ap (λ k. readFrom k (st 0 (foldl put (put j a) l)) tail) e
+
+-- P holds of each element at its place, counted from k
+abbrev EveryFrom : {A : Type 0} → ℕ → (ℕ → A → Type 0) → List A → Type 0
+EveryFrom k P [] = Unit {0}
+EveryFrom k P (a ∷ l) = P k a × EveryFrom (k + 1) P l
+
+every-from : {A : Type 0} (d : A) (P : ℕ → A → Type 0) (l : List A) (k : ℕ) → ((i : ℕ) → i < length l → P (k + i) (getD l i d)) → EveryFrom k P l
+every-from d P [] k h = tt
+every-from d P (a ∷ l) k h =
+    let e : k + 0 ≡ k = omega arith in (
+      subst (λ i. P i a) e (h 0 (omega arith)),
+      every-from d P l (k + 1) (λ i g. let f : k + suc i ≡ k + 1 + i = omega arith in subst (λ m. P m (getD l i d)) f (h (suc i) (omega arith))),
+    )
+
+-- jobs that differ in the rows of one sort: `mk l` has the rows l
+module _ {A : Type 0} (put : J.Job → A → J.Job) (mk : List A → J.Job) (same : (l : List A) (a : A) → put (mk l) a ≡ mk (l ++ (a ∷ []))) where
+  fold-all : (l done : List A) → foldl put (mk done) l ≡ mk (done ++ l)
+  fold-all [] done = ap mk (sym (append-nil done))
+  fold-all (a ∷ l) done = ap (λ j. foldl put j l) (same done a) ∙ fold-all l (done ++ (a ∷ [])) ∙ ap mk (append-assoc done (a ∷ []) l)
+
+  module _ (Q : J.Job → A → Type 0) (P : ℕ → A → Type 0) (fits : (l : List A) (a : A) → P (length l) a → Q (mk l) a) where
+    along-all : (l done : List A) (k : ℕ) → length done ≡ k → EveryFrom k P l → Along Q put (mk done) l
+    unfolding Along
+    along-all [] done k e h = tt
+    along-all (a ∷ l) done k e h =
+        let g : length (done ++ (a ∷ [])) ≡ k + 1 = length-append done (a ∷ []) ∙ omega arith in
+        (fits done a (subst (λ i. P i a) (sym e) (h .0)), subst (λ j. Along Q put j l) (sym (same done a)) (along-all l (done ++ (a ∷ [])) (k + 1) g (h .1)))
+
+    module _ (st : ℕ → J.Job → Reading) (ln : A → List ℕ)
+        (step : (m n : ℕ) (j : J.Job) (a : A) (rest : List (List ℕ)) → Q j a → readFrom n (st (suc m) j) (ln a ∷ rest) ≡ readFrom (n + 1) (st m (put j a)) rest) where
+      rows-read : (l done : List A) (n : ℕ) (tail : List (List ℕ)) → EveryFrom (length done) P l
+          → readFrom n (st (length l) (mk done)) (map ln l ++ tail) ≡ readFrom (n + length l) (st 0 (mk (done ++ l))) tail
+      rows-read l done n tail h =
+          section st ln put Q step l (mk done) n tail (along-all l done (length done) refl h) ∙ ap (λ j. readFrom (n + length l) (st 0 j) tail) (fold-all l done)
+
+-- a job with these parts
+abbrev made : J.Scalars → List J.Formula → List J.Move → List J.Effect → List J.Row → J.Job
+made sc fs ms es ps = record { scalars = sc; formulas = fs; moves = ms; effects = es; program = ps }
+
+-- a row's line where rows of its sort alone are counted: `after m` comes next with m of them due
+row-line : (k : Line) (after : ℕ → Line) (m n : ℕ) (j j′ : J.Job) (a : ℕ) (ns : List ℕ) (rest : List (List ℕ)) → after (suc m) ≡ k
+    → takenAt k (on k (suc m) 0 j) (a ∷ ns) ≡ on (after (suc m - 1)) (suc m - 1) 0 j′
+    → length (a ∷ ns) ≡ formOf k .width → Small (a ∷ ns)
+    → checks k (countsOf j) (a ∷ ns) .form ≡ true → checks k (countsOf j) (a ∷ ns) .range ≡ true → checks k (countsOf j) (a ∷ ns) .fields ≡ true
+    → readFrom n (on (after (suc m)) (suc m) 0 j) (lineOf k (a ∷ ns) ∷ rest) ≡ readFrom (n + 1) (on (after m) m 0 j′) rest
+row-line k after m n j j′ a ns rest d t w q x y z =
+    let e : suc m - 1 ≡ m = omega arith in
+    ap (λ l. readFrom n (on l (suc m) 0 j) (lineOf k (a ∷ ns) ∷ rest)) d
+    ∙ text-line k (suc m) 0 j n a ns rest w q x y z
+    ∙ ap (λ s. readFrom (n + 1) s rest) t
+    ∙ ap (λ i. readFrom (n + 1) (on (after i) i 0 j′) rest) e
+
+-- formulas and program rows
+abbrev FormulaText : J.Job → J.Formula → Type 0
+FormulaText j f = KindText (countsOf j) formulaFields (f .kind) (f .a ∷ f .b ∷ [])
+
+formula-step : (m n : ℕ) (j : J.Job) (f : J.Formula) (rest : List (List ℕ)) → FormulaText j f
+    → readFrom n (on (afterFormulas (suc m)) (suc m) 0 j) (formulaLine f ∷ rest) ≡ readFrom (n + 1) (on (afterFormulas m) m 0 (J.addFormula j f)) rest
+formula-step m n j f rest q =
+    row-line Formula afterFormulas m n j (J.addFormula j f) (f .kind) (f .a ∷ f .b ∷ []) rest (rw (ne-eqb (suc m) 0 (λ z. omega arith))) refl refl (q .1) refl refl (q .0)
+
+abbrev RowText : J.Job → J.Row → Type 0
+RowText j r = KindText (countsOf j) rowFields (r .kind) (r .a ∷ r .b ∷ r .c ∷ [])
+
+row-step : (m n : ℕ) (j : J.Job) (r : J.Row) (rest : List (List ℕ)) → RowText j r
+    → readFrom n (on (afterRows (suc m)) (suc m) 0 j) (rowLine r ∷ rest) ≡ readFrom (n + 1) (on (afterRows m) m 0 (J.addRow j r)) rest
+row-step m n j r rest q =
+    row-line Row afterRows m n j (J.addRow j r) (r .kind) (r .a ∷ r .b ∷ r .c ∷ []) rest (rw (ne-eqb (suc m) 0 (λ z. omega arith))) refl refl (q .1) refl refl (q .0)
+
+-- a move's effects
+abbrev EffectText : J.Job → J.Effect → Type 0
+EffectText j e = EffectFits (j .scalars .facts) (length (j .formulas)) e × Small (e .cond ∷ e .fact ∷ e .value ∷ [])
+
+effect-step : (rows m n : ℕ) (j : J.Job) (e : J.Effect) (rest : List (List ℕ)) → EffectText j e
+    → readFrom n (on (afterMoves rows (suc m)) rows (suc m) j) (effectLine e ∷ rest) ≡ readFrom (n + 1) (on (afterMoves rows m) rows m (J.addEffect j e)) rest
+effect-step rows m n j e rest q =
+    let d : suc m - 1 ≡ m = omega arith in
+    rw (ne-eqb (suc m) 0 (λ z. omega arith))
+    (text-line Effect rows (suc m) j n (e .cond) (e .fact ∷ e .value ∷ []) rest refl (q .1) refl refl
+    (and-both (ltb (e .cond) (length (j .formulas))) _ (lt-ltb _ _ (q .0 .cond))
+    (and-both (ltb (e .fact) (j .scalars .facts)) (leb (e .value) 1) (lt-ltb _ _ (q .0 .fact)) (le-leb _ _ (q .0 .value))))
+    ∙ ap (λ k. readFrom (n + 1) (on (afterMoves rows k) rows k (J.addEffect j e)) rest) d)
+
+-- each element of a list, without its place
+abbrev All : {A : Type 0} → (A → Type 0) → List A → Type 0
+All P [] = Unit {0}
+All P (a ∷ l) = P a × All P l
+
+all-every : {A : Type 0} (d : A) (P : A → Type 0) (l : List A) → ((i : ℕ) → i < length l → P (getD l i d)) → All P l
+all-every d P [] h = tt
+all-every d P (a ∷ l) h = (h 0 (omega arith), all-every d P l (λ i g. h (suc i) (omega arith)))
+
+all-from : {A : Type 0} (P : A → Type 0) (l : List A) (k : ℕ) → All P l → EveryFrom k (λ i a. P a) l
+all-from P [] k h = tt
+all-from P (a ∷ l) k h = (h .0, all-from P l (k + 1) (h .1))
+
+all-take : {A : Type 0} (P : A → Type 0) (c : ℕ) (l : List A) → All P l → All P (take c l)
+all-take P zero l h = tt
+all-take P (suc c) [] h = tt
+all-take P (suc c) (a ∷ l) h = (h .0, all-take P c l (h .1))
+
+all-drop : {A : Type 0} (P : A → Type 0) (c : ℕ) (l : List A) → All P l → All P (drop c l)
+all-drop P zero l h = h
+all-drop P (suc c) [] h = tt
+all-drop P (suc c) (a ∷ l) h = all-drop P c l (h .1)
+
+-- a move
+move-step : (rows n : ℕ) (j : J.Job) (m : J.Move) (rest : List (List ℕ)) → length (j .formulas) ≤ 255 → MoveFits (length (j .formulas)) m → m .first ≡ length (j .effects)
+    → readFrom n (on Move (suc rows) 0 j) (moveLine m ∷ rest) ≡ readFrom (n + 1) (on (afterMoves rows (m .count)) rows (m .count) (J.addMove j m)) rest
+move-step rows n j m rest h f e =
+    let d : suc rows - 1 ≡ rows = omega arith in
+    text-line Move (suc rows) 0 j n (m .pre) (m .class ∷ m .count ∷ []) rest refl
+    (omega (arith, f .pre), (omega (arith, f .class), (omega (arith, f .count), tt))) refl (le-leb _ _ (f .count))
+    (and-both (ltb (m .pre) (length (j .formulas))) (leb (m .class) 15) (lt-ltb _ _ (f .pre)) (le-leb _ _ (f .class)))
+    ∙ ap (λ k. readFrom (n + 1) (on (afterMoves k (m .count)) k (m .count) (J.addMove j (J.moveOf (length (j .effects)) (m .pre ∷ m .class ∷ m .count ∷ [])))) rest) d
+    ∙ ap (λ i. readFrom (n + 1) (on (afterMoves rows (m .count)) rows (m .count) (J.addMove j (J.moveOf i (m .pre ∷ m .class ∷ m .count ∷ [])))) rest) (sym e)
+
+-- the moves, each with its effects
+module _ (sc : J.Scalars) (fs : List J.Formula) (few : length fs ≤ 255) where
+  abbrev P : J.Effect → Type 0
+  P e = EffectFits (sc .facts) (length fs) e × Small (e .cond ∷ e .fact ∷ e .value ∷ [])
+
+  moves-read : (ms : List J.Move) (es : List J.Effect) (ms₀ : List J.Move) (es₀ : List J.Effect) (n : ℕ) (tail : List (List ℕ))
+      → Tiled (length es₀) ms (length es₀ + length es) → All (MoveFits (length fs)) ms → All P es
+      → readFrom n (on (afterMoves (length ms) 0) (length ms) 0 (made sc fs ms₀ es₀ [])) (moveLines ms es ++ tail)
+      ≡ readFrom (n + length (moveLines ms es)) (on Goal 0 0 (made sc fs (ms₀ ++ ms) (es₀ ++ es) [])) tail
+  unfolding moveLines
+  moves-read [] [] ms₀ es₀ n tail t f g = let e : n + 0 ≡ n = omega arith in rw (append-nil ms₀, append-nil es₀, e)
+  moves-read [] (x ∷ es) ms₀ es₀ n tail t f g = absurd (omega (arith, t))
+  moves-read (m ∷ ms) es ms₀ es₀ n tail t f g =
+      let c : ℕ = m .count in
+      let own = tiled-own (J.moveOf 0 []) (length es₀) (length es₀ + length es) (m ∷ ms) t 0 (omega arith) in
+      let a : List J.Effect = take (m .count) es in
+      let b : List J.Effect = drop (m .count) es in
+      let la : length (take (m .count) es) ≡ m .count = length-take-le (m .count) es (omega (arith, own, t .0)) in
+      let mk : List J.Effect → J.Job = λ l. made sc fs (ms₀ ++ (m ∷ [])) l [] in
+      let rest : List (List ℕ) = moveLines ms b ++ tail in
+      let e₂ : length (es₀ ++ a) + length b ≡ length es₀ + length es =
+      omega (arith, length-append es₀ a, la, length-drop (m .count) es, own, t .0) in
+      let e₁ : length (es₀ ++ a) ≡ length es₀ + m .count = omega (arith, length-append es₀ a, la) in
+      let e₃ : n + 1 + length a + length (moveLines ms b) ≡ n + suc (length (map effectLine a ++ moveLines ms b)) =
+      omega (arith, length-append (map effectLine a) (moveLines ms b), length-map a effectLine) in
+      rw (ne-eqb (suc (length ms)) 0 (λ z. omega arith), append-assoc (map effectLine a) (moveLines ms b) tail)
+      (move-step (length ms) n (made sc fs ms₀ es₀ []) m (map effectLine a ++ rest) few (f .0) (t .0)
+      ∙ ap (λ k. readFrom (n + 1) (on (afterMoves (length ms) k) (length ms) k (mk es₀)) (map effectLine a ++ rest)) (sym la)
+      ∙ rows-read J.addEffect mk (λ l x. refl) EffectText (λ i x. P x) (λ l x h. h) (λ k j. on (afterMoves (length ms) k) (length ms) k j) effectLine (effect-step (length ms))
+      a es₀ (n + 1) rest (all-from P a (length es₀) (all-take P (m .count) es g))
+      ∙ moves-read ms b (ms₀ ++ (m ∷ [])) (es₀ ++ a) (n + 1 + length a) tail (rw (e₂, e₁) (t .1)) (f .1) (all-drop P (m .count) es g)
+      ∙ rw (append-assoc ms₀ (m ∷ []) ms, append-assoc es₀ a b, take-append-drop (m .count) es, e₃))
+
+read-end : (n : ℕ) (j : J.Job) → readFrom n (on End 0 0 j) [] ≡ accepted n j
+unfolding readFrom ended
+read-end n j = refl
+
+-- the rows of a well-formed job as their texts want them
+module _ (j : J.Job) (w : WellFormed j) where
+  abbrev facts : ℕ
+  facts = j .scalars .facts
+
+  abbrev FormulaAt : ℕ → J.Formula → Type 0
+  FormulaAt i f = KindText (beforeFormula facts i) formulaFields (f .kind) (f .a ∷ f .b ∷ [])
+
+  formula-texts : EveryFrom 0 FormulaAt (j .formulas)
+  formula-texts = every-from (J.formulaOf []) FormulaAt (j .formulas) 0 (λ i h.
+      let e : i ≡ 0 + i = omega arith in
+      subst (λ k. FormulaAt k (getD (j .formulas) i (J.formulaOf []))) e
+      (kind-text (beforeFormula facts i) formulaFields (omega arith) (bound-small _ (w .facts) (omega (arith, w .formulas)) (omega arith) (omega arith)) _ _ _ (w .formula i h)))
+
+  abbrev RowAt : ℕ → J.Row → Type 0
+  RowAt i r = KindText (beforeRow j i) rowFields (r .kind) (r .a ∷ r .b ∷ r .c ∷ [])
+
+  row-texts : EveryFrom 0 RowAt (j .program)
+  row-texts = every-from (J.rowOf []) RowAt (j .program) 0 (λ i h.
+      let e : i ≡ 0 + i = omega arith in
+      subst (λ k. RowAt k (getD (j .program) i (J.rowOf []))) e
+      (kind-text (beforeRow j i) rowFields (omega arith) (bound-small _ (w .facts) (w .formulas) (w .moves) (omega (arith, w .program))) _ _ _ (w .row i h)))
+
+  effect-texts : All (P (j .scalars) (j .formulas) (w .formulas)) (j .effects)
+  effect-texts = all-every (J.effectOf []) (P (j .scalars) (j .formulas) (w .formulas)) (j .effects) (λ i h.
+      let f = w .effect i h in
+      (f, (omega (arith, f .cond, w .formulas), (omega (arith, f .fact, w .facts), (omega (arith, f .value), tt)))))
+
+  move-texts : All (MoveFits (length (j .formulas))) (j .moves)
+  move-texts = all-every (J.moveOf 0 []) (MoveFits (length (j .formulas))) (j .moves) (w .move)
+
+  some-formula : length (j .formulas) ≡ 0 → ⊥
+  some-formula e = omega (arith, w .goal)
+
+  init-small : j .scalars .init ≤ 65535
+  init-small = let p : 2 ^ facts ≤ 2 ^ 12 = pow-le-pow-right (omega arith) (w .facts) in omega (arith, w .init)
+
+  -- the scalars before the goal is read
+  abbrev sc : J.Scalars
+  sc = record { facts = facts; init = j .scalars .init; goal = 0 }
+
+  head-read : (n : ℕ) (tail : List (List ℕ))
+      → readFrom n begun (lineOf Job (1 ∷ []) ∷ lineOf Facts (facts ∷ []) ∷ lineOf Init (j .scalars .init ∷ []) ∷ lineOf Formulas (length (j .formulas) ∷ []) ∷ tail)
+      ≡ readFrom (n + 1 + 1 + 1 + 1) (on (afterFormulas (length (j .formulas))) (length (j .formulas)) 0 (made sc [] [] [] [])) tail
+  head-read n tail =
+      text-line Job 0 0 (begun .job) n 1 [] _ refl (omega arith, tt) refl refl refl
+      ∙ text-line Facts 0 0 (begun .job) (n + 1) facts [] _ refl (omega (arith, w .facts), tt) refl (le-leb _ _ (w .facts)) refl
+      ∙ text-line Init 0 0 (made (record { facts = facts; init = 0; goal = 0 }) [] [] [] []) (n + 1 + 1) (j .scalars .init) [] _ refl (init-small, tt) refl (lt-ltb _ _ (w .init)) refl
+      ∙ text-line Formulas 0 0 (made sc [] [] [] []) (n + 1 + 1 + 1) (length (j .formulas)) [] tail refl (omega (arith, w .formulas), tt) refl
+      (and-both (leb 1 (length (j .formulas))) (leb (length (j .formulas)) 255) (le-leb 1 (length (j .formulas)) (omega (arith, w .goal))) (le-leb _ 255 (w .formulas))) refl
+      ∙ rw (ne-eqb (length (j .formulas)) 0 some-formula)
+
+  program-read : (n : ℕ) → readFrom n (on Goal 0 0 (made sc (j .formulas) (j .moves) (j .effects) [])) (programLines j) ≡ accepted (n + 1 + 1 + length (j .program)) j
+  program-read n =
+      let p : length (j .program) ≡ 0 → ⊥ = λ (e : length (j .program) ≡ 0). omega (arith, w .last) in
+      let mk : List J.Row → J.Job = λ l. made (j .scalars) (j .formulas) (j .moves) (j .effects) l in
+      let st : ℕ → J.Job → Reading = λ k q. on (afterRows k) k 0 q in
+      let start : on Row (length (j .program)) 0 (mk []) ≡ st (length (j .program)) (mk []) = rw (ne-eqb (length (j .program)) 0 p) in
+      text-line Goal 0 0 (made sc (j .formulas) (j .moves) (j .effects) []) n (j .scalars .goal) [] (lineOf Program (length (j .program) ∷ []) ∷ map rowLine (j .program))
+      refl (omega (arith, w .goal, w .formulas), tt) refl refl (lt-ltb _ _ (w .goal))
+      ∙ text-line Program 0 0 (mk []) (n + 1) (length (j .program)) [] (map rowLine (j .program)) refl (omega (arith, w .program), tt) refl
+      (and-both (leb 1 (length (j .program))) (leb (length (j .program)) 128) (le-leb 1 _ (w .last)) (le-leb _ 128 (w .program))) refl
+      ∙ ap (λ q. readFrom (n + 1 + 1) q (map rowLine (j .program))) start
+      ∙ ap (readFrom (n + 1 + 1) (st (length (j .program)) (mk []))) (sym (append-nil (map rowLine (j .program))))
+      ∙ rows-read J.addRow mk (λ l x. refl) RowText RowAt (λ l r h. h) st rowLine row-step (j .program) [] (n + 1 + 1) [] row-texts
+      ∙ read-end (n + 1 + 1 + length (j .program)) j
+
+  lines-read : readFrom 0 begun (jobLines j) ≡ accepted (length (jobLines j)) j
+  lines-read =
+      let fs : List J.Formula = j .formulas in
+      let ms : List J.Move = j .moves in
+      let es : List J.Effect = j .effects in
+      let after : List (List ℕ) = lineOf Moves (length ms ∷ []) ∷ (moveLines ms es ++ programLines j) in
+      let n : ℕ = 4 + length fs in
+      let z : 0 + length es ≡ length es = omega arith in
+      let e : 4 + length fs + 1 + length (moveLines ms es) + 1 + 1 + length (j .program) ≡ length (jobLines j) =
+      omega (arith, length-append (map formulaLine fs) after, length-map fs formulaLine, length-append (moveLines ms es) (programLines j), length-map (j .program) rowLine) in
+      head-read 0 (map formulaLine fs ++ after)
+      ∙ rows-read J.addFormula (λ l. made sc l [] [] []) (λ l x. refl) FormulaText FormulaAt (λ l f h. h) (λ k q. on (afterFormulas k) k 0 q) formulaLine formula-step fs [] 4 after formula-texts
+      ∙ text-line Moves 0 0 (made sc fs [] [] []) n (length ms) [] (moveLines ms es ++ programLines j) refl (omega (arith, w .moves), tt) refl (le-leb _ _ (w .moves)) refl
+      ∙ moves-read sc fs (w .formulas) ms es [] [] (n + 1) (programLines j) (rw z (w .tiled)) move-texts effect-texts
+      ∙ program-read (n + 1 + length (moveLines ms es))
+      ∙ ap (λ k. accepted k j) e
+
+-- every line of a job's text ends in its only line feed
+key-plain : (k : Line) → plain (formOf k .key) ≡ true
+unfolding bytes
+key-plain Job = refl
+key-plain Facts = refl
+key-plain Init = refl
+key-plain Formulas = refl
+key-plain Formula = refl
+key-plain Moves = refl
+key-plain Move = refl
+key-plain Effect = refl
+key-plain Goal = refl
+key-plain Program = refl
+key-plain Row = refl
+key-plain End = refl
+
+abbrev Once : List ℕ → Type 0
+Once l = endsOnce l ≡ true
+
+once : (k : Line) (n : ℕ) (ns : List ℕ) → Once (lineOf k (n ∷ ns))
+once k n ns = line-ends (formOf k .key) n ns (key-plain k)
+
+all-map : {A : Type 0} (f : A → List ℕ) (l : List A) → ((a : A) → Once (f a)) → All Once (map f l)
+all-map f [] h = tt
+all-map f (a ∷ l) h = (h a, all-map f l h)
+
+all-both : (a b : List (List ℕ)) → All Once a → All Once b → All Once (a ++ b)
+all-both [] b f g = g
+all-both (x ∷ a) b f g = (f .0, all-both a b (f .1) g)
+
+move-once : (ms : List J.Move) (es : List J.Effect) → All Once (moveLines ms es)
+unfolding moveLines
+move-once [] es = tt
+move-once (m ∷ ms) es =
+    (once Move _ _, all-both (map effectLine (take (m .count) es)) (moveLines ms (drop (m .count) es)) (all-map effectLine (take (m .count) es) (λ e. once Effect _ _)) (move-once ms (drop (m .count) es)))
+
+job-once : (j : J.Job) → All Once (jobLines j)
+job-once j =
+    let end : All Once (programLines j) = (once Goal _ _, (once Program _ _, all-map rowLine (j .program) (λ r. once Row _ _))) in (
+      once Job _ _,
+      (
+        once Facts _ _,
+        (
+          once Init _ _,
+          (
+            once Formulas _ _,
+            all-both (map formulaLine (j .formulas)) (lineOf Moves (length (j .moves) ∷ []) ∷ (moveLines (j .moves) (j .effects) ++ programLines j)) (all-map formulaLine (j .formulas) (λ f. once Formula _ _))
+                (once Moves _ _, all-both (moveLines (j .moves) (j .effects)) (programLines j) (move-once (j .moves) (j .effects)) end),
+          ),
+        ),
+      ),
+    )
+
+lines-flatten : (ls : List (List ℕ)) → All Once ls → lines (flatten ls) ≡ ls
+unfolding lines flatten
+lines-flatten [] h = refl
+lines-flatten (l ∷ ls) h = line-of l (flatten ls) (h .0) ∙ ap (λ r. l ∷ r) (lines-flatten ls (h .1))
+
+-- every well-formed job has a text that is read as that job
+pub text-accepted : (j : J.Job) → WellFormed j → readJob (jobText j) ≡ accepted (length (jobLines j)) j
+unfolding readJob
+text-accepted j w = ap (readFrom 0 begun) (lines-flatten (jobLines j) (job-once j)) ∙ lines-read j w

@@ -1,0 +1,68 @@
+-- The marked cases, as a table of texts and judgements.
+use Prim.Native.Nat.{ℕ}
+use Prim.Native.String.{String}
+use mathlib.Core.Path.{_≡_}
+use mathlib.Core.List.{List, [], _∷_, _++_}
+use Rattle.text.specs.Bytes.{bytes}
+use Rattle.semantics.specs.Verdict.{blocked, unfinished, missed}
+use Rattle.semantics.specs.Judgement.{Judgement, least, dearer, other, Finds}
+use Rattle.domain.specs.Domain.{domainOf}
+use Rattle.compile.specs.Program.{programOf}
+use Rattle.offers.specs.Refusals.{passed, Offer}
+use Rattle.jesmovit.specs.Judging.{judging}
+
+-- the bytes of a job text and of a plan text, and what the judge finds
+pub record Case : Type 0 where
+  pub job : List ℕ
+  pub plan : List ℕ
+  pub says : Judgement
+
+abbrev marks : List ℕ → String → Judgement → Case
+marks job plan says = record { job = job; plan = bytes plan; says = says }
+
+-- "The sample", with this init and this program
+abbrev sampleWith : String → String → List ℕ
+sampleWith init program =
+    bytes "job=1\nfacts=2\n" ++ bytes init
+    ++ bytes "formulas=4\nf=1,0,0\nf=2,0,0\nf=2,1,0\nf=3,1,0\nmoves=2\nm=0,3,1\ne=0,1,1\nm=2,1,1\ne=0,0,1\ngoal=1\n" ++ bytes program
+
+abbrev pub sample : List ℕ
+sample = sampleWith "init=0\n" "program=3\np=1,0,0,0\np=1,1,0,0\np=4,0,1,0\n"
+
+-- "With recipe star of (0 or 1)"
+abbrev pub starOfChoice : List ℕ
+starOfChoice = sampleWith "init=0\n" "program=4\np=1,0,0,0\np=1,1,0,0\np=6,0,1,0\np=8,2,0,0\n"
+
+-- "With star of (while formula 3 do 0)"
+abbrev pub starOfWhile : List ℕ
+starOfWhile = sampleWith "init=0\n" "program=3\np=1,0,0,0\np=7,3,0,0\np=8,1,0,0\n"
+
+-- "With init 0, goal fact 0 and one move of precondition true that clears and sets fact 0, recipe that move"; the clearing comes last in the text, and
+-- the move costs 5
+abbrev clearsAndSets : List ℕ
+clearsAndSets = bytes "job=1\nfacts=1\ninit=0\nformulas=2\nf=1,0,0\nf=2,0,0\nmoves=1\nm=0,1,2\ne=0,0,1\ne=0,0,0\ngoal=1\nprogram=1\np=1,0,0,0\n"
+
+-- "init=1 and recipe nil"
+abbrev nilProgram : List ℕ
+nilProgram = sampleWith "init=1\n" "program=1\np=0,0,0,0\n"
+
+-- "Marked, on the sample"
+unfoldable pub marked : List Case
+marked =
+    marks sample "plan=2\nm=0\nm=1\n" (least 25)  -- "(1) 0,1 least at 25"
+    ∷ marks sample "plan=0\n" (other unfinished)  -- "(2) empty list unfinished"
+    ∷ marks sample "plan=1\nm=1\n" (other (blocked 0))  -- "(3) list 1 blocked 0"
+    ∷ marks sample "plan=1\nm=0\n" (other unfinished)  -- "(4) list 0 unfinished"
+    ∷ marks sample "plan=3\nm=0\nm=1\nm=1\n" (other (blocked 2))  -- "(5) 0,1,1 blocked 2"
+    ∷ marks starOfChoice "plan=3\nm=0\nm=0\nm=1\n" (dearer 45 25)  -- "(6) 0,0,1 dearer, 45 against 25"
+    ∷ marks starOfChoice "plan=0\n" (other missed)  -- "(7) empty list goal missed"
+    ∷ marks starOfWhile "plan=1\nm=0\n" (other unfinished)  -- "(8) list 0 unfinished"
+    ∷ marks clearsAndSets "plan=1\nm=0\n" (least 5)  -- "(9) … list 0 is a plan"
+    ∷ marks nilProgram "plan=0\n" (least 0)  -- "(10) … empty plan least at 0"
+    ∷ []
+
+-- nothing is refused, with a list of 4,096 and a cost table of 12,288 places, and this is what the judge finds: by the program's own runs, and by all allowed
+-- plans of whatever length
+abbrev pub Right : Case → Type 0
+Right c =
+    (o : Offer) × (judging (c .job) (c .plan) 4096 12288 ≡ passed o) × Finds (domainOf (o .job)) (programOf (o .job)) (o .entries) (c .says)
