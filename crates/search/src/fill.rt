@@ -15,7 +15,7 @@ use job::head::Head;
 use sweep::UNREACHED;
 use sweep::queue::QUEUE;
 
-// Up to which key a row is swept again before another is: costs so close are mostly final, and the row's values and successors are at hand.
+// Up to which key a row is swept again before another is, while its values and successors are at hand. Any limit is right.
 fn near(k: u32) -> u32
     requires { ⌜ k < unreached ⌝ }
     ensures { λ r. ⌜ r < unreached ⌝ }
