@@ -1,0 +1,12 @@
+use Rattle.capi.proofs.GivesLaws.{given-by}
+use borrow.Author.Needs.{needs}
+use Rattle.capi.proofs.jesmovit_judge.Statement.{statement}
+use Rattle.capi.proofs.jesmovit_judge.Tie as tie
+
+returns : tie.Need-returns
+returns c = given-by (c .before .before .before .before .before .before .before .judge .result) (c .before .before .before .before .before .before .before .judge .ensures) (c .before .before .of-judge .ensures) (c .hand-out .ensures)
+
+pub jesmovit-judge-spec : {M : Type 1} → statement M
+jesmovit-judge-spec =
+    tie.close
+    (tie.spec (λ c κs. search needs) (λ c κs. search needs) (λ c κs. search needs) (λ c. search needs) (λ c. search needs) returns)

@@ -1,0 +1,18 @@
+use Rattle.capi.proofs.GivesLaws.{given-by}
+use borrow.Author.Needs.{needs}
+use Rattle.capi.proofs.jesmovit_least_cost.Statement.{statement}
+use Rattle.capi.proofs.jesmovit_least_cost.Tie as tie
+
+returns : tie.Need-returns
+returns c = given-by (c .before .before .before .before .before .before .before .least-cost .result) (c .before .before .before .before .before .before .before .least-cost .ensures) (c .before .before .of-least .ensures) (c .hand-out .ensures)
+
+pub jesmovit-least-cost-spec : {M : Type 1} → statement M
+jesmovit-least-cost-spec =
+    tie.close
+    (tie.spec
+    (λ c κs. search needs)
+    (λ c κs. search needs)
+    (λ c κs. search needs)
+    (λ c. search needs)
+    (λ c. search needs)
+    returns)

@@ -1,0 +1,92 @@
+// The public operations for C, and for every language that calls C: numbers and slices alone, and no `requires`. include/jesmovit.h says the same in C's words.
+ghost use mathlib.Core.Path.{_≡_};
+ghost use Rattle.job.specs.ReadJob.{readJob};
+ghost use Rattle.offers.specs.declared.offer.Sort.{Sort};
+ghost use Rattle.jesmovit.specs.JobText.{readAnswer};
+ghost use Rattle.jesmovit.specs.Checking.{Checks};
+ghost use Rattle.jesmovit.specs.Judging.{CostsLeast, Judges};
+ghost use Rattle.capi.specs.Numbers.{readNumbers, compileNumbers, checkNumbers, leastNumbers, judgeNumbers};
+ghost use Rattle.capi.specs.Calls.{Gives, Compiles};
+
+mod numbers;
+
+// Reads a job text: its counts.
+#[no_mangle]
+pub extern "C" fn jesmovit_read_job(text: &[u8], answer: &mut [u64; 5]) -> u32
+    ensures { λ r. ⌜ Gives readNumbers (λ a. a ≡ readAnswer (readJob (now (text .entry)))) r (now (answer .exit)) ⌝ }
+{
+    let a = jesmovit::read_job(text);
+    let n = numbers::of_read(a);
+    numbers::hand_out(n, answer)
+}
+
+// Compiles a job's program into the list: positions and steps.
+#[no_mangle]
+pub extern "C" fn jesmovit_compile(text: &[u8], list: &mut [u16], answer: &mut [u64; 5]) -> u32
+    ensures { λ r. ⌜ Gives compileNumbers (λ a. Compiles (now (text .entry)) (now (list .entry)) a (now (list .exit))) r (now (answer .exit)) ⌝ }
+{
+    let a = jesmovit::compile(text, list);
+    let n = numbers::of_compile(a);
+    numbers::hand_out(n, answer)
+}
+
+// Checks a list of moves against a job's program: the verdict.
+#[no_mangle]
+pub extern "C" fn jesmovit_check_moves(
+    text: &[u8],
+    plan: &[u8],
+    list: &mut [u16],
+    answer: &mut [u64; 5],
+) -> u32
+    ensures { λ r. ⌜ Gives checkNumbers (λ a. Checks Sort.Moves (now (text .entry)) (now (plan .entry)) (now (list .entry)) a (now (list .exit))) r (now (answer .exit)) ⌝ }
+{
+    let a = jesmovit::check_moves(text, plan, list);
+    let n = numbers::of_check(a);
+    numbers::hand_out(n, answer)
+}
+
+// Checks a list of steps against the compiled job: the verdict.
+#[no_mangle]
+pub extern "C" fn jesmovit_check_steps(
+    text: &[u8],
+    plan: &[u8],
+    list: &mut [u16],
+    answer: &mut [u64; 5],
+) -> u32
+    ensures { λ r. ⌜ Gives checkNumbers (λ a. Checks Sort.Steps (now (text .entry)) (now (plan .entry)) (now (list .entry)) a (now (list .exit))) r (now (answer .exit)) ⌝ }
+{
+    let a = jesmovit::check_steps(text, plan, list);
+    let n = numbers::of_check(a);
+    numbers::hand_out(n, answer)
+}
+
+// Fills the cost table: the least cost, or that there is no plan.
+#[no_mangle]
+pub extern "C" fn jesmovit_least_cost(
+    text: &[u8],
+    list: &mut [u16],
+    table: &mut [u32],
+    answer: &mut [u64; 5],
+) -> u32
+    ensures { λ r. ⌜ Gives leastNumbers (λ a. CostsLeast (now (text .entry)) (now (list .entry)) (now (table .entry)) a (now (list .exit)) (now (table .exit))) r (now (answer .exit)) ⌝ }
+{
+    let a = jesmovit::least_cost(text, list, table);
+    let n = numbers::of_least(a);
+    numbers::hand_out(n, answer)
+}
+
+// Judges a list of moves: positions, steps, and what it is among the plans that the program allows.
+#[no_mangle]
+pub extern "C" fn jesmovit_judge(
+    text: &[u8],
+    plan: &[u8],
+    list: &mut [u16],
+    table: &mut [u32],
+    answer: &mut [u64; 5],
+) -> u32
+    ensures { λ r. ⌜ Gives judgeNumbers (λ a. Judges (now (text .entry)) (now (plan .entry)) (now (list .entry)) (now (table .entry)) a (now (list .exit)) (now (table .exit))) r (now (answer .exit)) ⌝ }
+{
+    let a = jesmovit::judge(text, plan, list, table);
+    let n = numbers::of_judge(a);
+    numbers::hand_out(n, answer)
+}

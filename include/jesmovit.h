@@ -1,0 +1,80 @@
+/* Jesmovit's operations for C, and for every language that calls C. The library is target/staticlib/libcapi.a, which `rt staticlib capi` builds.
+ *
+ * Texts are bytes, with no zero at their end; a length counts bytes, numbers of a list or numbers of a table. No pointer is null, not even beside a length
+ * of 0; each points to as many numbers as its length says, aligned as C aligns them; and what a call may write (list, table, answer) overlaps nothing else
+ * that it is handed. These rules are the caller's, and nothing tests them. No other is: any bytes and any lengths get their answer.
+ *
+ * Each function gives back 0, or the number of the refusal:
+ *
+ *   1  a line of the job text is of wrong form, missing or extra       the place is the line, counted from 1
+ *   2  a count, or init, is outside its range                          the line
+ *   3  a kind, reference, class, value or unused field is wrong        the line
+ *   4  the compiled job has too many positions or steps                the last job line
+ *   5  the plan text is of wrong form, too long, or has an entry that the job lacks    the line of the plan text
+ *   6  the list or the table is too short                              the length needed; where both are, the list's
+ *
+ * `answer` has room for five numbers, and all five are written. After a refusal they are the place and four zeros, and list and table hold what they held
+ * before. Otherwise they are what the function's comment says, and zeros.
+ *
+ * The list, where there is one, is filled whenever nothing is refused: four numbers for each step of the compiled job, its kind (0 no-op, 1 formula arg
+ * holds, 2 formula arg doesn't hold, 3 move arg), the positions that it leads from and to, and its arg. 4,096 numbers are enough for every job. The cost
+ * table is filled by jesmovit_least_cost, and by jesmovit_judge for a plan: at state * positions + position the least cost of reaching it, in tenths of a
+ * second, or JESMOVIT_UNREACHED. 1,048,576 numbers are enough for every job. Numbers behind the filled ones keep what they held.
+ *
+ * The functions keep nothing between calls, use no heap, and may be called from several threads. Each wants some 100 KB of stack.
+ */
+#ifndef JESMOVIT_H
+#define JESMOVIT_H
+
+#include <stddef.h>
+#include <stdint.h>
+
+#ifdef __cplusplus
+extern "C" {
+#endif
+
+/* An entry of the cost table for a state and position that can't be reached. */
+#define JESMOVIT_UNREACHED 4294967295u
+
+/* What is said of a plan, and of a job's least cost. */
+enum {
+    JESMOVIT_PLAN = 0,       /* a plan, with its cost */
+    JESMOVIT_BLOCKED = 1,    /* some run makes the first i entries, none the next one; with i */
+    JESMOVIT_UNFINISHED = 2, /* all entries can be made, but no such run completes the program */
+    JESMOVIT_MISSED = 3,     /* the program completes, and the goal is false */
+    JESMOVIT_LEAST = 4,      /* a plan that costs as little as any, with its cost and the least cost, which are equal */
+    JESMOVIT_DEARER = 5,     /* a plan that costs more than another, with its cost and the least cost */
+    JESMOVIT_COSTS = 6,      /* a job that has plans, with the least cost of them all */
+    JESMOVIT_NONE = 7        /* a job that has no plan, of whatever length */
+};
+
+/* Reads a job text. answer: facts, formulas, moves, effects of all moves, program rows. Refused by 1 to 3. */
+uint32_t jesmovit_read_job(const uint8_t *job, size_t job_length, uint64_t answer[5]);
+
+/* Compiles a job's program. answer: positions, steps, 0, 0, 0. Refused by 1 to 4, and by 6. */
+uint32_t jesmovit_compile(const uint8_t *job, size_t job_length, uint16_t *list, size_t list_length, uint64_t answer[5]);
+
+/* Checks a list of moves, lines `m=move`, against a job's program.
+ * answer: JESMOVIT_PLAN and its cost, JESMOVIT_BLOCKED and i, JESMOVIT_UNFINISHED or JESMOVIT_MISSED; then zeros. Refused by 1 to 6. */
+uint32_t jesmovit_check_moves(const uint8_t *job, size_t job_length, const uint8_t *plan, size_t plan_length, uint16_t *list, size_t list_length,
+                              uint64_t answer[5]);
+
+/* Checks a list of steps, lines `t=step`, against the compiled job; answer and refusals as for jesmovit_check_moves. */
+uint32_t jesmovit_check_steps(const uint8_t *job, size_t job_length, const uint8_t *plan, size_t plan_length, uint16_t *list, size_t list_length,
+                              uint64_t answer[5]);
+
+/* Finds the least cost of all plans that a job's program allows. answer: JESMOVIT_COSTS and the cost, or JESMOVIT_NONE; then zeros. Refused by 1 to 4, and
+ * by 6. */
+uint32_t jesmovit_least_cost(const uint8_t *job, size_t job_length, uint16_t *list, size_t list_length, uint32_t *table, size_t table_length,
+                             uint64_t answer[5]);
+
+/* Judges a list of moves. answer: positions, steps, and then JESMOVIT_LEAST or JESMOVIT_DEARER with the plan's cost and the least cost; or, for what is no
+ * plan, JESMOVIT_BLOCKED, i and 0, JESMOVIT_UNFINISHED and zeros, or JESMOVIT_MISSED and zeros. The table is filled for a plan alone. Refused by 1 to 6. */
+uint32_t jesmovit_judge(const uint8_t *job, size_t job_length, const uint8_t *plan, size_t plan_length, uint16_t *list, size_t list_length, uint32_t *table,
+                        size_t table_length, uint64_t answer[5]);
+
+#ifdef __cplusplus
+}
+#endif
+
+#endif
