@@ -8,6 +8,7 @@ pub mod LongPlans
 pub mod Agreement
 pub mod StepPlans
 pub mod OneAnswer
+pub mod OneCall
 pub mod JudgedCosts
 pub mod Exhibited
 pub mod ExhibitedLeast
