@@ -1,0 +1,39 @@
+//! Faults that can be seeded into the second implementation, to see that the comparison finds them.
+
+/// One deliberate fault, or none.
+#[derive(Clone, Copy, Debug, PartialEq, Eq)]
+pub enum Fault {
+    None,
+    /// The star of paper 003: its body starts at the star's own position.
+    Star,
+    /// An effect's condition is judged after the effects before it.
+    Effects,
+    /// Effects are applied as they stand: a later clearing undoes a setting.
+    ClearLast,
+    /// A choice takes its first branch alone.
+    FirstBranch,
+    /// A search that comes by a silent step to a configuration met before gives up.
+    FreeLoops,
+    /// One no-op is added behind a step list.
+    LateSteps,
+    /// A table that is too short is looked at before the list.
+    TableFirst,
+}
+
+/// The faults by their names on the command line.
+pub const FAULTS: [(&str, Fault); 7] = [
+    ("star", Fault::Star),
+    ("effects", Fault::Effects),
+    ("clear-last", Fault::ClearLast),
+    ("first-branch", Fault::FirstBranch),
+    ("free-loops", Fault::FreeLoops),
+    ("late-steps", Fault::LateSteps),
+    ("table-first", Fault::TableFirst),
+];
+
+impl Fault {
+    /// The fault of this name.
+    pub fn named(name: &str) -> Option<Fault> {
+        FAULTS.iter().find(|(own, _)| *own == name).map(|(_, fault)| *fault)
+    }
+}

@@ -1,0 +1,15 @@
+//! A second implementation of the planning tool, written from its paper alone, and the library under test beside it.
+
+pub mod answer;
+pub mod compare;
+pub mod costs;
+pub mod fault;
+pub mod job;
+pub mod library;
+pub mod lines;
+pub mod residual;
+pub mod runs;
+pub mod steps;
+pub mod table;
+pub mod verdict;
+pub mod world;

@@ -1,0 +1,109 @@
+//! The library under test, by its C header.
+
+use crate::answer::Answer;
+
+extern "C" {
+    fn jesmovit_read_job(job: *const u8, job_length: usize, answer: *mut u64) -> u32;
+    fn jesmovit_compile(job: *const u8, job_length: usize, list: *mut u16, list_length: usize, answer: *mut u64)
+        -> u32;
+    fn jesmovit_check_moves(
+        job: *const u8,
+        job_length: usize,
+        plan: *const u8,
+        plan_length: usize,
+        list: *mut u16,
+        list_length: usize,
+        answer: *mut u64,
+    ) -> u32;
+    fn jesmovit_check_steps(
+        job: *const u8,
+        job_length: usize,
+        plan: *const u8,
+        plan_length: usize,
+        list: *mut u16,
+        list_length: usize,
+        answer: *mut u64,
+    ) -> u32;
+    fn jesmovit_least_cost(
+        job: *const u8,
+        job_length: usize,
+        list: *mut u16,
+        list_length: usize,
+        table: *mut u32,
+        table_length: usize,
+        answer: *mut u64,
+    ) -> u32;
+    fn jesmovit_judge(
+        job: *const u8,
+        job_length: usize,
+        plan: *const u8,
+        plan_length: usize,
+        list: *mut u16,
+        list_length: usize,
+        table: *mut u32,
+        table_length: usize,
+        answer: *mut u64,
+    ) -> u32;
+}
+
+/// What the answer's numbers are before a call, so that one left unwritten is seen.
+const UNWRITTEN: u64 = 0x5555_5555_5555_5555;
+
+/// Calls a function of the library with room for its five numbers.
+fn answered(call: impl FnOnce(*mut u64) -> u32) -> Answer {
+    let mut values = [UNWRITTEN; 5];
+    let number = call(values.as_mut_ptr());
+    Answer { number, values }
+}
+
+// In each call below, pointers and lengths are those of slices: never null, aligned, and none that is written overlaps another.
+
+pub fn read_job(job: &[u8]) -> Answer {
+    answered(|answer| unsafe { jesmovit_read_job(job.as_ptr(), job.len(), answer) })
+}
+
+pub fn compile(job: &[u8], list: &mut [u16]) -> Answer {
+    answered(|answer| unsafe { jesmovit_compile(job.as_ptr(), job.len(), list.as_mut_ptr(), list.len(), answer) })
+}
+
+pub fn check_moves(job: &[u8], plan: &[u8], list: &mut [u16]) -> Answer {
+    answered(|answer| unsafe {
+        jesmovit_check_moves(job.as_ptr(), job.len(), plan.as_ptr(), plan.len(), list.as_mut_ptr(), list.len(), answer)
+    })
+}
+
+pub fn check_steps(job: &[u8], plan: &[u8], list: &mut [u16]) -> Answer {
+    answered(|answer| unsafe {
+        jesmovit_check_steps(job.as_ptr(), job.len(), plan.as_ptr(), plan.len(), list.as_mut_ptr(), list.len(), answer)
+    })
+}
+
+pub fn least_cost(job: &[u8], list: &mut [u16], table: &mut [u32]) -> Answer {
+    answered(|answer| unsafe {
+        jesmovit_least_cost(
+            job.as_ptr(),
+            job.len(),
+            list.as_mut_ptr(),
+            list.len(),
+            table.as_mut_ptr(),
+            table.len(),
+            answer,
+        )
+    })
+}
+
+pub fn judge(job: &[u8], plan: &[u8], list: &mut [u16], table: &mut [u32]) -> Answer {
+    answered(|answer| unsafe {
+        jesmovit_judge(
+            job.as_ptr(),
+            job.len(),
+            plan.as_ptr(),
+            plan.len(),
+            list.as_mut_ptr(),
+            list.len(),
+            table.as_mut_ptr(),
+            table.len(),
+            answer,
+        )
+    })
+}

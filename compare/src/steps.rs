@@ -1,0 +1,68 @@
+//! Steps of the compiled job, and the verdict of a step list.
+
+use crate::fault::Fault;
+use crate::table::{Compiled, FAILS, HOLDS, NO_OP};
+use crate::verdict::Verdict;
+use crate::world::World;
+
+/// The compiled job over its states.
+pub struct Steps<'a> {
+    pub world: &'a World<'a>,
+    pub compiled: &'a Compiled,
+}
+
+impl Steps<'_> {
+    /// The final position.
+    pub fn last(&self) -> u16 {
+        self.compiled.positions as u16 - 1
+    }
+
+    /// The state after a step that is made in a state, where it can be.
+    pub fn after(&self, state: u16, [kind, _, _, arg]: [u16; 4]) -> Option<u16> {
+        match kind {
+            NO_OP => Some(state),
+            HOLDS => self.world.holds(arg, state).then_some(state),
+            FAILS => (!self.world.holds(arg, state)).then_some(state),
+            _ => self.world.successor(arg, state),
+        }
+    }
+
+    /// What a step costs.
+    pub fn cost(&self, [kind, _, _, arg]: [u16; 4]) -> u64 {
+        match kind {
+            NO_OP | HOLDS | FAILS => 0,
+            _ => self.world.cost(arg),
+        }
+    }
+
+    /// The verdict of a list of steps.
+    pub fn verdict(&self, entries: &[u16], fault: Fault) -> Verdict {
+        let (mut state, mut position) = (self.world.job.init, 0);
+        let mut cost = 0;
+        for (made, entry) in entries.iter().enumerate() {
+            let step = self.compiled.steps[usize::from(*entry)];
+            let [_, from, to, _] = step;
+            let Some(after) = self.after(state, step).filter(|_| from == position) else {
+                return Verdict::Blocked(made);
+            };
+            (state, position) = (after, to);
+            cost += self.cost(step);
+        }
+        if fault == Fault::LateSteps {
+            position = self.slide(state, position);
+        }
+        if position != self.last() {
+            Verdict::Unfinished
+        } else if !self.world.is_goal(state) {
+            Verdict::Missed
+        } else {
+            Verdict::Plan(cost)
+        }
+    }
+
+    /// Fault: one silent step is added behind the list where there is one.
+    fn slide(&self, state: u16, position: u16) -> u16 {
+        let silent = |step: &&[u16; 4]| step[1] == position && step[0] == NO_OP && self.after(state, **step).is_some();
+        self.compiled.steps.iter().find(silent).map_or(position, |step| step[2])
+    }
+}

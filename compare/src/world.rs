@@ -1,0 +1,117 @@
+//! States, the formulas that hold in them, and the successors that moves lead to.
+
+use std::cell::OnceCell;
+
+use crate::fault::Fault;
+use crate::job::{Job, Move};
+
+/// Cost of each class in tenths of a second.
+pub const COSTS: [u64; 16] = [0, 5, 12, 20, 30, 45, 60, 90, 120, 180, 240, 360, 600, 900, 1800, 3600];
+
+/// What is true of one state: the value of each formula, and the successor by each move that is applicable.
+pub struct View {
+    pub values: Vec<bool>,
+    pub successors: Vec<Option<u16>>,
+}
+
+/// The states of a job; what is true of a state is worked out once.
+pub struct World<'a> {
+    pub job: &'a Job,
+    fault: Fault,
+    views: Vec<OnceCell<View>>,
+}
+
+impl<'a> World<'a> {
+    pub fn new(job: &'a Job, fault: Fault) -> Self {
+        let views = (0..state_count(job)).map(|_| OnceCell::new()).collect();
+        World { job, fault, views }
+    }
+
+    /// The value of a formula in a state.
+    pub fn holds(&self, formula: u16, state: u16) -> bool {
+        self.view(state).values[usize::from(formula)]
+    }
+
+    /// The state after a move, where it is applicable.
+    pub fn successor(&self, index: u16, state: u16) -> Option<u16> {
+        self.view(state).successors[usize::from(index)]
+    }
+
+    /// What a move costs.
+    pub fn cost(&self, index: u16) -> u64 {
+        COSTS[usize::from(self.job.moves[usize::from(index)].class)]
+    }
+
+    /// Whether the goal holds.
+    pub fn is_goal(&self, state: u16) -> bool {
+        self.holds(self.job.goal, state)
+    }
+
+    fn view(&self, state: u16) -> &View {
+        self.views[usize::from(state)].get_or_init(|| self.look(state))
+    }
+
+    fn look(&self, state: u16) -> View {
+        let values = values(&self.job.formulas, state);
+        let successors = self.job.moves.iter().map(|step| self.after(step, state, &values)).collect();
+        View { values, successors }
+    }
+
+    fn after(&self, step: &Move, state: u16, values: &[bool]) -> Option<u16> {
+        if !values[usize::from(step.pre)] {
+            return None;
+        }
+        Some(match self.fault {
+            Fault::Effects => self.one_by_one(step, state, true),
+            Fault::ClearLast => self.one_by_one(step, state, false),
+            _ => together(step, state, values),
+        })
+    }
+
+    /// Fault: effects are applied one by one, and their conditions perhaps judged anew before each.
+    fn one_by_one(&self, step: &Move, state: u16, anew: bool) -> u16 {
+        let mut after = state;
+        for [condition, fact, value] in &step.effects {
+            let judged = if anew { after } else { state };
+            if values(&self.job.formulas, judged)[usize::from(*condition)] {
+                after = after & !(1 << fact) | value << fact;
+            }
+        }
+        after
+    }
+}
+
+/// The number of states of a job.
+pub fn state_count(job: &Job) -> usize {
+    1 << job.facts
+}
+
+/// All effects that hold: first those that clear, then those that set.
+fn together(step: &Move, state: u16, values: &[bool]) -> u16 {
+    let mut cleared = 0;
+    let mut set = 0;
+    for [condition, fact, value] in &step.effects {
+        let mask = if *value == 0 { &mut cleared } else { &mut set };
+        if values[usize::from(*condition)] {
+            *mask |= 1 << fact;
+        }
+    }
+    state & !cleared | set
+}
+
+/// The values of all formulas in a state; each refers to earlier ones only.
+fn values(formulas: &[[u16; 3]], state: u16) -> Vec<bool> {
+    let mut values: Vec<bool> = Vec::with_capacity(formulas.len());
+    for [kind, a, b] in formulas {
+        let value = match kind {
+            0 => false,
+            1 => true,
+            2 => state >> a & 1 == 1,
+            3 => !values[usize::from(*a)],
+            4 => values[usize::from(*a)] && values[usize::from(*b)],
+            _ => values[usize::from(*a)] || values[usize::from(*b)],
+        };
+        values.push(value);
+    }
+    values
+}
