@@ -8,7 +8,7 @@ pub enum Fault {
     Star,
     /// An effect's condition is judged after the effects before it.
     Effects,
-    /// Effects are applied as they stand: a later clearing undoes a setting.
+    /// Effects set first and then clear.
     ClearLast,
     /// A choice takes its first branch alone.
     FirstBranch,

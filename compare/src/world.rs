@@ -52,32 +52,29 @@ impl<'a> World<'a> {
     }
 
     fn look(&self, state: u16) -> View {
-        let values = values(&self.job.formulas, state);
+        let values = formula_values(&self.job.formulas, state);
         let successors = self.job.moves.iter().map(|step| self.after(step, state, &values)).collect();
         View { values, successors }
     }
 
+    /// The state after a move, given the formulas' values before it: effects that hold clear first, then set.
     fn after(&self, step: &Move, state: u16, values: &[bool]) -> Option<u16> {
         if !values[usize::from(step.pre)] {
             return None;
         }
-        Some(match self.fault {
-            Fault::Effects => self.one_by_one(step, state, true),
-            Fault::ClearLast => self.one_by_one(step, state, false),
-            _ => together(step, state, values),
-        })
-    }
-
-    /// Fault: effects are applied one by one, and their conditions perhaps judged anew before each.
-    fn one_by_one(&self, step: &Move, state: u16, anew: bool) -> u16 {
-        let mut after = state;
+        let (mut cleared, mut set) = (0, 0);
         for [condition, fact, value] in &step.effects {
-            let judged = if anew { after } else { state };
-            if values(&self.job.formulas, judged)[usize::from(*condition)] {
-                after = after & !(1 << fact) | value << fact;
-            }
+            let holds = match self.fault {
+                Fault::Effects => formula_values(&self.job.formulas, state & !cleared | set)[usize::from(*condition)],
+                _ => values[usize::from(*condition)],
+            };
+            let mask = if *value == 0 { &mut cleared } else { &mut set };
+            *mask |= u16::from(holds) << fact;
         }
-        after
+        match self.fault {
+            Fault::ClearLast => Some((state | set) & !cleared),
+            _ => Some(state & !cleared | set),
+        }
     }
 }
 
@@ -86,21 +83,8 @@ pub fn state_count(job: &Job) -> usize {
     1 << job.facts
 }
 
-/// All effects that hold: first those that clear, then those that set.
-fn together(step: &Move, state: u16, values: &[bool]) -> u16 {
-    let mut cleared = 0;
-    let mut set = 0;
-    for [condition, fact, value] in &step.effects {
-        let mask = if *value == 0 { &mut cleared } else { &mut set };
-        if values[usize::from(*condition)] {
-            *mask |= 1 << fact;
-        }
-    }
-    state & !cleared | set
-}
-
 /// The values of all formulas in a state; each refers to earlier ones only.
-fn values(formulas: &[[u16; 3]], state: u16) -> Vec<bool> {
+fn formula_values(formulas: &[[u16; 3]], state: u16) -> Vec<bool> {
     let mut values: Vec<bool> = Vec::with_capacity(formulas.len());
     for [kind, a, b] in formulas {
         let value = match kind {
