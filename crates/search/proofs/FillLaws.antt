@@ -50,10 +50,6 @@ settling-end x chosen e is = record {
   relaxed = λ i s p t q c l d claim. x .relaxed i s p t q c l d (omega (arith, claim, chosen .rest e s (omega (arith, d .inside))));
 }
 
--- sweeps, and one more
-pub settling-better : {G : Graph} {n : ℕ} {T queue T′ queue′ T″ queue″ : List ℕ} → Settling G n T queue T′ queue′ → Better G n T′ queue′ T″ queue″ → Better G n T queue T″ queue″
-settling-better x y = record { runs = runs-on (x .runs) (y .runs); size = y .size ∙ x .size; relaxed = y .relaxed; less = omega (arith, x .less, y .less) }
-
 -- the order is made anew
 pub better-named : {G : Graph} {n : ℕ} {T queue T′ queue′ queue″ : List ℕ} → n ≤ 4096 → n ≡ G .domain .states → Better G n T queue T′ queue′ → SameKeys queue′ queue″
     → Better G n T queue T′ queue″
@@ -69,14 +65,10 @@ module _ {head : Head} {rows list links : List ℕ} {positions : ℕ} {T queue :
   pub search-sweep : {values : List Bool} {state : ℕ} {known : List ℕ} → Tells (jobOf head rows) state values → state < stateCount (head .counts .facts)
       → Known (domainOf (jobOf head rows)) state known → Sweep head rows values positions state T queue known
   search-sweep told inside known = record {
-    size = x .ready .size;
-    job = x .ready .job;
-    told = told;
-    inside = inside;
+    standing = record { size = x .ready .size; job = x .ready .job; told = told; inside = inside; successors = known };
     few = x .laid .few;
     room = x .room;
     keys = x .keys;
-    successors = known;
   }
 
   pub search-on : {U queue′ : List ℕ} → length U ≡ length T → length queue′ ≡ length queue → Search head rows list links positions U queue′

@@ -8,64 +8,14 @@ ghost use Rattle.semantics.specs.Cells.{Relaxed};
 ghost use Rattle.domain.specs.Domain.{domainOf};
 ghost use Rattle.compile.specs.CompiledJob.{stepsOf};
 ghost use Rattle.validate.specs.Ready.{Ready};
-ghost use Rattle.sweep.specs.Rows.{graphOf, Laid, Keyed};
-ghost use Rattle.sweep.specs.Departures.{Sweep, Better};
+ghost use Rattle.sweep.specs.Rows.{graphOf, Keyed};
+ghost use Rattle.sweep.specs.Departures.{Better};
 ghost use Rattle.search.specs.Filling.{Search, Settled};
 use job::head::Head;
 use sweep::UNREACHED;
 use sweep::queue::QUEUE;
 
-// Up to which key a row is swept again before another is, while its values and successors are at hand. Any limit is right.
-fn near(k: u32) -> u32
-    requires { ⌜ k < unreached ⌝ }
-    ensures { λ r. ⌜ r < unreached ⌝ }
-{
-    if k < 4294967000 {
-        return k + 60;
-    }
-    k
-}
-
-// Sweeps the row of a state that has a key, until its key is above the limit.
-fn sweep_near(
-    costs: &mut [u32],
-    queue: &mut [u32],
-    known: &mut [u16],
-    head: Head,
-    rows: &[u16],
-    list: &[u16],
-    links: &[u16],
-    values: &[bool],
-    positions: usize,
-    state: u16,
-    limit: u32,
-)
-    requires { ⌜ Ready head (now rows) (now list) positions × Laid (now list) (now links) positions ⌝ }
-    requires { ⌜ Sweep head (now rows) (now values) positions state (now costs) (now queue) (now known) × (getD (now queue) state 0 < unreached) × (limit < unreached) ⌝ }
-    requires { ⌜ Relaxed (graphOf head (now rows) (now list) positions) (Keyed (now queue)) (now costs) ⌝ }
-    ensures { λ _. ⌜ Better (graphOf head (now (rows .entry)) (now (list .entry)) positions) (stateCount (head .counts .facts)) (now (costs .entry)) (now (queue .entry)) (now (costs .exit)) (now (queue .exit)) ⌝ }
-{
-    let s = state as usize;
-    loop {
-        sweep::row::sweep(
-            costs,
-            queue,
-            known,
-            head,
-            rows,
-            list,
-            links,
-            values,
-            positions,
-            state,
-        );
-        if limit < queue[s] {
-            return;
-        }
-    }
-}
-
-// Sweeps the row of a state that has a key, until its key is far above that.
+// Sweeps the row of a state that has a key.
 fn visit(
     costs: &mut [u32],
     queue: &mut [u32],
@@ -85,8 +35,7 @@ fn visit(
     let mut known = [0u16; 64];
     let states = job::states::state_count(head.counts.facts) as usize;
     let s = state as usize;
-    let limit = near(queue[s]);
-    sweep_near(
+    sweep::row::sweep(
         costs,
         queue,
         &mut known,
@@ -97,7 +46,6 @@ fn visit(
         &values,
         positions,
         state,
-        limit,
     );
     sweep::queue::rename(queue, states, s);
 }

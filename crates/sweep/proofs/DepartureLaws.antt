@@ -1,326 +1,330 @@
--- Moves followed from a state's row.
+-- Steps followed from a state's row.
 -- Assumes nothing.
-use Prim.Native.Nat.{ℕ, zero, suc, _+_, _*_, _/_, _≤_, _<_}
-use mathlib.Core.Path.{_≡_, refl, sym, _∙_, ap, subst}
-use mathlib.Core.Bool.{Bool, true, not}
-use mathlib.Core.Option.{none as nothing, some}
-use mathlib.Core.List.{List, [], _∷_}
+use Prim.Native.Nat.{ℕ, suc, _+_, _*_, _/_, _≤_, _<_}
+use mathlib.Core.Path.{_≡_, refl, sym, _∙_, ap}
+use mathlib.Core.Bool.{Bool, true, false}
+use mathlib.Core.List.{List}
 use mathlib.Core.Logic.{_⊎_, inl, inr}
 use native.Mathlib.Omega.{arith}
 use native.Mathlib.Decide.{decLt, ℕ-discrete}
-use lib.ListN.{length, getD, set}
+use lib.ListN.{length, getD, set, length-set}
 use lib.Seq.{getD-set-same, getD-set-other}
+use Rattle.laws.proofs.Tests.{never}
 use Rattle.job.specs.StateCount.{stateCount}
 use Rattle.job.specs.Store.{jobOf}
 use Rattle.job.specs.declared.head.Head.{Head}
-use Rattle.semantics.specs.Label.{Label, make}
+use Rattle.semantics.specs.Label.{Label}
 use Rattle.semantics.specs.Domain.{Domain}
 use Rattle.semantics.specs.CompilingTable.{labelIn}
-use Rattle.semantics.specs.Path.{Does, idles, passes, refutes, moves-on}
-use Rattle.semantics.specs.PositionSets.{silentIn}
+use Rattle.semantics.specs.Path.{Does}
 use Rattle.semantics.specs.Plan.{cost}
 use Rattle.semantics.specs.CostTable.{unreached}
-use Rattle.semantics.specs.Cells.{cell, Graph, entry, Closed, Edge, Runs, none, more, Relaxed}
-use Rattle.semantics.proofs.CostLaws.{cost-one}
+use Rattle.semantics.specs.Cells.{cell, Graph, entry, Closed, Edge, Runs, none, more, Relaxed, sum}
+use Rattle.semantics.proofs.CostLaws.{does-bounded}
 use Rattle.semantics.proofs.FlatLaws.{steps-only}
-use Rattle.semantics.proofs.CellLaws.{edge-within, relaxed-store, runs-on, runs-length}
+use Rattle.semantics.proofs.CellLaws.{cell-below, edge-within, relaxed-store, runs-length, sum-falls}
 use Rattle.domain.specs.Domain.{domainOf}
 use Rattle.domain.proofs.DomainLaws.{domain-bounded}
-use Rattle.validate.specs.Links.{stepsOn, lastFrom}
-use Rattle.validate.proofs.WantedLaws.{is-make}
-use Rattle.sweep.specs.Cells.{Raising}
-use Rattle.sweep.specs.Queue.{Queue}
+use Rattle.domain.specs.Cost.{mostCost}
+use Rattle.validate.specs.Links.{lastFrom}
+use Rattle.validate.specs.Ready.{Ready}
+use Rattle.sweep.specs.Cells.{Idle, followed, low, far, due}
+use Rattle.sweep.specs.Queue.{Queue, Lowered}
 use Rattle.sweep.specs.Successors.{Known}
-use Rattle.sweep.specs.Rows.{Only, UpTo, below, closed, Left, before, silent, left, Leaving, done, leaving, height}
-use Rattle.sweep.specs.Departures.{Sweep, Arriving, kept, lowered, Stepped, stays, leads, Departed, Leaves}
+use Rattle.sweep.specs.Targets.{Standing, Leads}
+use Rattle.sweep.specs.Rows.{graphOf, Only, passed, marked, Followed, below, past, height}
+use Rattle.sweep.specs.Departures.{Sweep, Arriving, kept, within, lowered, Stepped, stays, leads, Departed}
 use Rattle.sweep.proofs.StepLaws.{Link, first-link, first-last, link-step, next-link, link-steps}
+use Rattle.sweep.proofs.GraphLaws.{graph-closed}
 use Rattle.sweep.proofs.HeightLaws.{store-falls}
 
--- a move leads to its successor, at its cost
-move-edge : {D : Domain} {l : Label} {s t : ℕ} {ks : List ℕ} (m u : ℕ) → Does D l s ks t → l ≡ make m → D .successor m s ≡ some u → (t ≡ u) × (cost D s ks ≡ D .cost m s)
-move-edge m u idles e f = let z : _≡_ {A = ℕ} 0 1 = cc in absurd (omega arith)
-move-edge m u (passes h) e f = let z : _≡_ {A = ℕ} 0 1 = cc in absurd (omega arith)
-move-edge m u (refutes h) e f = let z : _≡_ {A = ℕ} 0 1 = cc in absurd (omega arith)
-move-edge {D} m u (moves-on {a} {s} {t} h) e f =
-    let z : a ≡ m = cc in
-    let g : D .successor m s ≡ some t = rw z at h in
-    let w : t ≡ u = cc in
-    (w, rw z (cost-one D s t m g))
+pub cell-room : (positions t q states : ℕ) {size : ℕ} → t < states → q < positions → states * positions ≤ size → cell positions t q < size
+cell-room positions t q states a b h = omega (arith, cell-below positions t q states a b)
 
--- what a step does is silent, or a move
-does-kind : {D : Domain} {l : Label} {s t : ℕ} {ks : List ℕ} → Does D l s ks t → (silentIn D s l ≡ true) ⊎ ((m : ℕ) × (l ≡ make m) × (D .successor m s ≡ some t))
-unfolding silentIn
-does-kind idles = inl refl
-does-kind (passes h) = inl h
-does-kind (refutes h) = inl (ap not h)
-does-kind (moves-on {a} h) = inr (a, refl, h)
-
-no-move : (kind arg m : ℕ) → kind < 3 → labelIn kind arg ≡ make m → ⊥
-no-move zero arg m h e = let z : _≡_ {A = ℕ} 0 1 = cc in omega arith
-no-move (suc zero) arg m h e = let z : _≡_ {A = ℕ} 0 1 = cc in omega arith
-no-move (suc (suc zero)) arg m h e = let z : _≡_ {A = ℕ} 0 1 = cc in omega arith
-no-move (suc (suc (suc k))) arg m h e = omega arith
-
-module _ (D : Domain) (positions w q x kind arg : ℕ) (T queue : List ℕ) where
-  pub stays-silent : kind < 3 → Stepped D positions (labelIn kind arg) w q x T queue T queue
-  stays-silent h = stays (λ t ks d. elim (does-kind d) [ inl e ↦ e | inr e ↦ absurd (no-move kind arg (e .0) h (e .1)) ])
-
-  module _ (h : 3 ≤ kind) where
-    moves : labelIn kind arg ≡ make arg
-    moves = is-make [] kind arg (λ e. omega arith) (λ e. omega arith) (λ e. omega arith)
-
-    pub stays-stuck : nothing ≡ D .successor arg w → Stepped D positions (labelIn kind arg) w q x T queue T queue
-    stays-stuck stuck = stays (λ t ks d. elim (does-kind d) [
-      | inl e ↦ e
-      | inr e ↦ (
-          let same : make arg ≡ make (e .0) = sym moves ∙ e .1 in
-          let z : arg ≡ e .0 = cc in
-          let y : _≡_ {A = ℕ} 0 1 = cc (stuck ∙ ap (λ (m : ℕ). D .successor m w) z ∙ e .2) in absurd (omega arith)
-          )
-    ])
-
-    pub leads-on : {t c : ℕ} {U queue′ : List ℕ} → some t ≡ D .successor arg w → c ≡ D .cost arg w → Arriving t (cell positions t q) x c T queue U queue′
-        → Stepped D positions (labelIn kind arg) w q x T queue U queue′
-    leads-on {t} {U = U} {queue′} found costs a =
-        leads moves (sym found) (subst (λ (y : ℕ). Arriving t (cell positions t q) x y T queue U queue′) costs a)
-
--- what arriving at a successor requires
+-- what arriving at a target requires
 pub arrival-fits : {head : Head} {rows : List ℕ} {values : List Bool} {positions state : ℕ} {T queue known : List ℕ} → Sweep head rows values positions state T queue known
-    → (m : ℕ) {t n q : ℕ} → some t ≡ domainOf (jobOf head rows) .successor m state → n ≡ stateCount (head .counts .facts) → q < positions
-    → Queue queue n × (t < n) × (q < positions) × (positions ≤ 256) × (n * positions ≤ length T)
-arrival-fits {head} {rows} {state = state} x m {t} found is inside = rw is (
+    → {l : Label} {t c n q : ℕ} → Leads (domainOf (jobOf head rows)) l state t c → n ≡ stateCount (head .counts .facts) → q < positions → (marks : List Bool) → length marks ≡ 256
+    → Queue queue n × (t < n) × (q < positions) × (positions ≤ 256) × (n * positions ≤ length T) × (length marks ≡ 256)
+arrival-fits {head} {rows} {state = state} x y is inside marks width = rw is (
   x .keys,
-  domain-bounded (jobOf head rows) (x .job) .successors m state t (x .inside) (sym found),
+  does-bounded (domain-bounded (jobOf head rows) (x .standing .job)) (x .standing .inside) (y .does) .0,
   inside,
   x .few,
   x .room,
+  width,
 )
 
--- the moves from p, whose cell is at k, with number h and above are followed
-pub record Departing (G : Graph) (n w k least p : ℕ) (list T₀ queue₀ T queue : List ℕ) (h : ℕ) : Type 0 where
-  pub runs : Runs G T₀ T
-  pub size : length queue ≡ length queue₀
-  pub here : entry G T w p ≡ k
-  pub link : Link list p h
-  pub less : height n T queue ≤ height n T₀ queue₀
-  pub relaxed : Relaxed G (Only queue w (Leaving (G .domain) w k least p h)) T
+-- what is worked out in a state, as more successors become known
+standing-on : {head : Head} {rows : List ℕ} {values : List Bool} {state : ℕ} {known known′ : List ℕ} → Standing head rows values state known
+    → Known (domainOf (jobOf head rows)) state known′ → Standing head rows values state known′
+standing-on x k = record { size = x .size; job = x .job; told = x .told; inside = x .inside; successors = k }
 
--- the moves from the cells at k before position p are followed
-pub record Departures (G : Graph) (n w k : ℕ) (T₀ queue₀ T queue : List ℕ) (least p : ℕ) : Type 0 where
-  pub runs : Runs G T₀ T
-  pub size : length queue ≡ length queue₀
-  pub above : k < least
-  pub less : height n T queue ≤ height n T₀ queue₀
-  pub relaxed : Relaxed G (Only queue w (λ i. Left (G .domain) w k least p)) T
-
--- the state's row after stores: what is worked out in it stays
+-- the state's row after stores
 pub sweep-on : {head : Head} {rows : List ℕ} {values : List Bool} {positions state : ℕ} {T queue known U queue′ known′ : List ℕ}
     → Sweep head rows values positions state T queue known → length U ≡ length T → length queue′ ≡ length queue → Known (domainOf (jobOf head rows)) state known′
     → Sweep head rows values positions state U queue′ known′
 sweep-on x a b k = record {
-  size = x .size;
-  job = x .job;
-  told = x .told;
-  inside = x .inside;
+  standing = standing-on (x .standing) k;
   few = x .few;
   room = omega (arith, x .room);
   keys = record { size = b ∙ x .keys .size; few = x .keys .few };
-  successors = k;
 }
 
-module _ (D : Domain) (list : List ℕ) (positions most n : ℕ) where
-  abbrev G : Graph
-  G = record { domain = D; steps = stepsOn list; positions = positions }
+-- why there is nothing to follow
+idle-why : {mark : Bool} {k x : ℕ} {on : Bool} → Idle mark k x on → on ≡ true → (mark ≡ true) ⊎ ((x < k) ⊎ (unreached ≤ x))
+idle-why (followed o) e = inl o
+idle-why (low o) e = inr (inl o)
+idle-why (far o) e = inr (inr o)
+idle-why (due o) e = never e
 
-  module _ (inside : Closed G most) (few : D .states ≤ 4096) (all : n ≡ D .states) (w k : ℕ) (w-inside : w < D .states) where
-    module _ (least p : ℕ) (T₀ queue₀ : List ℕ) (room : D .states * positions ≤ length T₀) where
-      -- nothing is to follow where the cell is not at k
-      pub departed-none : {r : ℕ} → k < least → (getD T₀ (w * positions + p) 0 ≡ k → ⊥) → Raising k least (getD T₀ (w * positions + p) 0) r
-          → Relaxed G (Only queue₀ w (λ i. Left D w k least p)) T₀ → Departed G n w k p T₀ queue₀ T₀ queue₀ r
-      departed-none {r} low other x R = record {
-        runs = none;
-        size = refl;
-        above = x .above low;
-        less = omega arith;
-        relaxed = λ i s m t q c l d claim. R i s m t q c l d (
-          claim .0,
-          λ y. elim (claim .1 y) [
-            | before a ↦ before a
-            | silent a b ↦ silent a b
-            | left a b ↦ elim (decLt m p) [
-              | yes g ↦ left g (omega (arith, x .at-most))
+is-due : {mark : Bool} {k x : ℕ} {on : Bool} → Idle mark k x on → on ≡ false → k ≤ x
+is-due (followed o) e = never (sym e)
+is-due (low o) e = never (sym e)
+is-due (far o) e = never (sym e)
+is-due (due o) e = o
+
+-- no key rises
+keys-fall : {t y : ℕ} {queue queue′ : List ℕ} → Lowered t y queue queue′ → (s : ℕ) → s < 4096 → getD queue′ s 0 ≤ getD queue s 0
+keys-fall {t} {queue = queue} {queue′} x s h = elim (ℕ-discrete s t) [
+  | yes f ↦ omega (arith, x .less, ap (λ (o : ℕ). getD queue′ o 0) f, ap (λ (o : ℕ). getD queue o 0) f)
+  | no f ↦ omega (arith, x .others s h f)
+]
+
+-- the steps from p, whose cell is at x, with number h and above are followed
+pub record Departing (G : Graph) (n w k x p : ℕ) (list T₀ queue₀ T queue : List ℕ) (marks : List Bool) (next h : ℕ) : Type 0 where
+  pub runs : Runs G T₀ T
+  pub size : length queue ≡ length queue₀
+  pub width : length marks ≡ 256
+  pub key : getD queue w 0 ≤ getD queue₀ w 0
+  pub due : k ≤ x
+  pub here : entry G T w p ≡ x
+  pub link : Link list p h
+  pub low : next ≤ p + 1
+  pub falls : sum T * 257 + (p + 1) ≤ sum T₀ * 257 + next
+  pub less : height n T queue ≤ height n T₀ queue₀
+  pub relaxed : Relaxed G (Only queue w (Followed k next marks p h)) T
+
+module _ {head : Head} {rows list : List ℕ} {values : List Bool} {positions w : ℕ} {T₀ queue₀ known : List ℕ} (ready : Ready head rows list positions)
+    (row : Sweep head rows values positions w T₀ queue₀ known) (k p : ℕ) (p-inside : p < positions) where
+  abbrev D : Domain
+  D = domainOf (jobOf head rows)
+
+  abbrev G : Graph
+  G = graphOf head rows list positions
+
+  abbrev n : ℕ
+  n = stateCount (head .counts .facts)
+
+  inside : Closed G mostCost
+  inside = graph-closed ready
+
+  module _ (marks₀ : List Bool) (width : length marks₀ ≡ 256) (R : Relaxed G (Only queue₀ w (Followed k p marks₀ 0 0)) T₀) where
+    -- there is nothing to follow
+    pub departed-none : {x : ℕ} {on : Bool} → x ≡ getD T₀ (w * positions + p) 0 → Idle (getD marks₀ p false) k x on → on ≡ true → Departed G n w k p T₀ queue₀ T₀ queue₀ marks₀ (p + 1)
+    departed-none {x} here idle is = record {
+      runs = none;
+      size = refl;
+      width = width;
+      key = omega arith;
+      low = omega arith;
+      falls = omega arith;
+      less = omega arith;
+      relaxed = λ i s m t q c l d claim. R i s m t q c l d (
+        claim .0,
+        λ y. elim (claim .1 y) [
+          | below a ↦ below a
+          | past a _ ↦ elim a [
+            | marked b ↦ past (marked b) (λ _. omega arith)
+            | passed b f ↦ elim (decLt m p) [
+              | yes g ↦ past (passed g f) (λ _. omega arith)
               | no g ↦ (
                   let at : m ≡ p = omega arith in
                   let same : entry G T₀ s m ≡ getD T₀ (w * positions + p) 0 = rw (y, at) refl in
-                  elim (decLt (entry G T₀ s m) k) [
-                    | yes f ↦ before f
-                    | no f ↦ elim (decLt k (getD T₀ (w * positions + p) 0)) [ yes o ↦ absurd (omega (arith, x .covers o)) | no o ↦ absurd (other (omega arith)) ]
+                  elim (idle-why idle is) [
+                    | inl o ↦ past (marked (rw at o)) (λ _. omega arith)
+                    | inr o ↦ elim o [ inl u ↦ below (omega arith) | inr u ↦ absurd (omega arith) ]
                   ]
                   )
             ]
-          ],
-        );
-      }
+          ]
+        ],
+      );
+    }
 
-      pub departing-start : {h : ℕ} → getD T₀ (w * positions + p) 0 ≡ k → h ≡ lastFrom list p (length list / 4)
-          → Relaxed G (Only queue₀ w (λ i. Left D w k least p)) T₀ → Departing G n w k least p list T₀ queue₀ T₀ queue₀ h
-      departing-start is e R = record {
-        runs = none;
-        size = refl;
-        here = is;
-        link = first-link list p e;
-        less = omega arith;
-        relaxed = λ i s m t q c l d claim. R i s m t q c l d (
-          claim .0,
-          λ y. elim (claim .1 y) [
-            | done a ↦ a
-            | leaving a b f ↦ absurd (first-last list p e f (rw b at (d .step)))
-          ],
-        );
-      }
-
-      pub departing-end : {T queue : List ℕ} {h : ℕ} → k < least → Departing G n w k least p list T₀ queue₀ T queue h → h ≡ 0 → Departed G n w k p T₀ queue₀ T queue least
-      departing-end {T} low x e = record {
-        runs = x .runs;
-        size = x .size;
-        above = low;
-        less = x .less;
-        relaxed = λ i s m t q c l d claim. x .relaxed i s m t q c l d (
-          claim .0,
-          λ y. elim (claim .1 y) [
-            | before a ↦ done (before a)
-            | silent a b ↦ done (silent a b)
-            | left a b ↦ elim (decLt m p) [
-              | yes g ↦ done (left g b)
-              | no g ↦ (
-                  let at : m ≡ p = omega arith in
-                  let same : entry G T s m ≡ entry G T w p = rw (y, at) refl in
-                  leaving (same ∙ x .here) at (omega (arith, e))
-                  )
-            ]
-          ],
-        );
-      }
-
-      module _ {T queue : List ℕ} {h g : ℕ} (x : Departing G n w k least p list T₀ queue₀ T queue h) (j : ℕ) (e : h ≡ suc j) (links : g ≡ lastFrom list (getD list (j * 4 + 1) 0) j) where
-        abbrev to : ℕ
-        to = getD list (j * 4 + 2) 0
-
-        abbrev lab : Label
-        lab = labelIn (getD list (j * 4) 0) (getD list (j * 4 + 3) 0)
-
-        -- step j, which was followed, lowers nothing any more
-        advance : (U queue′ : List ℕ) → entry G U w p ≡ k → Relaxed G (Only queue′ w (Leaving D w k least p h)) U
-            → ((t c : ℕ) (ks : List ℕ) → k < getD queue′ w 0 → Does D lab w ks t → cost D w ks ≡ c → entry G U t to ≤ k + c) → Relaxed G (Only queue′ w (Leaving D w k least p g)) U
-        advance U queue′ here R at-j i s m t q c l d claim = elim (ℕ-discrete s w) [
-          | no a ↦ R i s m t q c l d (claim .0, λ y. absurd (a y))
-          | yes a ↦ elim (claim .1 a) [
-            | done f ↦ R i s m t q c l d (claim .0, λ _. done f)
-            | leaving b f o ↦ elim (link-steps list p (x .link) j e links i o (rw f at (d .step))) [
-              | inr u ↦ R i s m t q c l d (claim .0, λ _. leaving b f u)
-              | inl u ↦ (
-                  let at = steps-only (length list / 4) list (rw u at (d .step)) in
-                  let key : k < getD queue′ w 0 = omega (arith, b, claim .0, ap (λ (z : ℕ). getD queue′ z 0) a) in
-                  let v = at-j t c (d .made) key (rw (a, at .label) at (d .does)) (ap (λ (z : ℕ). cost D z (d .made)) (sym a) ∙ d .costs) in
-                  let same : entry G U t q ≡ entry G U t to = rw (at .to) refl in
-                  omega (arith, same, v, b)
-                  )
+    pub departing-start : {x h : ℕ} {on : Bool} → x ≡ getD T₀ (w * positions + p) 0 → Idle (getD marks₀ p false) k x on → on ≡ false → h ≡ lastFrom list p (length list / 4)
+        → Departing G n w k x p list T₀ queue₀ T₀ queue₀ (set marks₀ p true) (p + 1) h
+    departing-start here idle is e = record {
+      runs = none;
+      size = refl;
+      width = length-set marks₀ p true ∙ width;
+      key = omega arith;
+      due = is-due idle is;
+      here = sym here;
+      link = first-link list p e;
+      low = omega arith;
+      falls = omega arith;
+      less = omega arith;
+      relaxed = λ i s m t q c l d claim. R i s m t q c l d (
+        claim .0,
+        λ y. elim (claim .1 y) [
+          | below a ↦ below a
+          | past a f ↦ elim (ℕ-discrete m p) [
+            | yes at ↦ absurd (first-last list p e (f at) (rw at at (d .step)))
+            | no at ↦ elim a [
+              | passed b g ↦ past (passed (omega arith) g) (λ _. omega arith)
+              | marked b ↦ past (marked (sym (getD-set-other marks₀ p m true false at) ∙ b)) (λ _. omega arith)
             ]
           ]
+        ],
+      );
+    }
+
+  pub departing-end : {x : ℕ} {T queue : List ℕ} {marks : List Bool} {next h : ℕ} → Departing G n w k x p list T₀ queue₀ T queue marks next h → h ≡ 0
+      → Departed G n w k p T₀ queue₀ T queue marks next
+  departing-end x e = record {
+    runs = x .runs;
+    size = x .size;
+    width = x .width;
+    key = x .key;
+    low = x .low;
+    falls = x .falls;
+    less = x .less;
+    relaxed = λ i s m t q c l d claim. x .relaxed i s m t q c l d (
+      claim .0,
+      λ y. elim (claim .1 y) [ below a ↦ below a | past a _ ↦ past a (λ _. omega (arith, e)) ],
+    );
+  }
+
+  module _ {x : ℕ} {T queue : List ℕ} {marks : List Bool} {next h g : ℕ} (X : Departing G n w k x p list T₀ queue₀ T queue marks next h) (j : ℕ) (e : h ≡ suc j)
+      (links : g ≡ lastFrom list (getD list (j * 4 + 1) 0) j) where
+    abbrev to : ℕ
+    to = getD list (j * 4 + 2) 0
+
+    abbrev lab : Label
+    lab = labelIn (getD list (j * 4) 0) (getD list (j * 4 + 3) 0)
+
+    -- step j, which was followed, lowers nothing any more
+    advance : (U queue′ : List ℕ) (marks′ : List Bool) (r : ℕ) → entry G U w p ≡ x → Relaxed G (Only queue′ w (Followed k r marks′ p h)) U
+        → ((t : ℕ) (ks : List ℕ) → Does D lab w ks t → entry G U t to ≤ x + cost D w ks) → Relaxed G (Only queue′ w (Followed k r marks′ p g)) U
+    advance U queue′ marks′ r here R at-j i s m t q c l d claim = elim (ℕ-discrete s w) [
+      | no a ↦ R i s m t q c l d (claim .0, λ y. absurd (a y))
+      | yes a ↦ elim (claim .1 a) [
+        | below f ↦ R i s m t q c l d (claim .0, λ _. below f)
+        | past b f ↦ elim (ℕ-discrete m p) [
+          | no o ↦ R i s m t q c l d (claim .0, λ _. past b (λ y. absurd (o y)))
+          | yes o ↦ elim (link-steps list p (X .link) j e links i (f o) (rw o at (d .step))) [
+            | inr u ↦ R i s m t q c l d (claim .0, λ _. past b (λ _. u))
+            | inl u ↦ (
+                let at = steps-only (length list / 4) list (rw u at (d .step)) in
+                let v = at-j t (d .made) (rw (a, at .label) at (d .does)) in
+                let costs : cost D w (d .made) ≡ c = ap (λ (z : ℕ). cost D z (d .made)) (sym a) ∙ d .costs in
+                let from : entry G U s m ≡ entry G U w p = rw (a, o) refl in
+                let same : entry G U t q ≡ entry G U t to = rw (at .to) refl in
+                omega (arith, same, v, from, here, costs)
+                )
+          ]
         ]
+      ]
+    ]
 
-        moved : (U queue′ : List ℕ) → Runs G T₀ U → length queue′ ≡ length queue → entry G U w p ≡ k → height n U queue′ ≤ height n T queue
-            → Relaxed G (Only queue′ w (Leaving D w k least p g)) U → Departing G n w k least p list T₀ queue₀ U queue′ g
-        moved U queue′ runs size here less R = record {
-          runs = runs;
-          size = size ∙ x .size;
-          here = here;
-          link = next-link list p (x .link) j e links;
-          less = omega (arith, x .less);
-          relaxed = R;
-        }
+    -- nothing was lowered
+    unmoved : ((t : ℕ) (ks : List ℕ) → Does D lab w ks t → entry G T t to ≤ x + cost D w ks) → Departing G n w k x p list T₀ queue₀ T queue marks next g
+    unmoved at-j = record {
+      runs = X .runs;
+      size = X .size;
+      width = X .width;
+      key = X .key;
+      due = X .due;
+      here = X .here;
+      link = next-link list p (X .link) j e links;
+      low = X .low;
+      falls = X .falls;
+      less = X .less;
+      relaxed = advance T queue marks next (X .here) (X .relaxed) at-j;
+    }
 
-        arrived : (m t : ℕ) {U queue′ : List ℕ} → lab ≡ make m → D .successor m w ≡ some t
-            → Arriving t (cell positions t to) k (D .cost m w) T queue U queue′ → Departing G n w k least p list T₀ queue₀ U queue′ g
-        arrived m t is leads-to (kept low) =
-            moved T queue (x .runs) refl (x .here) (omega arith)
-            (advance T queue (x .here) (x .relaxed) (λ u c ks _ d f. (let v = move-edge m t d is leads-to in
-            let same : entry G T u to ≡ getD T (cell positions t to) 0 = rw (v .0) refl in omega (arith, same, low, v .1, f))))
-        arrived m t is leads-to (lowered {queue′} lower key) =
-            let v = cell positions t to in
-            let y = k + D .cost m w in
-            let d : Edge G j lab w p t to (D .cost m w) = record {
-              inside = w-inside;
-              step = link-step list p (x .link) j e;
-              made = m ∷ [];
-              does = rw is (moves-on leads-to);
-              costs = cost-one D w t m leads-to;
-            } in
-            let u = edge-within inside d in
-            let fits : v < length T = omega (arith, u .to, room, runs-length (x .runs)) in
-            let stays-at : entry G (set T v y) w p ≡ k =
-            getD-set-other T v (cell positions w p) y 0 (λ z. omega (arith, x .here, ap (λ (o : ℕ). getD T o 0) z)) ∙ x .here in
-            moved (set T v y) queue′ (more y (x .runs) d (omega (arith, x .here)) lower) (key .size) stays-at
-            (omega (arith, store-falls n T queue queue′ v y t y (omega arith) fits lower (omega (arith, u .state)) key))
-            (advance (set T v y) queue′ stays-at
-            (relaxed-store inside (Only queue w (Leaving D w k least p h)) (Only queue′ w (Leaving D w k least p h)) T t to y (x .relaxed) fits (u .end) (omega arith)
-            (λ i s m z l b claim. (
-              elim (ℕ-discrete s t) [
-                | yes f ↦ omega (arith, claim .0, key .less, ap (λ (o : ℕ). getD queue′ o 0) f, ap (λ (o : ℕ). getD queue o 0) f)
-                | no f ↦ omega (arith, claim .0, key .others s (omega arith) f)
-              ],
-              claim .1,
-            ))
-            (λ i l claim. omega (arith, claim .0, key .at-most)))
-            (λ o c ks _ b f. (let z = move-edge m t b is leads-to in
-            let same : entry G (set T v y) o to ≡ getD (set T v y) v 0 = rw (z .0) refl in omega (arith, same, getD-set-same T v y 0 fits, z .1, f))))
+    module _ {t c : ℕ} (L : Leads D lab w t c) where
+      abbrev v : ℕ
+      v = cell positions t to
 
-        departing-more : {U queue′ : List ℕ} → Stepped D positions lab w to k T queue U queue′ → Departing G n w k least p list T₀ queue₀ U queue′ g
-        departing-more (stays f) =
-            moved T queue (x .runs) refl (x .here) (omega arith)
-            (advance T queue (x .here) (x .relaxed) (λ t c ks key d costs. (
-            let v = x .relaxed j w p t to c lab (record { inside = w-inside; step = link-step list p (x .link) j e; made = ks; does = d; costs = costs })
-            (omega (arith, key, x .here), λ _. done (silent (x .here) (f t ks d))) in
-            omega (arith, v, x .here))))
-        departing-more (leads {m} {t} is leads-to a) = arrived m t is leads-to a
+      abbrev U : List ℕ
+      U = set T v (x + c)
 
-      -- the same by the numbers read of the step
-      pub departing-step : {T queue : List ℕ} {h g : ℕ} (x : Departing G n w k least p list T₀ queue₀ T queue h) (j : ℕ) → h ≡ suc j → {kind to arg : ℕ}
-          → (kind ≡ getD list (j * 4) 0) × (to ≡ getD list (j * 4 + 2) 0) × (arg ≡ getD list (j * 4 + 3) 0) → g ≡ lastFrom list (getD list (j * 4 + 1) 0) j
-          → {U queue′ : List ℕ} → Stepped D positions (labelIn kind arg) w to k T queue U queue′ → Departing G n w k least p list T₀ queue₀ U queue′ g
-      departing-step x j e is links y = departing-more x j e links (rw (is .0, is .1, is .2) at y)
+      edge : Edge G j lab w p t to c
+      edge = record { inside = row .standing .inside; step = link-step list p (X .link) j e; made = L .made; does = L .does; costs = L .costs }
 
-    module _ (T₀ queue₀ : List ℕ) where
-      pub leaving-start : k < unreached → Relaxed G (Only queue₀ w (UpTo D w k positions 0 0)) T₀ → Departures G n w k T₀ queue₀ T₀ queue₀ unreached 0
-      leaving-start low R = record {
-        runs = none;
-        size = refl;
-        above = low;
-        less = omega arith;
-        relaxed = λ i s m t q c l d claim. R i s m t q c l d (
-          claim .0,
-          λ y. elim (claim .1 y) [
-            | before a ↦ below a
-            | silent a b ↦ closed a b (edge-within inside d .start) (λ _. omega arith)
-            | left a b ↦ absurd (omega arith)
-          ],
-        );
-      }
+      room-at : v < length T
+      room-at = omega (arith, edge-within inside edge .to, row .room, runs-length (X .runs))
 
-      pub leaving-more : {T queue U queue′ : List ℕ} {least p r : ℕ} → Departures G n w k T₀ queue₀ T queue least p → Departed G n w k p T queue U queue′ r → Departures G n w k T₀ queue₀ U queue′ r (p + 1)
-      leaving-more x y = record {
-        runs = runs-on (x .runs) (y .runs);
-        size = y .size ∙ x .size;
-        above = y .above;
-        less = omega (arith, x .less, y .less);
-        relaxed = y .relaxed;
-      }
+      -- the cell lowered
+      moved : {queue′ : List ℕ} {marks′ : List Bool} {r : ℕ} → x + c < getD T v 0 → length queue′ ≡ length queue → length marks′ ≡ length marks → getD queue′ w 0 ≤ getD queue w 0
+          → r ≤ next → height n U queue′ < height n T queue → Relaxed G (Only queue′ w (Followed k r marks′ p h)) U
+          → Departing G n w k x p list T₀ queue₀ U queue′ marks′ r g
+      moved {queue′} {marks′} {r} lower size same key at-next less R =
+          let stays-at : entry G U w p ≡ x = getD-set-other T v (cell positions w p) (x + c) 0 (λ z. omega (arith, X .here, ap (λ (o : ℕ). getD T o 0) z)) ∙ X .here in
+          record {
+            runs = more (x + c) (X .runs) edge (omega (arith, X .here)) lower;
+            size = size ∙ X .size;
+            width = same ∙ X .width;
+            key = omega (arith, X .key);
+            due = X .due;
+            here = stays-at;
+            link = next-link list p (X .link) j e links;
+            low = omega (arith, X .low);
+            falls = omega (arith, X .falls, X .low, row .few, sum-falls T v (x + c) room-at lower);
+            less = omega (arith, X .less);
+            relaxed = advance U queue′ marks′ r stays-at R (λ u ks d. (
+                let z = L .alone u ks d in
+                let at : entry G U u to ≡ getD U v 0 = rw (z .0) refl in
+                omega (arith, at, getD-set-same T v (x + c) 0 room-at, z .1)
+                ));
+          }
 
-      pub leaving-end : {T queue : List ℕ} {least p : ℕ} → Departures G n w k T₀ queue₀ T queue least p → positions ≤ p → Leaves G n w k T₀ queue₀ T queue least
-      leaving-end x h = record {
-        runs = x .runs;
-        size = x .size;
-        above = x .above;
-        less = x .less;
-        relaxed = λ i s m t q c l d claim. x .relaxed i s m t q c l d (claim .0, λ y. left (omega (arith, edge-within inside d .start)) (claim .1 y));
-      }
+      arrived : {T′ queue′ : List ℕ} {marks′ : List Bool} {r : ℕ} → Arriving w t to v x c next T queue marks T′ queue′ marks′ r
+          → Departing G n w k x p list T₀ queue₀ T′ queue′ marks′ r g
+      arrived (kept under) = unmoved (λ u ks d. (
+          let z = L .alone u ks d in
+          let at : entry G T u to ≡ getD T v 0 = rw (z .0) refl in
+          omega (arith, at, under, z .1)
+          ))
+      arrived (within {r} lower own at-q at-next) =
+          let bound : to < length marks = omega (arith, edge-within inside edge .end, X .width) in
+          moved lower refl (length-set marks to false) (omega arith) at-next (omega (arith, sum-falls T v (x + c) room-at lower))
+          (relaxed-store inside (Only queue w (Followed k next marks p h)) (Only queue w (Followed k r (set marks to false) p h)) T t to (x + c) (X .relaxed) room-at
+          (edge-within inside edge .end) (omega arith)
+          (λ i s m z l _ claim. (
+            claim .0,
+            λ y. elim (claim .1 y) [
+              | below a ↦ below a
+              | past a f ↦ elim a [
+                | passed b o ↦ past (passed (omega arith) o) f
+                | marked b ↦ elim (ℕ-discrete m to) [
+                  | yes o ↦ never (sym (getD-set-same marks to false false bound) ∙ ap (λ (u : ℕ). getD (set marks to false) u false) (sym o) ∙ b)
+                  | no o ↦ past (marked (sym (getD-set-other marks to m false false o) ∙ b)) f
+                ]
+              ]
+            ],
+          ))
+          (λ i l claim. elim (claim .1 own) [
+            | below a ↦ omega (arith, X .due)
+            | past a _ ↦ elim a [ passed b _ ↦ omega arith | marked b ↦ never (sym (getD-set-same marks to false false bound) ∙ b) ]
+          ]))
+      arrived (lowered {queue′} lower key) =
+          moved lower (key .size) refl (keys-fall key w (omega (arith, row .standing .inside, row .keys .few))) (omega arith)
+          (store-falls n T queue queue′ v (x + c) t (x + c) (row .keys .few) room-at lower (omega (arith, edge-within inside edge .state)) key)
+          (relaxed-store inside (Only queue w (Followed k next marks p h)) (Only queue′ w (Followed k next marks p h)) T t to (x + c) (X .relaxed) room-at
+          (edge-within inside edge .end) (omega arith)
+          (λ i s m z l b claim. (omega (arith, claim .0, keys-fall key s (omega (arith, row .keys .few))), claim .1))
+          (λ i l claim. omega (arith, claim .0, key .at-most)))
+
+    departing-more : {T′ queue′ : List ℕ} {marks′ : List Bool} {r : ℕ} → Stepped D positions lab w to x next T queue marks T′ queue′ marks′ r
+        → Departing G n w k x p list T₀ queue₀ T′ queue′ marks′ r g
+    departing-more (stays f) = unmoved (λ t ks d. absurd (f t ks d))
+    departing-more (leads y a) = arrived y a
+
+  -- the same by the numbers read of the step
+  pub departing-step : {x : ℕ} {T queue : List ℕ} {marks : List Bool} {next h g : ℕ} (X : Departing G n w k x p list T₀ queue₀ T queue marks next h) (j : ℕ) → h ≡ suc j
+      → {kind to arg : ℕ} → (kind ≡ getD list (j * 4) 0) × (to ≡ getD list (j * 4 + 2) 0) × (arg ≡ getD list (j * 4 + 3) 0) → g ≡ lastFrom list (getD list (j * 4 + 1) 0) j
+      → {U queue′ : List ℕ} {marks′ : List Bool} {r : ℕ} → Stepped D positions (labelIn kind arg) w to x next T queue marks U queue′ marks′ r
+      → Departing G n w k x p list T₀ queue₀ U queue′ marks′ r g
+  departing-step X j e is links y = departing-more X j e links (rw (is .0, is .1, is .2) at y)

@@ -6,7 +6,7 @@ use mathlib.Core.List.{List}
 use native.Mathlib.Omega.{arith}
 use lib.ListN.{length, getD, set}
 use Rattle.semantics.specs.CostTable.{unreached}
-use Rattle.semantics.specs.Cells.{total, sum}
+use Rattle.semantics.specs.Cells.{sum}
 use Rattle.semantics.proofs.Totals.{total-same, total-but, total-set}
 use Rattle.semantics.proofs.CellLaws.{sum-falls}
 use Rattle.sweep.specs.Queue.{SameKeys, Lowered}

@@ -4,6 +4,6 @@ pub mod SuccessorLaws
 pub mod StepLaws
 pub mod GraphLaws
 pub mod HeightLaws
-pub mod SilentLaws
+pub mod TargetLaws
 pub mod DepartureLaws
 pub mod RowLaws

@@ -1,30 +1,18 @@
 -- The steps of a list as steps of its graph, link by link.
 -- Assumes nothing.
 use Prim.Native.Nat.{ℕ, suc, _+_, _*_, _/_, _≤_, _<_}
-use mathlib.Core.Path.{_≡_, refl, sym, _∙_, ap, subst}
-use mathlib.Core.Bool.{true}
-use mathlib.Core.List.{List, []}
+use mathlib.Core.Path.{_≡_, sym, _∙_, ap, subst}
+use mathlib.Core.List.{List}
 use mathlib.Core.Logic.{_⊎_, inl, inr}
 use native.Mathlib.Omega.{arith}
 use native.Mathlib.Decide.{decLt}
 use lib.ListN.{length, getD}
-use Rattle.laws.proofs.Tests.{never}
 use Rattle.semantics.specs.Label.{Label}
-use Rattle.semantics.specs.Domain.{Domain}
 use Rattle.semantics.specs.CompilingTable.{labelIn}
-use Rattle.semantics.specs.Path.{Does, idles, passes, refutes, moves-on, StepAt}
-use Rattle.semantics.specs.PositionSets.{silentIn}
+use Rattle.semantics.specs.Path.{StepAt}
 use Rattle.semantics.proofs.FlatLaws.{steps-at, steps-only}
 use Rattle.validate.specs.Links.{stepsOn, lastFrom}
 use Rattle.validate.proofs.LinkLaws.{last-within, last-starts, last-alone}
-
--- a silent step stays in its state and makes no move
-pub does-silent : {D : Domain} {s t : ℕ} {ks : List ℕ} {l : Label} → Does D l s ks t → silentIn D s l ≡ true → (t ≡ s) × (ks ≡ [])
-unfolding silentIn
-does-silent idles e = (refl, refl)
-does-silent (passes h) e = (refl, refl)
-does-silent (refutes h) e = (refl, refl)
-does-silent (moves-on h) e = never e
 
 -- the link h to a step from p, counted from 1; 0 for none
 pub record Link (list : List ℕ) (p h : ℕ) : Type 0 where

@@ -1,5 +1,6 @@
 pub mod Cells
 pub mod Queue
 pub mod Successors
+pub mod Targets
 pub mod Rows
 pub mod Departures

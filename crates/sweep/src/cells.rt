@@ -1,7 +1,7 @@
 // Cells of the cost table.
 ghost use Prim.Native.Nat.{_≤_};
 ghost use lib.ListN.{length};
-ghost use Rattle.sweep.specs.Cells.{Cleared, Raising};
+ghost use Rattle.sweep.specs.Cells.{Cleared, Idle};
 use crate::UNREACHED;
 
 // Makes the first n cells unreached.
@@ -16,14 +16,18 @@ pub fn clear(costs: &mut [u32], n: usize)
     }
 }
 
-// The least cost above k, of those looked at before and x.
-pub fn least_above(k: u32, least: u32, x: u32) -> u32
-    ensures { λ r. ⌜ Raising k least x r ⌝ }
+// Whether nothing is to follow from a cell that costs x, in a row with key k.
+pub fn is_idle(mark: bool, k: u32, x: u32) -> bool
+    ensures { λ r. ⌜ Idle mark k x r ⌝ }
 {
-    if k < x {
-        if x < least {
-            return x;
-        }
+    if mark {
+        return true;
     }
-    least
+    if x < k {
+        return true;
+    }
+    if x < UNREACHED {
+        return false;
+    }
+    true
 }

@@ -6,9 +6,9 @@ pub mod cells;
 pub mod departures;
 pub mod queue;
 pub mod row;
-pub mod silent;
 pub mod steps;
 pub mod successors;
+pub mod targets;
 
 // What a cell holds that is not reached, and the key of a row with nothing to follow.
 pub const UNREACHED: u32 = 4294967295;

@@ -2,18 +2,15 @@
 ghost use Prim.Native.Nat.{_<_};
 ghost use lib.ListN.{getD};
 ghost use Rattle.job.specs.StateCount.{stateCount};
-ghost use Rattle.job.specs.Store.{jobOf};
 ghost use Rattle.semantics.specs.CostTable.{unreached};
 ghost use Rattle.semantics.specs.Cells.{Relaxed};
-ghost use Rattle.domain.specs.Domain.{domainOf};
 ghost use Rattle.validate.specs.Ready.{Ready};
-ghost use Rattle.sweep.specs.Successors.{Known};
 ghost use Rattle.sweep.specs.Rows.{graphOf, Laid, Keyed};
 ghost use Rattle.sweep.specs.Departures.{Sweep, Better};
 use crate::UNREACHED;
 use job::head::Head;
 
-// Follows the steps from the cells of the state's row that cost as much as its key says. The key is then that of the cells that cost more.
+// Follows the steps from all cells of the state's row that cost at least as much as its key says, again from those that fall meanwhile. Its key is taken back.
 pub fn sweep(
     costs: &mut [u32],
     queue: &mut [u32],
@@ -29,26 +26,28 @@ pub fn sweep(
     requires { ⌜ Ready head (now rows) (now list) positions × Laid (now list) (now links) positions ⌝ }
     requires { ⌜ Sweep head (now rows) (now values) positions state (now costs) (now queue) (now known) × (getD (now queue) state 0 < unreached) ⌝ }
     requires { ⌜ Relaxed (graphOf head (now rows) (now list) positions) (Keyed (now queue)) (now costs) ⌝ }
-    ensures { λ _. ⌜ Better (graphOf head (now (rows .entry)) (now (list .entry)) positions) (stateCount (head .counts .facts)) (now (costs .entry)) (now (queue .entry)) (now (costs .exit)) (now (queue .exit)) × Known (domainOf (jobOf head (now (rows .entry)))) state (now (known .exit)) ⌝ }
+    ensures { λ _. ⌜ Better (graphOf head (now (rows .entry)) (now (list .entry)) positions) (stateCount (head .counts .facts)) (now (costs .entry)) (now (queue .entry)) (now (costs .exit)) (now (queue .exit)) ⌝ }
 {
     let s = state as usize;
     let k = queue[s];
     queue[s] = UNREACHED;
-    crate::silent::close(costs, s * positions, positions, list, links, values, k);
-    let least = crate::departures::leave(
-        costs,
-        queue,
-        known,
-        head,
-        rows,
-        list,
-        links,
-        values,
-        positions,
-        state,
-        k,
-    );
-    if least < queue[s] {
-        queue[s] = least;
+    let mut marks = [false; 256];
+    let mut p: usize = 0;
+    while p < positions {
+        p = crate::departures::depart(
+            costs,
+            queue,
+            known,
+            &mut marks,
+            head,
+            rows,
+            list,
+            links,
+            values,
+            positions,
+            state,
+            k,
+            p,
+        );
     }
 }

@@ -5,7 +5,7 @@ use Rattle.semantics.proofs.CellLaws.{runs-length}
 use mathlib.Core.Path.{_∙_}
 use native.Mathlib.Omega.{arith}
 use native.Mathlib.Nat.{mul-le-mul-left}
-use lib.ListN.{replicate, length-replicate}
+use lib.ListN.{length-replicate}
 use Rattle.domain.proofs.FactLaws.{count-within}
 use Rattle.validate.proofs.ReadyLaws.{ready-listed, init-below}
 use Rattle.sweep.proofs.GraphLaws.{steps-laid, positions-few}

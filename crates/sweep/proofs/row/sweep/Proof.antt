@@ -1,61 +1,72 @@
-use Rattle.semantics.specs.CostTable.{unreached}
-use mathlib.Core.Path.{_∙_}
+use Prim.Native.Nat.{_+_, _-_, _*_}
+use mathlib.Core.Path.{sym, _∙_}
 use native.Mathlib.Omega.{arith}
-use native.Mathlib.Nat.{mul-le-mul-left}
 use lib.ListN.{length-set}
+use Rattle.job.specs.StateCount.{stateCount}
+use Rattle.job.specs.Store.{jobOf}
+use Rattle.semantics.specs.CostTable.{unreached}
+use Rattle.semantics.specs.Cells.{sum}
+use Rattle.semantics.proofs.CellLaws.{runs-length}
+use Rattle.domain.specs.Domain.{domainOf}
+use Rattle.sweep.specs.Successors.{Known}
+use Rattle.sweep.specs.Rows.{graphOf}
+use Rattle.sweep.proofs.GraphLaws.{graph-closed}
 use Rattle.sweep.proofs.DepartureLaws.{sweep-on}
-use Rattle.sweep.proofs.RowLaws.{row-below, row-closed, row-kept, row-set}
+use Rattle.sweep.proofs.RowLaws.{Sweeping, sweeping-start, sweeping-more, sweeping-end}
 use borrow.Author.Needs.{needs}
 use Rattle.sweep.proofs.row.sweep.Statement.{statement}
 use Rattle.sweep.proofs.row.sweep.Tie as tie
 
-mul-close : tie.Need-mul-close
-mul-close c = record { fits = omega (arith, mul-le-mul-left (c .before .before .before .before .before .before .before .before .before .args .state) (c .before .before .before .before .before .before .before .before .before .pre .1 .0 .0 .few), c .before .before .before .before .before .before .before .before .before .fits .state) }
+abbrev Inv-loop : tie.InvT-loop
+Inv-loop costs₀ queue₀ known₀ head rows list links values positions state s k marks₀ p₀ costs queue known marks p =
+    Sweeping (graphOf head rows list positions) (stateCount (head .counts .facts)) state k costs₀ queue₀ costs queue marks p × Known (domainOf (jobOf head rows)) state known
 
-close-requires : tie.Need-close-requires
-close-requires c κs = (c .before .before .before .before .before .before .before .before .before .pre .0 .1, row-below (c .before .before .before .before .before .before .before .before .before .pre .0 .0) (c .before .before .before .before .before .before .before .before .before .pre .1 .0 .0))
+abbrev μ-loop : tie.MeasureT-loop
+μ-loop costs₀ queue₀ known₀ head rows list links values positions state s k marks₀ p₀ costs queue known marks p = sum costs * 257 + (positions - p)
 
-leave-requires : tie.Need-leave-requires
-leave-requires c κs = (c .before .before .before .before .before .before .before .before .before .before .before .before .before .before .before .pre .0, ((sweep-on (c .before .before .before .before .before .before .before .before .before .before .before .before .before .before .before .pre .1 .0 .0) (c .before .before .before .before .before .close .ensures .size) (length-set (c .before .before .before .before .before .before .before .before .before .before .before .before .before .before .before .args .queue .now) (c .before .before .before .before .before .before .before .before .before .before .before .before .before .before .before .args .state) unreached) (c .before .before .before .before .before .before .before .before .before .before .before .before .before .before .before .pre .1 .0 .0 .successors), c .before .before .before .before .before .before .before .before .before .before .before .before .before .before .before .pre .1 .0 .1), (row-closed (c .before .before .before .before .before .before .before .before .before .before .before .before .before .before .before .pre .0 .0) (c .before .before .before .before .before .before .before .before .before .before .before .before .before .before .before .pre .1 .0 .0) (c .before .before .before .before .before .before .before .before .before .before .before .before .before .before .before .pre .1 .1) (c .before .before .before .before .before .close .ensures)) .relaxed))
+loop-holds : tie.Need-loop-holds Inv-loop μ-loop
+loop-holds c = (sweeping-start _ _ _ _ (c .before .before .before .before .before .before .before .before .args .queue .now) (omega (arith, c .before .before .before .before .before .before .before .before .pre .1 .0 .0 .standing .inside, c .before .before .before .before .before .before .before .before .pre .1 .0 .0 .keys .few, c .before .before .before .before .before .before .before .before .pre .1 .0 .0 .keys .size)) (c .before .before .before .before .before .before .before .before .pre .1 .1), c .before .before .before .before .before .before .before .before .pre .1 .0 .0 .standing .successors)
 
-slice-read-if1 : tie.Need-slice-read-if1
-slice-read-if1 c = omega (arith, c .before .before .before .before .before .before .before .leave .ensures .0 .size, length-set (c .before .before .before .before .before .before .before .before .before .before .before .before .before .before .before .before .before .before .before .before .before .before .before .args .queue .now) (c .before .before .before .before .before .before .before .before .before .before .before .before .before .before .before .before .before .before .before .before .before .before .before .args .state) unreached, c .before .before .before .before .before .before .before .before .before .before .before .before .before .before .before .before .before .before .before .before .before .before .before .pre .1 .0 .0 .inside, c .before .before .before .before .before .before .before .before .before .before .before .before .before .before .before .before .before .before .before .before .before .before .before .pre .1 .0 .0 .keys .few, c .before .before .before .before .before .before .before .before .before .before .before .before .before .before .before .before .before .before .before .before .before .before .before .pre .1 .0 .0 .keys .size)
+slice-aggregate-depart : tie.Need-slice-aggregate-depart Inv-loop μ-loop
+slice-aggregate-depart c = sym (c .before .before .before .before .before .loop .inv .0 .width)
 
-slice-write-queue-2 : tie.Need-slice-write-queue-2
-slice-write-queue-2 c = omega (arith, c .before .before .before .before .before .before .before .before .leave .ensures .0 .size, length-set (c .before .before .before .before .before .before .before .before .before .before .before .before .before .before .before .before .before .before .before .before .before .before .before .before .args .queue .now) (c .before .before .before .before .before .before .before .before .before .before .before .before .before .before .before .before .before .before .before .before .before .before .before .before .args .state) unreached, c .before .before .before .before .before .before .before .before .before .before .before .before .before .before .before .before .before .before .before .before .before .before .before .before .pre .1 .0 .0 .inside, c .before .before .before .before .before .before .before .before .before .before .before .before .before .before .before .before .before .before .before .before .before .before .before .before .pre .1 .0 .0 .keys .few, c .before .before .before .before .before .before .before .before .before .before .before .before .before .before .before .before .before .before .before .before .before .before .before .before .pre .1 .0 .0 .keys .size)
+depart-requires : tie.Need-depart-requires Inv-loop μ-loop
+depart-requires c κs = (c .before .before .before .before .before .before .before .before .before .before .before .before .before .before .pre .0, ((sweep-on (c .before .before .before .before .before .before .before .before .before .before .before .before .before .before .pre .1 .0 .0) (runs-length (c .before .before .before .before .before .loop .inv .0 .runs)) (c .before .before .before .before .before .loop .inv .0 .size ∙ length-set (c .before .before .before .before .before .before .before .before .before .before .before .before .before .before .args .queue .now) (c .before .before .before .before .before .before .before .before .before .before .before .before .before .before .args .state) unreached) (c .before .before .before .before .before .loop .inv .1), c .before .before .before .before .loop-test .taken, c .before .before .before .before .before .loop .inv .0 .width), c .before .before .before .before .before .loop .inv .0 .relaxed))
 
-same-length-2 : tie.Need-same-length-2
-same-length-2 c = simp length-set (c .before .before .before .before .before .before .before .before .leave .ensures .0 .size ∙ length-set (c .before .before .before .before .before .before .before .before .before .before .before .before .before .before .before .before .before .before .before .before .before .before .before .before .args .queue .now) (c .before .before .before .before .before .before .before .before .before .before .before .before .before .before .before .before .before .before .before .before .before .before .before .before .args .state) unreached)
+loop-less : tie.Need-loop-less Inv-loop μ-loop
+loop-less c = omega (arith, c .before .before .before .before .before .before .before .depart .ensures .0 .falls, c .before .before .before .before .before .before .before .depart .ensures .0 .low, c .before .before .before .before .before .before .before .before .before .before .before .before .loop-test .taken)
 
-returns : tie.Need-returns
-returns c = (row-set (c .before .before .before .before .before .before .before .before .before .before .before .before .before .before .before .before .before .before .before .before .before .before .before .before .pre .0 .0) (c .before .before .before .before .before .before .before .before .before .before .before .before .before .before .before .before .before .before .before .before .before .before .before .before .pre .1 .0 .0) ((row-closed (c .before .before .before .before .before .before .before .before .before .before .before .before .before .before .before .before .before .before .before .before .before .before .before .before .pre .0 .0) (c .before .before .before .before .before .before .before .before .before .before .before .before .before .before .before .before .before .before .before .before .before .before .before .before .pre .1 .0 .0) (c .before .before .before .before .before .before .before .before .before .before .before .before .before .before .before .before .before .before .before .before .before .before .before .before .pre .1 .1) (c .before .before .before .before .before .before .before .before .before .before .before .before .before .before .close .ensures)) .runs) (c .before .before .before .before .before .before .before .before .leave .ensures .0) (c .before .before .before .before .before .before .before .before .before .before .before .before .before .before .before .before .before .before .before .before .before .before .before .before .pre .1 .0 .1) (c .if1 .taken), c .before .before .before .before .before .before .before .before .leave .ensures .1)
+loop-again : tie.Need-loop-again Inv-loop μ-loop
+loop-again c = (sweeping-more (c .before .before .before .before .before .before .before .before .before .before .before .before .before .loop .inv .0) (c .before .before .before .before .before .before .before .depart .ensures .0), c .before .before .before .before .before .before .before .depart .ensures .1)
 
-same-length-5 : tie.Need-same-length-5
-same-length-5 c = c .before .before .before .before .before .before .before .before .leave .ensures .0 .size ∙ length-set (c .before .before .before .before .before .before .before .before .before .before .before .before .before .before .before .before .before .before .before .before .before .before .before .before .args .queue .now) (c .before .before .before .before .before .before .before .before .before .before .before .before .before .before .before .before .before .before .before .before .before .before .before .before .args .state) unreached
+same-length : tie.Need-same-length Inv-loop μ-loop
+same-length c = runs-length (c .before .loop .inv .0 .runs)
 
-returns-2 : tie.Need-returns-2
-returns-2 c = (row-kept (c .before .before .before .before .before .before .before .before .before .before .before .before .before .before .before .before .before .before .before .before .before .before .before .before .pre .0 .0) (c .before .before .before .before .before .before .before .before .before .before .before .before .before .before .before .before .before .before .before .before .before .before .before .before .pre .1 .0 .0) ((row-closed (c .before .before .before .before .before .before .before .before .before .before .before .before .before .before .before .before .before .before .before .before .before .before .before .before .pre .0 .0) (c .before .before .before .before .before .before .before .before .before .before .before .before .before .before .before .before .before .before .before .before .before .before .before .before .pre .1 .0 .0) (c .before .before .before .before .before .before .before .before .before .before .before .before .before .before .before .before .before .before .before .before .before .before .before .before .pre .1 .1) (c .before .before .before .before .before .before .before .before .before .before .before .before .before .before .close .ensures)) .runs) (c .before .before .before .before .before .before .before .before .leave .ensures .0) (c .before .before .before .before .before .before .before .before .before .before .before .before .before .before .before .before .before .before .before .before .before .before .before .before .pre .1 .0 .1) (omega (arith, c .if1 .left)), c .before .before .before .before .before .before .before .before .leave .ensures .1)
+same-length-2 : tie.Need-same-length-2 Inv-loop μ-loop
+same-length-2 c = c .before .loop .inv .0 .size ∙ length-set (c .before .before .before .before .before .before .before .before .before .before .args .queue .now) (c .before .before .before .before .before .before .before .before .before .before .args .state) unreached
+
+same-length-3 : tie.Need-same-length-3 Inv-loop μ-loop
+same-length-3 c = c .before .loop .inv .1 .size ∙ sym (c .before .before .before .before .before .before .before .before .before .before .pre .1 .0 .0 .standing .successors .size)
+
+returns : tie.Need-returns Inv-loop μ-loop
+returns c = sweeping-end _ _ _ _ (c .before .before .before .before .before .before .before .before .before .before .args .queue .now) (omega (arith, c .before .before .before .before .before .before .before .before .before .before .pre .1 .0 .0 .standing .inside, c .before .before .before .before .before .before .before .before .before .before .pre .1 .0 .0 .keys .few, c .before .before .before .before .before .before .before .before .before .before .pre .1 .0 .0 .keys .size)) (graph-closed (c .before .before .before .before .before .before .before .before .before .before .pre .0 .0)) (c .before .before .before .before .before .before .before .before .before .before .pre .1 .0 .0 .standing .inside) (c .before .before .before .before .before .before .before .before .before .before .pre .1 .0 .1) (c .before .loop .inv .0) (omega (arith, c .loop-test .left))
 
 pub sweep-spec : {M : Type 1} → statement M
 sweep-spec =
     tie.close
     (tie.spec
+    Inv-loop
+    μ-loop
     (λ c. search needs)
     (λ c. search needs)
     (λ c. search needs)
     (λ c. search needs)
-    mul-close
-    close-requires
-    leave-requires
-    (λ c. search needs)
-    slice-read-if1
-    (λ c. search needs)
-    slice-write-queue-2
-    (λ c. search needs)
+    loop-holds
+    slice-aggregate-depart
+    depart-requires
+    loop-less
+    loop-again
+    same-length
     same-length-2
-    (λ c. search needs)
-    returns
-    (λ c. search needs)
-    same-length-5
-    (λ c. search needs)
-    returns-2)
+    same-length-3
+    returns)
