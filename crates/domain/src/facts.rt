@@ -8,7 +8,8 @@ pub fn fact(w: u16, i: u16) -> bool
     requires { ⌜ i < 12 ⌝ }
     ensures { λ r. ⌜ r ≡ factIn w i ⌝ }
 {
-    (w >> i) % 2 == 1
+    let p = job::states::state_count(i);
+    w / p % 2 == 1
 }
 
 // World w with fact i made false by value 0, true by any other.
