@@ -1,0 +1,31 @@
+use Prim.Native.Nat.{_-_}
+use mathlib.Core.Path.{_≡_}
+use lib.ListN.{length}
+use borrow.Author.Needs.{needs}
+use Rattle.second.proofs.least.follow.Statement.{statement}
+use Rattle.second.proofs.least.follow.Tie as tie
+
+abbrev Inv-loop : tie.InvT-loop
+Inv-loop job values nodes costs₀ c n i₀ costs i = length costs ≡ length costs₀
+
+abbrev μ-loop : tie.MeasureT-loop
+μ-loop job values nodes costs₀ c n i₀ costs i = n - i
+
+pub follow-spec : {M : Type 1} → statement M
+follow-spec =
+    tie.close
+    (tie.spec
+    Inv-loop
+    μ-loop
+    (λ c κs. search needs)
+    (λ c κs. search needs)
+    (λ c κs. search needs)
+    (λ c κs. search needs)
+    (λ c. search needs)
+    (λ c κs. search needs)
+    (λ c κs. search needs)
+    (λ c. search needs)
+    (λ c. search needs)
+    (λ c. search needs)
+    (λ c. search needs)
+    (λ c. search needs))
