@@ -1,13 +1,13 @@
 -- Facts of a world: a true one is worth at most the world, and a world of so many facts stays below their state count as they change.
 -- Assumes nothing.
 use Prim.Native.Nat.{ℕ, zero, suc, _+_, _-_, _*_, _/_, _%_, _^_, _≤_, _<_}
-use mathlib.Core.Path.{_≡_}
-use mathlib.Core.Bool.{true, false, cond}
+use mathlib.Core.Path.{_≡_, refl, ap}
+use mathlib.Core.Bool.{Bool, true, false, cond, _&&_}
 use native.Mathlib.Omega.{arith}
-use native.Mathlib.Nat.{div-add-mod', div-lt-iff-lt-mul, le-div-iff-mul-le, mod-lt, mul-le-mul-right, pow-suc, one-le-pow, pow-le-pow-right}
-use native.Mathlib.Decide.{decLt}
+use native.Mathlib.Nat.{div-add-mod', div-lt-iff-lt-mul, le-div-iff-mul-le, mod-lt, mul-le-mul, mul-le-mul-right, pow-suc, one-le-pow, pow-le-pow-right, one-mul, zero-mul}
+use native.Mathlib.Decide.{decLt, ℕ-discrete}
 use lib.Dec.{eqb}
-use borrow.Author.Tests.{eqb-true, eqb-false}
+use borrow.Author.Tests.{eqb-true, eqb-false, eq-eqb, ne-eqb}
 use Rattle.laws.proofs.Tests.{cond-has}
 use Rattle.job.specs.StateCount.{stateCount}
 use Rattle.domain.specs.World.{fact, putFact}
@@ -56,3 +56,73 @@ put-below facts w i v h l =
     cond-has P (eqb v 0) (cond b (w - 2 ^ i) w) (cond b w (w + 2 ^ i))
     (λ z. cond-has P b (w - 2 ^ i) w (λ e. omega arith) (λ e. l))
     (λ z. cond-has P b w (w + 2 ^ i) (λ e. l) (more-below facts w i h l))
+
+-- a bit times p, taken away and added
+module _ (w p h : ℕ) (bit : h < 2) where
+  less-bit : w - p * h ≡ cond (eqb h 1) (w - p) w
+  less-bit = elim (ℕ-discrete h 1) [
+    | yes e ↦ rw e (omega arith)
+    | no e ↦ (let z : h ≡ 0 = omega arith in rw z (omega arith))
+  ]
+
+  more-bit : w + p * (1 - h) ≡ cond (eqb h 1) w (w + p)
+  more-bit = elim (ℕ-discrete h 1) [
+    | yes e ↦ rw e (omega arith)
+    | no e ↦ (let z : h ≡ 0 = omega arith in rw z (omega arith))
+  ]
+
+module _ (w i : ℕ) where
+  abbrev held : ℕ
+  held = w / 2 ^ i % 2
+
+  held-bit : held < 2
+  held-bit = mod-lt (w / 2 ^ i) (omega arith)
+
+  held-within : 2 ^ i * held ≤ w
+  unfolding fact
+  held-within = elim (ℕ-discrete held 1) [
+    | yes e ↦ (let h = fact-within w i (eq-eqb held 1 e) in omega (arith, h, ap (λ (k : ℕ). 2 ^ i * k) e))
+    | no e ↦ (let z : held ≡ 0 = omega (arith, held-bit) in omega (arith, ap (λ (k : ℕ). 2 ^ i * k) z))
+  ]
+
+-- a fact made false, or true, once or not at all
+module _ (t w i : ℕ) (once : t ≤ 1) where
+  pub times-within : t * 2 ^ i ≤ 2 ^ i
+  times-within = omega (arith, mul-le-mul-right (2 ^ i) once)
+
+  pub cleared-within : t * 2 ^ i * (w / 2 ^ i % 2) ≤ w
+  cleared-within = elim (ℕ-discrete t 1) [
+    | yes e ↦ rw (e, one-mul) (held-within w i)
+    | no e ↦ (let z : t ≡ 0 = omega arith in rw (z, zero-mul, zero-mul) (omega arith))
+  ]
+
+  pub set-within : t * 2 ^ i * (1 - w / 2 ^ i % 2) ≤ 2 ^ i
+  set-within =
+      let bit : 1 - w / 2 ^ i % 2 ≤ 1 = omega arith in
+      omega (arith, mul-le-mul times-within bit)
+
+  pub clears : w - t * 2 ^ i * (w / 2 ^ i % 2) ≡ cond (eqb t 1) (putFact w i 0) w
+  unfolding fact putFact
+  clears = elim (ℕ-discrete t 1) [
+    | yes e ↦ rw (e, one-mul) (less-bit w (2 ^ i) (w / 2 ^ i % 2) (held-bit w i))
+    | no e ↦ (let z : t ≡ 0 = omega arith in rw (z, zero-mul, zero-mul) (omega arith))
+  ]
+
+  pub sets-fact : (v : ℕ) → (v ≡ 0 → ⊥) → w + t * 2 ^ i * (1 - w / 2 ^ i % 2) ≡ cond (eqb t 1) (putFact w i v) w
+  unfolding fact putFact
+  sets-fact v other = elim (ℕ-discrete t 1) [
+    | yes e ↦ rw (e, one-mul, ne-eqb v 0 other) (more-bit w (2 ^ i) (w / 2 ^ i % 2) (held-bit w i))
+    | no e ↦ (let z : t ≡ 0 = omega arith in rw (z, zero-mul, zero-mul) (omega arith))
+  ]
+
+-- two bits and both
+pub bits-once : (a b : Bool) → cond a 1 0 * cond b 1 0 ≤ 1
+bits-once true true = omega arith
+bits-once true false = omega arith
+bits-once false b = omega arith
+
+pub bits-both : (a b : Bool) → eqb (cond a 1 0 * cond b 1 0) 1 ≡ a && b
+bits-both true true = refl
+bits-both true false = refl
+bits-both false true = refl
+bits-both false false = refl

@@ -1,5 +1,6 @@
 // Effects of moves on a state.
 ghost use mathlib.Core.Path.{_≡_};
+ghost use mathlib.Core.Bool.{cond};
 ghost use Prim.Native.Nat.{_+_, _*_, _≤_, _<_};
 ghost use lib.ListN.{length, take, drop};
 ghost use Rattle.job.specs.StateCount.{stateCount};
@@ -10,6 +11,13 @@ ghost use Rattle.domain.specs.Domain.{effectAt};
 use job::head::Head;
 use job::rows::EFFECTS;
 
+// 1 for true, 0 for false.
+fn bit(b: bool) -> u16
+    ensures { λ r. ⌜ r ≡ cond b 1 0 ⌝ }
+{
+    b as u16
+}
+
 // The state after effect k, where it holds by the formulas' values and gives its fact the value v.
 fn apply_effect(head: Head, table: &[u16], values: &[bool], v: u16, k: u16, state: u16) -> u16
     requires { ⌜ length (now table) ≡ allRows * 4 ⌝ }
@@ -19,13 +27,9 @@ fn apply_effect(head: Head, table: &[u16], values: &[bool], v: u16, k: u16, stat
 {
     // condition, fact, value
     let row = job::rows::row_at(table, EFFECTS + k);
-    if crate::formulas::value_at(values, row.a) {
-        if row.c == v {
-            return crate::facts::put_fact(state, row.b, v);
-        }
-        return state;
-    }
-    state
+    let on = crate::formulas::value_at(values, row.a);
+    let times = bit(on) * bit(row.c == v);
+    crate::facts::put_fact(times, state, row.b, v)
 }
 
 // The state after so many effects from number `first` on, of which those are made that hold by the formulas' values and give their fact the value v.

@@ -1,6 +1,8 @@
 // Facts of a world, the bits of a number.
 ghost use mathlib.Core.Path.{_≡_};
-ghost use Prim.Native.Nat.{_<_};
+ghost use mathlib.Core.Bool.{cond};
+ghost use Prim.Native.Nat.{_^_, _≤_, _<_};
+ghost use lib.Dec.{eqb};
 ghost use Rattle.domain.specs.World.{fact as factIn, putFact};
 
 // Whether fact i is true in world w.
@@ -8,24 +10,26 @@ pub fn fact(w: u16, i: u16) -> bool
     requires { ⌜ i < 12 ⌝ }
     ensures { λ r. ⌜ r ≡ factIn w i ⌝ }
 {
-    let p = job::states::state_count(i);
-    w / p % 2 == 1
+    (w >> i) % 2 == 1
 }
 
-// World w with fact i made false by value 0, true by any other.
-pub fn put_fact(w: u16, i: u16, v: u16) -> u16
-    requires { ⌜ (i < 12) × (w < 4096) ⌝ }
-    ensures { λ r. ⌜ r ≡ putFact w i v ⌝ }
+// What fact i is worth.
+fn worth(i: u16) -> u16
+    requires { ⌜ i < 12 ⌝ }
+    ensures { λ r. ⌜ r ≡ 2 ^ i ⌝ }
 {
-    let p = job::states::state_count(i);
+    1 << i
+}
+
+// World w with fact i made false by value 0 and true by any other, if `times` is 1, and w itself if it is 0. No branch depends on what the world holds.
+pub fn put_fact(times: u16, w: u16, i: u16, v: u16) -> u16
+    requires { ⌜ (times ≤ 1) × (i < 12) × (w < 4096) ⌝ }
+    ensures { λ r. ⌜ r ≡ cond (eqb times 1) (putFact w i v) w ⌝ }
+{
+    let p = times * worth(i);
+    let holds = (w >> i) % 2;
     if v == 0 {
-        if fact(w, i) {
-            return w - p;
-        }
-        return w;
+        return w - p * holds;
     }
-    if fact(w, i) {
-        return w;
-    }
-    w + p
+    w + p * (1 - holds)
 }

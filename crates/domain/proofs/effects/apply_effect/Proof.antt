@@ -1,8 +1,11 @@
-use mathlib.Core.Path.{_∙_, sym}
+use Prim.Native.Nat.{_*_, _≤_}
+use mathlib.Core.Path.{_≡_}
+use mathlib.Core.Bool.{false, _&&_}
 use native.Mathlib.Omega.{arith}
-use borrow.Author.Tests.{eq-eqb, ne-eqb}
+use lib.Dec.{eqb}
+use lib.ListN.{getD}
 use Rattle.domain.specs.World.{afterEffect}
-use Rattle.domain.proofs.FactLaws.{count-within}
+use Rattle.domain.proofs.FactLaws.{count-within, bits-once, bits-both}
 use Rattle.domain.proofs.StoreLaws.{effect-row, effect-fact, counts-within}
 use borrow.Author.Needs.{needs}
 use Rattle.domain.proofs.effects.apply_effect.Statement.{statement}
@@ -20,35 +23,26 @@ row-at-requires c κs =
     let p = c .before .before .pre in
     (omega (arith, counts-within (a .head) (a .table .now) (p .1 .0) .2), p .0)
 
+mul-times : tie.Need-mul-times
+mul-times c =
+    let small : c .before .before .bit .result * c .bit2 .result ≤ 1 = rw (c .before .before .bit .ensures, c .bit2 .ensures) (bits-once (c .before .before .before .value-at .result) (eqb (c .before .before .before .before .row-at .result .c) (c .before .before .before .before .before .before .before .args .v))) in
+    record { fits = omega (arith, small) }
+
 put-fact-requires : tie.Need-put-fact-requires
 put-fact-requires c κs =
     let a = c .before .before .before .before .before .before .before .args in
-    let p = c .before .before .before .before .before .before .before .pre in
-    (effect-fact (a .head) (a .table .now) (p .1 .0) (a .k) (p .1 .1 .0) (c .before .before .before .before .row-at .ensures), omega (arith, p .1 .1 .1, count-within (a .head .counts .facts) (p .1 .0 .facts)))
+    let p = c .before .before .before .before .before .before .before .pre in (
+      rw (c .before .before .bit .ensures, c .bit2 .ensures) (bits-once (c .before .before .before .value-at .result) (eqb (c .before .before .before .before .row-at .result .c) (c .before .before .before .before .before .before .before .args .v))),
+      effect-fact (a .head) (a .table .now) (p .1 .0) (a .k) (p .1 .1 .0) (c .before .before .before .before .row-at .ensures),
+      omega (arith, p .1 .1 .1, count-within (a .head .counts .facts) (p .1 .0 .facts)),
+    )
 
 returns : tie.Need-returns
 unfolding afterEffect
 returns c =
     let a = c .before .before .before .before .before .before .before .before .args in
-    let p = c .before .before .before .before .before .before .before .before .pre in
-    let row = effect-row (a .head) (a .table .now) (a .k) (p .1 .1 .0) (c .before .before .before .before .before .row-at .ensures) in
-    rw (← row, sym (c .before .before .before .before .value-at .ensures) ∙ c .before .before .before .if1 .taken, eq-eqb _ _ (c .before .if2 .taken)) (c .put-fact .ensures)
-
-returns-2 : tie.Need-returns-2
-unfolding afterEffect
-returns-2 c =
-    let a = c .before .before .before .before .before .before .before .args in
-    let p = c .before .before .before .before .before .before .before .pre in
-    let row = effect-row (a .head) (a .table .now) (a .k) (p .1 .1 .0) (c .before .before .before .before .row-at .ensures) in
-    rw (← row, sym (c .before .before .before .value-at .ensures) ∙ c .before .before .if1 .taken, ne-eqb _ _ (c .if2 .left))
-
-returns-3 : tie.Need-returns-3
-unfolding afterEffect
-returns-3 c =
-    let a = c .before .before .before .before .before .args in
-    let p = c .before .before .before .before .before .pre in
-    let row = effect-row (a .head) (a .table .now) (a .k) (p .1 .1 .0) (c .before .before .row-at .ensures) in
-    rw (← row, sym (c .before .value-at .ensures) ∙ c .if1 .left)
+    let row = effect-row (a .head) (a .table .now) (a .k) (c .before .before .before .before .before .before .before .before .pre .1 .1 .0) (c .before .before .before .before .before .row-at .ensures) in
+    rw (← row) (rw (c .before .before .before .bit .ensures, c .before .bit2 .ensures, bits-both, c .before .before .before .before .value-at .ensures) at (c .put-fact .ensures))
 
 pub apply-effect-spec : {M : Type 1} → statement M
 apply-effect-spec =
@@ -57,7 +51,8 @@ apply-effect-spec =
     add-row-at
     row-at-requires
     (λ c κs. search needs)
+    (λ c κs. search needs)
+    (λ c κs. search needs)
+    mul-times
     put-fact-requires
-    returns
-    returns-2
-    returns-3)
+    returns)

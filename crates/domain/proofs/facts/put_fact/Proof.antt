@@ -1,44 +1,54 @@
+use Prim.Native.Nat.{_+_, _-_, _*_, _/_, _%_, _^_, _≤_}
 use native.Mathlib.Omega.{arith}
-use mathlib.Core.Path.{_∙_, sym}
-use borrow.Author.Tests.{eq-eqb, ne-eqb}
-use Rattle.domain.specs.World.{putFact}
-use Rattle.domain.proofs.FactLaws.{count-within, fact-within}
+use Rattle.domain.proofs.FactLaws.{count-within, times-within, cleared-within, set-within, clears, sets-fact}
 use borrow.Author.Needs.{needs}
 use Rattle.domain.proofs.facts.put_fact.Statement.{statement}
 use Rattle.domain.proofs.facts.put_fact.Tie as tie
 
+mul-p : tie.Need-mul-p
+mul-p c =
+    let a = c .before .args in
+    let small : a .times * c .worth .result ≤ 4096 = rw (c .worth .ensures) (omega (arith, times-within (a .times) (a .w) (a .i) (c .before .pre .0), count-within (a .i) (omega arith))) in
+    record { fits = omega (arith, small) }
+
+mul-result : tie.Need-mul-result
+mul-result c =
+    let a = c .before .before .args in
+    let small : a .times * c .before .worth .result * (a .w / 2 ^ (a .i) % 2) ≤ a .w = rw (c .before .worth .ensures) (cleared-within (a .times) (a .w) (a .i) (c .before .before .pre .0)) in
+    record { fits = omega (arith, small, c .before .before .pre .2) }
+
 sub-result : tie.Need-sub-result
-sub-result c = omega (arith, fact-within (c .before .before .before .before .args .w) (c .before .before .before .before .args .i) (sym (c .before .fact .ensures) ∙ (c .if2 .taken)))
+sub-result c = let a = c .before .before .args in rw (c .before .worth .ensures) (cleared-within (a .times) (a .w) (a .i) (c .before .before .pre .0))
 
 returns : tie.Need-returns
-unfolding putFact
-returns c = rw (eq-eqb _ _ (c .before .before .if1 .taken), sym (c .before .fact .ensures) ∙ (c .if2 .taken), (c .before .before .before .state-count .ensures))
+returns c = let a = c .before .before .args in rw (c .before .worth .ensures, c .if1 .taken) (clears (a .times) (a .w) (a .i) (c .before .before .pre .0))
 
-returns-2 : tie.Need-returns-2
-unfolding putFact
-returns-2 c = rw (eq-eqb _ _ (c .before .before .if1 .taken), sym (c .before .fact .ensures) ∙ (c .if2 .left))
-
-returns-3 : tie.Need-returns-3
-unfolding putFact
-returns-3 c = rw (ne-eqb _ _ (c .before .before .if1 .left), sym (c .before .fact2 .ensures) ∙ (c .if3 .taken))
+mul-result-2 : tie.Need-mul-result-2
+mul-result-2 c =
+    let a = c .before .before .args in
+    let small : a .times * c .before .worth .result * (1 - a .w / 2 ^ (a .i) % 2) ≤ 4096 = rw (c .before .worth .ensures) (omega (arith, set-within (a .times) (a .w) (a .i) (c .before .before .pre .0), count-within (a .i) (omega arith))) in
+    record { fits = omega (arith, small) }
 
 add-result : tie.Need-add-result
-add-result c = omega (arith, count-within (c .before .before .before .before .args .i) (omega arith))
+add-result c =
+    let a = c .before .before .args in
+    let small : a .times * c .before .worth .result * (1 - a .w / 2 ^ (a .i) % 2) ≤ 4096 = rw (c .before .worth .ensures) (omega (arith, set-within (a .times) (a .w) (a .i) (c .before .before .pre .0), count-within (a .i) (omega arith))) in
+    record { fits = omega (arith, small, c .before .before .pre .2) }
 
-returns-4 : tie.Need-returns-4
-unfolding putFact
-returns-4 c = rw (ne-eqb _ _ (c .before .before .if1 .left), sym (c .before .fact2 .ensures) ∙ (c .if3 .left), (c .before .before .before .state-count .ensures))
+returns-2 : tie.Need-returns-2
+returns-2 c = let a = c .before .before .args in rw (c .before .worth .ensures) (sets-fact (a .times) (a .w) (a .i) (c .before .before .pre .0) (a .v) (c .if1 .left))
 
 pub put-fact-spec : {M : Type 1} → statement M
 put-fact-spec =
     tie.close
     (tie.spec
     (λ c κs. search needs)
-    (λ c κs. search needs)
+    mul-p
+    (λ c. search needs)
+    mul-result
     sub-result
     returns
-    returns-2
-    (λ c κs. search needs)
-    returns-3
+    (λ c. search needs)
+    mul-result-2
     add-result
-    returns-4)
+    returns-2)
