@@ -1,13 +1,13 @@
 //! The six operations as they should answer, with what list and table should hold afterwards.
 
 use crate::costs::cost_table;
+use crate::domain::Domain;
 use crate::fault::Fault;
 use crate::job::{read_job, read_plan, Job, Refusal};
 use crate::runs::Runs;
 use crate::steps::Steps;
 use crate::table::{compile_with, Compiled};
 use crate::verdict::Verdict;
-use crate::world::World;
 
 /// The numbers of verdicts and of least costs, as in the header.
 pub const PLAN: u64 = 0;
@@ -160,10 +160,10 @@ impl Expected {
 
 impl Known {
     fn of(job: &Job, compiled: Compiled, moves: &[u8], steps: &[u8], fault: Fault) -> Known {
-        let world = World::new(job, fault);
-        let mut runs = Runs::new(&world, fault);
+        let domain = Domain::new(job, fault);
+        let mut runs = Runs::new(&domain, fault);
         let moves = read_plan(moves, b'm', job.moves.len()).map(|moves| runs.verdict(&moves));
-        let path = Steps { world: &world, compiled: &compiled };
+        let path = Steps { domain: &domain, compiled: &compiled };
         let steps = read_plan(steps, b't', compiled.steps.len()).map(|steps| path.verdict(&steps, fault));
         let table = cost_table(&path);
         Known { list: compiled.steps.concat(), table, least: runs.least(), moves, steps, compiled }

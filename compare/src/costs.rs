@@ -3,8 +3,8 @@
 use std::cmp::Reverse;
 use std::collections::BinaryHeap;
 
+use crate::domain::state_count;
 use crate::steps::Steps;
-use crate::world::state_count;
 
 /// An entry that can't be reached.
 pub const UNREACHED: u32 = u32::MAX;
@@ -14,8 +14,8 @@ pub fn cost_table(steps: &Steps) -> Vec<u32> {
     let positions = steps.compiled.positions;
     let from = steps_from(steps);
     let index = |state: u16, position: u16| usize::from(state) * positions + usize::from(position);
-    let mut table = vec![UNREACHED; state_count(steps.world.job) * positions];
-    let start = (steps.world.job.init, 0);
+    let mut table = vec![UNREACHED; state_count(steps.domain.job) * positions];
+    let start = (steps.domain.job.init, 0);
     table[index(start.0, start.1)] = 0;
     let mut open = BinaryHeap::from([Reverse((0, start))]);
     while let Some(Reverse((cost, (state, position)))) = open.pop() {

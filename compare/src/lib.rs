@@ -3,6 +3,7 @@
 pub mod answer;
 pub mod compare;
 pub mod costs;
+pub mod domain;
 pub mod fault;
 pub mod job;
 pub mod library;
@@ -12,4 +13,3 @@ pub mod runs;
 pub mod steps;
 pub mod table;
 pub mod verdict;
-pub mod world;

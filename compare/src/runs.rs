@@ -3,14 +3,14 @@
 use std::cmp::Reverse;
 use std::collections::BinaryHeap;
 
+use crate::domain::{state_count, Domain};
 use crate::fault::Fault;
 use crate::residual::{Label, Residual, Residuals, Transition, NIL};
 use crate::verdict::Verdict;
-use crate::world::{state_count, World};
 
 /// The runs of a job's program.
 pub struct Runs<'a> {
-    world: &'a World<'a>,
+    domain: &'a Domain<'a>,
     residuals: Residuals<'a>,
     fault: Fault,
 }
@@ -19,23 +19,23 @@ pub struct Runs<'a> {
 pub type Configuration = (u16, Residual);
 
 impl<'a> Runs<'a> {
-    pub fn new(world: &'a World<'a>, fault: Fault) -> Self {
-        Runs { world, residuals: Residuals::new(world.job, fault), fault }
+    pub fn new(domain: &'a Domain<'a>, fault: Fault) -> Self {
+        Runs { domain, residuals: Residuals::new(domain.job, fault), fault }
     }
 
     /// The configuration at first.
     pub fn start(&mut self) -> Configuration {
-        (self.world.job.init, self.residuals.program())
+        (self.domain.job.init, self.residuals.program())
     }
 
     /// The configurations one transition later, each with the move that is made.
     pub fn next(&mut self, (state, residual): Configuration) -> Vec<(Option<u16>, Configuration)> {
-        let world = self.world;
+        let domain = self.domain;
         let made = |transition: &Transition| match transition.label {
             Label::Silent => Some((None, (state, transition.to))),
-            Label::Holds(formula) => world.holds(formula, state).then_some((None, (state, transition.to))),
-            Label::Fails(formula) => (!world.holds(formula, state)).then_some((None, (state, transition.to))),
-            Label::Move(index) => Some((Some(index), (world.successor(index, state)?, transition.to))),
+            Label::Holds(formula) => domain.holds(formula, state).then_some((None, (state, transition.to))),
+            Label::Fails(formula) => (!domain.holds(formula, state)).then_some((None, (state, transition.to))),
+            Label::Move(index) => Some((Some(index), (domain.successor(index, state)?, transition.to))),
         };
         self.residuals.transitions(residual).iter().filter_map(made).collect()
     }
@@ -51,11 +51,11 @@ impl<'a> Runs<'a> {
             };
             residuals = self.closed(after, reached);
             state = after;
-            cost += self.world.cost(*index);
+            cost += self.domain.cost(*index);
         }
         if !residuals.contains(&NIL) {
             Verdict::Unfinished
-        } else if !self.world.is_goal(state) {
+        } else if !self.domain.is_goal(state) {
             Verdict::Missed
         } else {
             Verdict::Plan(cost)
@@ -96,18 +96,18 @@ impl<'a> Runs<'a> {
     /// The least cost of all allowed plans; none where there is no plan.
     pub fn least(&mut self) -> Option<u64> {
         let start = self.start();
-        let mut best = Best { costs: vec![Vec::new(); state_count(self.world.job)] };
+        let mut best = Best { costs: vec![Vec::new(); state_count(self.domain.job)] };
         let mut open = BinaryHeap::from([Reverse((0, start))]);
         best.lower(start, 0);
         while let Some(Reverse((cost, from))) = open.pop() {
-            if from.1 == NIL && self.world.is_goal(from.0) {
+            if from.1 == NIL && self.domain.is_goal(from.0) {
                 return Some(cost);
             }
             if *best.cost(from) < cost {
                 continue;
             }
             for (made, to) in self.next(from) {
-                let reached = cost + made.map_or(0, |index| self.world.cost(index));
+                let reached = cost + made.map_or(0, |index| self.domain.cost(index));
                 if best.lower(to, reached) {
                     open.push(Reverse((reached, to)));
                 } else if self.fault == Fault::FreeLoops && made.is_none() {

@@ -1,13 +1,13 @@
 //! Steps of the compiled job, and the verdict of a step list.
 
+use crate::domain::Domain;
 use crate::fault::Fault;
 use crate::table::{Compiled, FAILS, HOLDS, NO_OP};
 use crate::verdict::Verdict;
-use crate::world::World;
 
 /// The compiled job over its states.
 pub struct Steps<'a> {
-    pub world: &'a World<'a>,
+    pub domain: &'a Domain<'a>,
     pub compiled: &'a Compiled,
 }
 
@@ -21,9 +21,9 @@ impl Steps<'_> {
     pub fn after(&self, state: u16, [kind, _, _, arg]: [u16; 4]) -> Option<u16> {
         match kind {
             NO_OP => Some(state),
-            HOLDS => self.world.holds(arg, state).then_some(state),
-            FAILS => (!self.world.holds(arg, state)).then_some(state),
-            _ => self.world.successor(arg, state),
+            HOLDS => self.domain.holds(arg, state).then_some(state),
+            FAILS => (!self.domain.holds(arg, state)).then_some(state),
+            _ => self.domain.successor(arg, state),
         }
     }
 
@@ -31,13 +31,13 @@ impl Steps<'_> {
     pub fn cost(&self, [kind, _, _, arg]: [u16; 4]) -> u64 {
         match kind {
             NO_OP | HOLDS | FAILS => 0,
-            _ => self.world.cost(arg),
+            _ => self.domain.cost(arg),
         }
     }
 
     /// The verdict of a list of steps.
     pub fn verdict(&self, entries: &[u16], fault: Fault) -> Verdict {
-        let (mut state, mut position) = (self.world.job.init, 0);
+        let (mut state, mut position) = (self.domain.job.init, 0);
         let mut cost = 0;
         for (made, entry) in entries.iter().enumerate() {
             let step = self.compiled.steps[usize::from(*entry)];
@@ -53,7 +53,7 @@ impl Steps<'_> {
         }
         if position != self.last() {
             Verdict::Unfinished
-        } else if !self.world.is_goal(state) {
+        } else if !self.domain.is_goal(state) {
             Verdict::Missed
         } else {
             Verdict::Plan(cost)

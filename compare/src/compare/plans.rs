@@ -4,47 +4,47 @@ use std::hash::Hash;
 
 use super::prng::Prng;
 use super::walks::{End, Graph};
+use crate::domain::Domain;
 use crate::fault::Fault;
 use crate::job::{Job, MOST_ENTRIES};
 use crate::residual::NIL;
 use crate::runs::{Configuration, Runs};
 use crate::steps::Steps;
 use crate::table::Compiled;
-use crate::world::World;
 
 /// A formula that holds where some run completes the program, and if possible not at first; none where no such run is met.
 pub fn reached_goal(prng: &mut Prng, job: &Job) -> Option<u16> {
-    let world = World::new(job, Fault::None);
-    let ends = run_graph(&world).complete();
+    let domain = Domain::new(job, Fault::None);
+    let ends = run_graph(&domain).complete();
     if ends.is_empty() {
         return None;
     }
     let (state, _) = prng.pick(&ends);
-    let mut held: Vec<u16> = (0..job.formulas.len() as u16).filter(|formula| world.holds(*formula, state)).collect();
-    if held.iter().any(|formula| !world.holds(*formula, job.init)) {
-        held.retain(|formula| !world.holds(*formula, job.init));
+    let mut held: Vec<u16> = (0..job.formulas.len() as u16).filter(|formula| domain.holds(*formula, state)).collect();
+    if held.iter().any(|formula| !domain.holds(*formula, job.init)) {
+        held.retain(|formula| !domain.holds(*formula, job.init));
     }
     (!held.is_empty()).then(|| prng.pick(&held))
 }
 
 /// The entries of a random move list.
 pub fn random_moves(prng: &mut Prng, job: &Job) -> Vec<u16> {
-    let world = World::new(job, Fault::None);
-    random_plan(prng, &run_graph(&world), job.moves.len())
+    let domain = Domain::new(job, Fault::None);
+    random_plan(prng, &run_graph(&domain), job.moves.len())
 }
 
 /// The configurations of the program's runs.
-fn run_graph(world: &World) -> Graph<Configuration> {
-    let mut runs = Runs::new(world, Fault::None);
+fn run_graph(domain: &Domain) -> Graph<Configuration> {
+    let mut runs = Runs::new(domain, Fault::None);
     let start = runs.start();
-    Graph::of(start, |from| runs.next(from), |(state, residual)| end_of(world, state, residual == NIL))
+    Graph::of(start, |from| runs.next(from), |(state, residual)| end_of(domain, state, residual == NIL))
 }
 
 /// The entries of a random step list.
 pub fn random_steps(prng: &mut Prng, job: &Job, compiled: &Compiled) -> Vec<u16> {
-    let world = World::new(job, Fault::None);
-    let steps = Steps { world: &world, compiled };
-    let end = |(state, position): (u16, u16)| end_of(&world, state, position == steps.last());
+    let domain = Domain::new(job, Fault::None);
+    let steps = Steps { domain: &domain, compiled };
+    let end = |(state, position): (u16, u16)| end_of(&domain, state, position == steps.last());
     let graph = Graph::of((job.init, 0), |from| next_of(&steps, from), end);
     random_plan(prng, &graph, compiled.steps.len())
 }
@@ -60,8 +60,8 @@ fn next_of(steps: &Steps, (state, position): (u16, u16)) -> Vec<(Option<u16>, (u
     next
 }
 
-fn end_of(world: &World, state: u16, complete: bool) -> End {
-    match (complete, world.is_goal(state)) {
+fn end_of(domain: &Domain, state: u16, complete: bool) -> End {
+    match (complete, domain.is_goal(state)) {
         (false, _) => End::No,
         (true, true) => End::Goal,
         (true, false) => End::Missed,

@@ -2,12 +2,12 @@
 
 use second::answer::{BLOCKED, COSTS, DEARER, LEAST, MISSED, NONE, PLAN, UNFINISHED};
 use second::costs::UNREACHED;
+use second::domain::Domain;
 use second::fault::Fault;
 use second::job::read_job;
 use second::steps::Steps;
 use second::table::compile_with;
 use second::verdict::Verdict;
-use second::world::World;
 
 use crate::both::{answered, check_moves, check_steps, compile, judge, least_cost};
 use crate::sample::{plan, sample, sample_with, star_of_or, star_of_while};
@@ -89,8 +89,8 @@ fn case_8_with_the_faulty_star() {
     let job = read_job(star_of_while().as_bytes()).expect("the job reads");
     let compiled = compile_with(&job, Fault::Star).expect("the job compiles");
     assert_eq!(compiled.positions, 5);
-    let world = World::new(&job, Fault::None);
-    let steps = Steps { world: &world, compiled: &compiled };
+    let domain = Domain::new(&job, Fault::None);
+    let steps = Steps { domain: &domain, compiled: &compiled };
     // Formula 3 holds, move 0, back to the while, and out through the star.
     assert_eq!(steps.verdict(&[1, 0, 3, 4], Fault::None), Verdict::Missed);
 }

@@ -14,12 +14,12 @@ pub fn sample() -> String {
     sample_with("program=3\np=1,0,0,0\np=1,1,0,0\np=4,0,1,0\n")
 }
 
-/// The sample with the recipe star of (0 or 1).
+/// The sample with the program star of (0 or 1).
 pub fn star_of_or() -> String {
     sample_with("program=4\np=1,0,0,0\np=1,1,0,0\np=6,0,1,0\np=8,2,0,0\n")
 }
 
-/// The sample with the recipe star of (while formula 3 do 0).
+/// The sample with the program star of (while formula 3 do 0).
 pub fn star_of_while() -> String {
     sample_with("program=3\np=1,0,0,0\np=7,3,0,0\np=8,1,0,0\n")
 }

@@ -15,16 +15,16 @@ pub struct View {
 }
 
 /// The states of a job; what is true of a state is worked out once.
-pub struct World<'a> {
+pub struct Domain<'a> {
     pub job: &'a Job,
     fault: Fault,
     views: Vec<OnceCell<View>>,
 }
 
-impl<'a> World<'a> {
+impl<'a> Domain<'a> {
     pub fn new(job: &'a Job, fault: Fault) -> Self {
         let views = (0..state_count(job)).map(|_| OnceCell::new()).collect();
-        World { job, fault, views }
+        Domain { job, fault, views }
     }
 
     /// The value of a formula in a state.
