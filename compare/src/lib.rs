@@ -1,4 +1,5 @@
-//! A second implementation of the planning tool, written from its paper alone, and the library under test beside it.
+//! A second implementation of the planning tool, written from its paper and the decisions on what that leaves
+//! open, and the library under test beside it.
 
 pub mod answer;
 pub mod compare;
