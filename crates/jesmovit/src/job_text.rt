@@ -19,7 +19,7 @@ pub fn read_job(text: &[u8]) -> ReadAnswer
 {
     let mut table = [0u16; TABLE];
     let answer = reader::reading::read_job(text, &mut table);
-    let Answer::Accepted(_, head) = answer else {
+    let Answer::Read(_, head) = answer else {
         let r = reader::reading::refusal(answer);
         return ReadAnswer::Refused(r);
     };

@@ -54,9 +54,9 @@ takenAt End s r = s
 unfoldable pub taken : Reading → List ℕ → Reading
 taken s r = takenAt (s .next) s r
 
--- accepted: how many lines there are, and the job; refused: number and place
+-- read: how many lines there are, and the job; refused: number and place
 pub data Outcome : Type 0 where
-  accepted : ℕ → J.Job → Outcome
+  read : ℕ → J.Job → Outcome
   refused : ℕ → ℕ → Outcome
 
 abbrev pub isEnd : Line → Bool
@@ -75,7 +75,7 @@ isEnd End = true
 
 -- "A missing line's place is one past the last."
 unfoldable pub ended : ℕ → Reading → Outcome
-ended n s = cond (isEnd (s .next)) (accepted n (s .job)) (refused 1 (n + 1))
+ended n s = cond (isEnd (s .next)) (read n (s .job)) (refused 1 (n + 1))
 
 -- "The first bad line decides": reading goes on after n lines
 unfoldable pub readFrom : ℕ → Reading → List (List ℕ) → Outcome

@@ -1,4 +1,4 @@
--- What every accepted job keeps: ranges, references that fall, unused fields that are 0.
+-- What every job that is read keeps: ranges, references that fall, unused fields that are 0.
 use Prim.Native.Nat.{ℕ, _+_, _≤_, _<_}
 use mathlib.Core.Path.{_≡_}
 use mathlib.Core.List.{List, [], _∷_}

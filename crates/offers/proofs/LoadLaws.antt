@@ -16,7 +16,7 @@ use Rattle.job.specs.declared.head.Refusal.{Refusal}
 use Rattle.reader.specs.Reading as S
 use Rattle.reader.specs.Reading.{outcomeOf}
 use Rattle.reader.specs.declared.reading.Answer.{Answer}
-use Rattle.reader.proofs.ReadLaws.{accepted-well-formed}
+use Rattle.reader.proofs.ReadLaws.{read-well-formed}
 use Rattle.compile.specs.CompiledJob.{positionCount, stepCount, fits}
 use Rattle.compile.specs.Size.{capped}
 use Rattle.compile.specs.declared.sizes.Sizes.{Sizes}
@@ -34,7 +34,7 @@ module _ (j : Job) where
   unfolding fits
   unfit-steps g h = rw (le-leb (positionCount j) 256 g, lt-leb (stepCount j) 1024 h)
 
-  fit : positionCount j ≤ 256 → stepCount j ≤ 1024 → fits j ≡ true
+  pub fit : positionCount j ≤ 256 → stepCount j ≤ 1024 → fits j ≡ true
   unfolding fits
   fit g h = rw (le-leb (positionCount j) 256 g, le-leb (stepCount j) 1024 h)
 
@@ -46,15 +46,15 @@ module _ (text table : List ℕ) where
   load-refused {a} {q} {r} g f e =
       ap (λ (x : Refusal). refused (x .number) (x .place)) (f ∙ ap S.refusalOf g) ∙ ap limits (ap (λ (x : Answer). outcomeOf x table) (sym g) ∙ e)
 
-  module _ {a : Answer} (n : ℕ) (h : Head) (g : a ≡ Answer.Accepted n h) (e : outcomeOf a table ≡ readJob text) where
+  module _ {a : Answer} (n : ℕ) (h : Head) (g : a ≡ Answer.Read n h) (e : outcomeOf a table ≡ readJob text) where
     abbrev j : Job
     j = jobOf h table
 
-    accepts : readJob text ≡ R.accepted n j
+    accepts : readJob text ≡ R.read n j
     accepts = sym e ∙ ap (λ (x : Answer). outcomeOf x table) g
 
     pub load-well-formed : WellFormed j
-    load-well-formed = accepted-well-formed text n j accepts
+    load-well-formed = read-well-formed text n j accepts
 
     limited : (b : Bool) → fits j ≡ b → cond b (passed j) (refused 4 n) ≡ jobIn text
     unfolding jobIn
@@ -74,19 +74,22 @@ module _ (text table : List ℕ) where
         pub load-ready : steps ≤ 1024 → (passed j ≡ jobIn text) × ((positions ≡ positionCount j) × (steps ≡ stepCount j))
         load-ready l = (limited true (fit j few (omega (arith, m .1, l))), (omega (arith, m .0, k), omega (arith, m .1, l)))
 
--- what is handed on is well formed, and fits
+-- what is handed on was read, and fits
 module _ (text : List ℕ) (j : Job) where
-  within : (o : R.Outcome) → readJob text ≡ o → limits o ≡ passed j → WellFormed j × (fits j ≡ true)
-  within (R.accepted n k) e f = by (fits k) refl f
+  within : (o : R.Outcome) → limits o ≡ passed j → (n : ℕ) × (o ≡ R.read n j) × (fits j ≡ true)
+  within (R.read n k) f = by (fits k) refl f
     where
-      by : (b : Bool) → fits k ≡ b → cond b (passed k) (refused 4 n) ≡ passed j → WellFormed j × (fits j ≡ true)
-      by true x y = let z : k ≡ j = cc in (rw (← z) (accepted-well-formed text n k e), rw (← z) x)
+      by : (b : Bool) → fits k ≡ b → cond b (passed k) (refused 4 n) ≡ passed j → (m : ℕ) × (R.read n k ≡ R.read m j) × (fits j ≡ true)
+      by true x y = let z : k ≡ j = cc in (n, ap (R.read n) z, rw (← z) x)
       by false x y = let z : _≡_ {A = ℕ} 0 1 = cc in absurd (omega arith)
-  within (R.refused n p) e f = let z : _≡_ {A = ℕ} 0 1 = cc in absurd (omega arith)
+  within (R.refused n p) f = let z : _≡_ {A = ℕ} 0 1 = cc in absurd (omega arith)
+
+  pub passed-read : jobIn text ≡ passed j → (n : ℕ) × (readJob text ≡ R.read n j) × (fits j ≡ true)
+  unfolding jobIn
+  passed-read e = within (readJob text) e
 
   pub passed-right : jobIn text ≡ passed j → WellFormed j × (fits j ≡ true)
-  unfolding jobIn
-  passed-right e = within (readJob text) refl e
+  passed-right e = let r = passed-read e in (read-well-formed text (r .0) j (r .1), r .2)
 
 -- what a caller of loading knows
 module _ (text table : List ℕ) (a : Loaded) (e : checkedOf a table ≡ jobIn text) where

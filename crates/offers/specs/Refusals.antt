@@ -26,7 +26,7 @@ next (refused number place) reason = refused number place
 
 -- 4 "too many positions or steps", at the last job line
 abbrev pub limits : Outcome → Checked Job
-limits (R.accepted lines j) = cond (fits j) (passed j) (refused 4 lines)
+limits (R.read lines j) = cond (fits j) (passed j) (refused 4 lines)
 limits (R.refused number place) = refused number place
 
 -- reasons 1 to 4: "Texts are accepted where no reason but 6 refuses them."

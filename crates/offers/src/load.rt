@@ -35,7 +35,7 @@ pub fn load(text: &[u8], table: &mut [u16]) -> Loaded
     ensures { λ r. ⌜ (checkedOf r (now (table .exit)) ≡ jobIn (now (text .entry))) × Measured r (now (table .exit)) ⌝ }
 {
     let answer = reader::reading::read_job(text, table);
-    let Answer::Accepted(lines, head) = answer else {
+    let Answer::Read(lines, head) = answer else {
         let r = reader::reading::refusal(answer);
         return Loaded::Refused(r);
     };

@@ -1,4 +1,4 @@
--- Reading line by line; every accepted job is well formed, and its lines are counted.
+-- Reading line by line; every job that is read is well formed, and its lines are counted.
 -- Assumes nothing.
 use Prim.Native.Nat.{ℕ, _+_, _-_, _≤_, _<_}
 use mathlib.Core.Path.{_≡_, refl, sym, _∙_, ap, subst}
@@ -16,7 +16,7 @@ use Rattle.job.specs.Job as J
 use Rattle.job.specs.Job.{countsOf}
 use Rattle.job.specs.Line.{rowNumbers}
 use Rattle.job.specs.Fault.{fault}
-use Rattle.job.specs.ReadJob.{Reading, accepted, refused, isEnd, ended, readFrom, begun, taken, readJob}
+use Rattle.job.specs.ReadJob.{Reading, read, refused, isEnd, ended, readFrom, begun, taken, readJob}
 use Rattle.job.specs.Store.{jobOf, listOf, numbersOf}
 use Rattle.job.specs.WellFormed.{WellFormed}
 use Rattle.job.specs.declared.line.Line.{Line}
@@ -58,13 +58,13 @@ unfolding readFrom
 read-ended text i n s h e = e ∙ rw (lines-past text i h)
 
 -- the numbers of a line as the code has them
-module _ (s : State) (table line : List ℕ) (r : Numbers) (read : numbersOf (s .next) r ≡ rowNumbers (s .next) line) where
+module _ (s : State) (table line : List ℕ) (r : Numbers) (numbers-read : numbersOf (s .next) r ≡ rowNumbers (s .next) line) where
   pub reason-of : fault (s .next) (s .head .counts) (numbersOf (s .next) r) ≡ reason (readingOf s table) line
-  reason-of = rw (counts-of (s .head) table, read)
+  reason-of = rw (counts-of (s .head) table, numbers-read)
 
   module _ (zero-reason : fault (s .next) (s .head .counts) (numbersOf (s .next) r) ≡ 0) where
     pub row-of : rowNumbers (s .next) line ≡ some (listOf (s .next) r)
-    row-of = sym read ∙ rw (right-formed (s .next) (s .head .counts) r zero-reason)
+    row-of = sym numbers-read ∙ rw (right-formed (s .next) (s .head .counts) r zero-reason)
 
     pub right-of : Right (s .next) (countsOf (jobOf (s .head) table)) (listOf (s .next) r)
     right-of =
@@ -74,7 +74,7 @@ module _ (s : State) (table line : List ℕ) (r : Numbers) (read : numbersOf (s 
 pub room-of : (s : State) (table : List ℕ) → Kept (readingOf s table) → Room (s .next) (s .rows) (s .effects) (s .head .counts)
 room-of s table k = rw (counts-of (s .head) table) at (k .room)
 
--- the end, where a text is accepted
+-- the end, where a text is read
 end-is : (k : Line) → isEnd k ≡ true → k ≡ End
 end-is Job e = never e
 end-is Facts e = never e
@@ -89,46 +89,46 @@ end-is Program e = never e
 end-is Row e = never e
 end-is End e = refl
 
-not-accepted : {A : Type 0} (a b m : ℕ) (j : J.Job) → refused a b ≡ accepted m j → A
-not-accepted a b m j e = let z : _≡_ {A = ℕ} 0 1 = cc in absurd (omega arith)
+not-read : {A : Type 0} (a b m : ℕ) (j : J.Job) → refused a b ≡ read m j → A
+not-read a b m j e = let z : _≡_ {A = ℕ} 0 1 = cc in absurd (omega arith)
 
 -- what holds at the end, and before a right line where it holds after it, holds wherever reading goes on to accept
 module _ (m : ℕ) (j : J.Job) (P : ℕ → Reading → List (List ℕ) → Type 0)
     (at-end : (s : Reading) → s .next ≡ End → s .job ≡ j → P m s [])
     (at-line : (n : ℕ) (s : Reading) (line r : List ℕ) (ls : List (List ℕ)) → rowNumbers (s .next) line ≡ some r → Right (s .next) (countsOf (s .job)) r
     → P (n + 1) (taken s r) ls → P n s (line ∷ ls)) where
-  end-by : (n : ℕ) (s : Reading) (b : Bool) → isEnd (s .next) ≡ b → cond b (accepted n (s .job)) (refused 1 (n + 1)) ≡ accepted m j → P n s []
+  end-by : (n : ℕ) (s : Reading) (b : Bool) → isEnd (s .next) ≡ b → cond b (read n (s .job)) (refused 1 (n + 1)) ≡ read m j → P n s []
   end-by n s true g e = let a : m ≡ n = cc in subst (λ k. P k s []) a (at-end s (end-is (s .next) g) (cc))
-  end-by n s false g e = not-accepted 1 (n + 1) m j e
+  end-by n s false g e = not-read 1 (n + 1) m j e
 
   line-by : (n : ℕ) (s : Reading) (ls : List (List ℕ)) (line : List ℕ) (o : Option (List ℕ)) (b : Bool) → rowNumbers (s .next) line ≡ o
       → eqb (fault (s .next) (countsOf (s .job)) o) 0 ≡ b
-      → cond b (readFrom (n + 1) (taken s (Option·getD o [])) ls) (refused (fault (s .next) (countsOf (s .job)) o) (n + 1)) ≡ accepted m j
-      → ((q : Reading) → readFrom (n + 1) q ls ≡ accepted m j → P (n + 1) q ls) → P n s (line ∷ ls)
+      → cond b (readFrom (n + 1) (taken s (Option·getD o [])) ls) (refused (fault (s .next) (countsOf (s .job)) o) (n + 1)) ≡ read m j
+      → ((q : Reading) → readFrom (n + 1) q ls ≡ read m j → P (n + 1) q ls) → P n s (line ∷ ls)
   unfolding fault
   line-by n s ls line none true d g e f = never g
-  line-by n s ls line none false d g e f = not-accepted _ (n + 1) m j e
+  line-by n s ls line none false d g e f = not-read _ (n + 1) m j e
   line-by n s ls line (some r) true d g e f =
       at-line n s line r ls d (fault-right (s .next) (countsOf (s .job)) r (eqb-true _ 0 g)) (f (taken s r) e)
-  line-by n s ls line (some r) false d g e f = not-accepted _ (n + 1) m j e
+  line-by n s ls line (some r) false d g e f = not-read _ (n + 1) m j e
 
-  pub accepted-has : (n : ℕ) (s : Reading) (ls : List (List ℕ)) → readFrom n s ls ≡ accepted m j → P n s ls
+  pub read-has : (n : ℕ) (s : Reading) (ls : List (List ℕ)) → readFrom n s ls ≡ read m j → P n s ls
   unfolding readFrom ended
-  accepted-has n s [] e = end-by n s (isEnd (s .next)) refl e
-  accepted-has n s (line ∷ ls) e = line-by n s ls line (rowNumbers (s .next) line) _ refl refl e (λ q. accepted-has (n + 1) q ls)
+  read-has n s [] e = end-by n s (isEnd (s .next)) refl e
+  read-has n s (line ∷ ls) e = line-by n s ls line (rowNumbers (s .next) line) _ refl refl e (λ q. read-has (n + 1) q ls)
 
--- every accepted job is well formed
-pub accepted-well-formed : (text : List ℕ) (n : ℕ) (j : J.Job) → readJob text ≡ accepted n j → WellFormed j
+-- every job that is read is well formed
+pub read-well-formed : (text : List ℕ) (n : ℕ) (j : J.Job) → readJob text ≡ read n j → WellFormed j
 unfolding readJob
-accepted-well-formed text n j e =
-    accepted-has n j (λ k s ls. Kept s → WellFormed j)
+read-well-formed text n j e =
+    read-has n j (λ k s ls. Kept s → WellFormed j)
     (λ s g f k. subst WellFormed f (end-well-formed s k g))
     (λ k s line r ls d x f h. f (taken-kept s r x h))
     0 begun (lines text) e begun-kept
 
--- an accepted text has the lines that its answer counts
-pub accepted-lines : (text : List ℕ) (n : ℕ) (j : J.Job) → readJob text ≡ accepted n j → n ≡ length (lines text)
+-- a text that is read has the lines that its answer counts
+pub read-lines : (text : List ℕ) (n : ℕ) (j : J.Job) → readJob text ≡ read n j → n ≡ length (lines text)
 unfolding readJob
-accepted-lines text n j e =
-    let h = accepted-has n j (λ k s ls. n ≡ k + length ls) (λ s g f. omega arith) (λ k s line r ls d x f. omega (arith, f)) 0 begun (lines text) e in
+read-lines text n j e =
+    let h = read-has n j (λ k s ls. n ≡ k + length ls) (λ s g f. omega arith) (λ k s line r ls d x f. omega (arith, f)) 0 begun (lines text) e in
     omega (arith, h)

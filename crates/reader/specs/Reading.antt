@@ -1,13 +1,13 @@
 -- What the reader's states and answers stand for.
 use Prim.Native.Nat.{ℕ}
 use mathlib.Core.List.{List}
-use Rattle.job.specs.ReadJob.{Reading, on, Outcome, accepted, refused}
+use Rattle.job.specs.ReadJob.{Reading, on, Outcome, read, refused}
 use Rattle.job.specs.Store.{jobOf}
 use Rattle.job.specs.declared.head.Head.{Head}
 use Rattle.job.specs.declared.head.Refusal.{Refusal}
 use Rattle.reader.specs.declared.reading.State.{State}
 use Rattle.reader.specs.declared.reading.Answer.{Answer}
-use Rattle.reader.specs.declared.reading.Answer.the-variants.{Accepted, Refused}
+use Rattle.reader.specs.declared.reading.Answer.the-variants.{Read, Refused}
 
 -- a head with other scalars
 abbrev pub withNumbers : Head → ℕ → ℕ → ℕ → Head
@@ -28,10 +28,10 @@ readingOf s l = on (s .next) (s .rows) (s .effects) (jobOf (s .head) l)
 
 -- the paper's number and values for each case of the answer, with the rows that the table holds
 abbrev pub outcomeOf : Answer → List ℕ → Outcome
-outcomeOf (Accepted n h) l = accepted n (jobOf h l)
+outcomeOf (Read n h) l = read n (jobOf h l)
 outcomeOf (Refused r) l = refused (r .number) (r .place)
 
 -- the refusal that an answer is
 abbrev pub refusalOf : Answer → Refusal
-refusalOf (Accepted n h) = record { number = 0; place = 0 }
+refusalOf (Read n h) = record { number = 0; place = 0 }
 refusalOf (Refused r) = r

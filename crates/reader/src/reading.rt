@@ -27,7 +27,7 @@ pub struct State {
 
 // The number of lines and the head of the job, whose rows the table then holds; or the refusal.
 pub enum Answer {
-    Accepted(usize, Head),
+    Read(usize, Head),
     Refused(Refusal),
 }
 
@@ -46,7 +46,7 @@ pub fn refusal(a: Answer) -> Refusal
     ensures { λ r. ⌜ r ≡ refusalOf a ⌝ }
 {
     match a {
-        Answer::Accepted(_, _) => Refusal {
+        Answer::Read(_, _) => Refusal {
             number: 0,
             place: 0,
         },
@@ -263,7 +263,7 @@ fn finish(s: State, n: usize) -> Answer
     let next = s.next;
     let h = s.head;
     if is_end(next) {
-        return Answer::Accepted(n, h);
+        return Answer::Read(n, h);
     }
     refused(1, n + 1)
 }

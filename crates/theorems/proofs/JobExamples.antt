@@ -7,10 +7,10 @@ use Rattle.text.specs.Lines.{lines, hasKey, valueOf}
 use Rattle.text.specs.Numbers.{byteRead, numbers}
 use Rattle.job.specs.Line.{rowNumbers}
 use Rattle.job.specs.Fault.{fault}
-use Rattle.job.specs.ReadJob.{accepted, refused, taken, ended, readFrom, readJob}
+use Rattle.job.specs.ReadJob.{read, refused, taken, ended, readFrom, readJob}
 
 -- one fact, one move that sets it, and the program of that move
-reads-job : readJob (bytes "job=1\nfacts=1\ninit=0\nformulas=1\nf=2,0,0\nmoves=1\nm=0,3,1\ne=0,0,1\ngoal=0\nprogram=1\np=1,0,0,0\n") ≡ accepted 11 (record {
+reads-job : readJob (bytes "job=1\nfacts=1\ninit=0\nformulas=1\nf=2,0,0\nmoves=1\nm=0,3,1\ne=0,0,1\ngoal=0\nprogram=1\np=1,0,0,0\n") ≡ read 11 (record {
   scalars = record { facts = 1; init = 0; goal = 0 };
   formulas = record { kind = 2; a = 0; b = 0 } ∷ [];
   moves = record { pre = 0; class = 3; count = 1; first = 0 } ∷ [];

@@ -39,13 +39,13 @@ module _ (key : List ℕ) (bound : ℕ) (plain-key : plain key ≡ true) (small 
       ∙ entries-read es (got ++ (v ∷ [])) (λ i h. b (suc i) (omega arith))
       ∙ ap listed (append-assoc got (v ∷ []) es)
 
-  text-read : (es : List ℕ) → length es ≤ mostEntries → Below bound es → readPlan key bound (planText key es) ≡ listed es
+  plan-text-read : (es : List ℕ) → length es ≤ mostEntries → Below bound es → readPlan key bound (planText key es) ≡ listed es
   unfolding readPlan bytes
-  text-read es n b =
+  plan-text-read es n b =
       ap (readLines key bound) (line-of (lineText (bytes "plan") (length es ∷ [])) (flatten (entryLines es)) (line-ends (bytes "plan") (length es) [] refl))
       ∙ count-right key bound _ _ (length es) (entry-read (bytes "plan") (suc mostEntries) (length es) (omega arith) (omega arith))
       ∙ entries-read es [] b
 
-pub plan-iff : (key : List ℕ) (bound : ℕ) (text es : List ℕ) → plain key ≡ true → bound ≤ 65536
+pub plan-text-iff : (key : List ℕ) (bound : ℕ) (text es : List ℕ) → plain key ≡ true → bound ≤ 65536
     → (readPlan key bound text ≡ listed es) ↔ ((length es ≤ mostEntries) × ((i : ℕ) → i < length es → getD es i 0 < bound) × (text ≡ planText key es))
-plan-iff key bound text es p s = (plan-told key bound text es, λ h. ap (readPlan key bound) (h .2) ∙ text-read key bound p s es (h .0) (h .1))
+plan-text-iff key bound text es p s = (plan-told key bound text es, λ h. ap (readPlan key bound) (h .2) ∙ plan-text-read key bound p s es (h .0) (h .1))

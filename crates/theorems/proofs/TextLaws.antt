@@ -21,7 +21,7 @@ use Rattle.job.specs.Job.{countsOf}
 use Rattle.job.specs.Line.{formOf, rowNumbers}
 use Rattle.job.specs.Fields.{bound, within, Within, formulaFields, rowFields}
 use Rattle.job.specs.Fault.{checks, fault}
-use Rattle.job.specs.ReadJob.{Reading, on, accepted, ended, begun, readFrom, readJob, taken, takenAt, afterFormulas, afterMoves, afterRows}
+use Rattle.job.specs.ReadJob.{Reading, on, read, ended, begun, readFrom, readJob, taken, takenAt, afterFormulas, afterMoves, afterRows}
 use Rattle.theorems.specs.JobText.{lineOf, formulaLine, moveLine, effectLine, rowLine, moveLines, programLines, jobLines, jobText}
 use Rattle.job.specs.WellFormed.{WellFormed, MoveFits, EffectFits, Tiled, beforeFormula, beforeRow}
 use Rattle.job.specs.declared.head.Counts.{Counts}
@@ -240,7 +240,7 @@ module _ (sc : J.Scalars) (fs : List J.Formula) (few : length fs ≤ 255) where
       ∙ moves-read ms b (ms₀ ++ (m ∷ [])) (es₀ ++ a) (n + 1 + length a) tail (rw (e₂, e₁) (t .1)) (f .1) (all-drop P (m .count) es g)
       ∙ rw (append-assoc ms₀ (m ∷ []) ms, append-assoc es₀ a b, take-append-drop (m .count) es, e₃))
 
-read-end : (n : ℕ) (j : J.Job) → readFrom n (on End 0 0 j) [] ≡ accepted n j
+read-end : (n : ℕ) (j : J.Job) → readFrom n (on End 0 0 j) [] ≡ read n j
 unfolding readFrom ended
 read-end n j = refl
 
@@ -296,7 +296,7 @@ module _ (j : J.Job) (w : WellFormed j) where
       (and-both (leb 1 (length (j .formulas))) (leb (length (j .formulas)) 255) (le-leb 1 (length (j .formulas)) (omega (arith, w .goal))) (le-leb _ 255 (w .formulas))) refl
       ∙ rw (ne-eqb (length (j .formulas)) 0 some-formula)
 
-  program-read : (n : ℕ) → readFrom n (on Goal 0 0 (made sc (j .formulas) (j .moves) (j .effects) [])) (programLines j) ≡ accepted (n + 1 + 1 + length (j .program)) j
+  program-read : (n : ℕ) → readFrom n (on Goal 0 0 (made sc (j .formulas) (j .moves) (j .effects) [])) (programLines j) ≡ read (n + 1 + 1 + length (j .program)) j
   program-read n =
       let p : length (j .program) ≡ 0 → ⊥ = λ (e : length (j .program) ≡ 0). omega (arith, w .last) in
       let mk : List J.Row → J.Job = λ l. made (j .scalars) (j .formulas) (j .moves) (j .effects) l in
@@ -311,7 +311,7 @@ module _ (j : J.Job) (w : WellFormed j) where
       ∙ rows-read J.addRow mk (λ l x. refl) RowText RowAt (λ l r h. h) st rowLine row-step (j .program) [] (n + 1 + 1) [] row-texts
       ∙ read-end (n + 1 + 1 + length (j .program)) j
 
-  lines-read : readFrom 0 begun (jobLines j) ≡ accepted (length (jobLines j)) j
+  lines-read : readFrom 0 begun (jobLines j) ≡ read (length (jobLines j)) j
   lines-read =
       let fs : List J.Formula = j .formulas in
       let ms : List J.Move = j .moves in
@@ -326,7 +326,7 @@ module _ (j : J.Job) (w : WellFormed j) where
       ∙ text-line Moves 0 0 (made sc fs [] [] []) n (length ms) [] (moveLines ms es ++ programLines j) refl (omega (arith, w .moves), tt) refl (le-leb _ _ (w .moves)) refl
       ∙ moves-read sc fs (w .formulas) ms es [] [] (n + 1) (programLines j) (rw z (w .tiled)) move-texts effect-texts
       ∙ program-read (n + 1 + length (moveLines ms es))
-      ∙ ap (λ k. accepted k j) e
+      ∙ ap (λ k. read k j) e
 
 -- every line of a job's text ends in its only line feed
 key-plain : (k : Line) → plain (formOf k .key) ≡ true
@@ -387,6 +387,6 @@ lines-flatten [] h = refl
 lines-flatten (l ∷ ls) h = line-of l (flatten ls) (h .0) ∙ ap (λ r. l ∷ r) (lines-flatten ls (h .1))
 
 -- every well-formed job has a text that is read as that job
-pub text-accepted : (j : J.Job) → WellFormed j → readJob (jobText j) ≡ accepted (length (jobLines j)) j
+pub text-read : (j : J.Job) → WellFormed j → readJob (jobText j) ≡ read (length (jobLines j)) j
 unfolding readJob
-text-accepted j w = ap (readFrom 0 begun) (lines-flatten (jobLines j) (job-once j)) ∙ lines-read j w
+text-read j w = ap (readFrom 0 begun) (lines-flatten (jobLines j) (job-once j)) ∙ lines-read j w

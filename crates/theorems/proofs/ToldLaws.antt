@@ -1,4 +1,4 @@
--- An accepted text is the text of the job that it is read as.
+-- A text that is read is the text of the job that it is read as.
 -- Assumes nothing.
 use Prim.Native.Nat.{ℕ, _+_, _-_, _≤_, _<_}
 use mathlib.Core.Path.{_≡_, refl, sym, _∙_, ap, subst}
@@ -17,7 +17,7 @@ use Rattle.job.specs.Job as J
 use Rattle.job.specs.Job.{countsOf, formulaOf, moveOf, effectOf, rowOf}
 use Rattle.theorems.specs.JobText.{lineOf, formulaLine, moveLine, effectLine, rowLine, moveLines, jobLines, jobText}
 use Rattle.job.specs.Line.{formOf, rowNumbers}
-use Rattle.job.specs.ReadJob.{Reading, accepted, takenAt, taken, begun, readJob}
+use Rattle.job.specs.ReadJob.{Reading, read, takenAt, taken, begun, readJob}
 use Rattle.job.specs.WellFormed.{Tiled}
 use Rattle.job.specs.declared.head.Counts.{Counts}
 use Rattle.job.specs.declared.line.Line.{Line}
@@ -26,7 +26,7 @@ use Rattle.job.proofs.RowLaws.{tiled-own}
 use Rattle.reader.specs.Room.{Room}
 use Rattle.reader.proofs.RoomLaws.{Right, moves-has}
 use Rattle.reader.proofs.KeptLaws.{Fits, Kept, taken-kept, begun-kept}
-use Rattle.reader.proofs.ReadLaws.{accepted-has}
+use Rattle.reader.proofs.ReadLaws.{read-has}
 
 -- the effects that are due are the last move's
 abbrev Open : List J.Move → ℕ → Type 0
@@ -266,12 +266,12 @@ open-taken : (s : Reading) (r : List ℕ) → Right (s .next) (countsOf (s .job)
 unfolding taken
 open-taken s r x k o = open-at s r (s .next) x (k .room) o
 
--- an accepted text is the text of its job
-pub accepted-text : (text : List ℕ) (n : ℕ) (j : J.Job) → readJob text ≡ accepted n j → text ≡ jobText j
+-- a text that is read is the text of its job
+pub read-text : (text : List ℕ) (n : ℕ) (j : J.Job) → readJob text ≡ read n j → text ≡ jobText j
 unfolding readJob
-accepted-text text n j e =
+read-text text n j e =
     sym (flatten-lines text)
-    ∙ ap flatten (accepted-has n j (λ k s ls. Kept s → Open (s .job .moves) (s .effects) → toldOf s ++ ls ≡ jobLines j)
+    ∙ ap flatten (read-has n j (λ k s ls. Kept s → Open (s .job .moves) (s .effects) → toldOf s ++ ls ≡ jobLines j)
     (λ s g f k o. append-nil (toldOf s) ∙ told-end s j g f)
     (λ k s line r ls d x f h o.
     let v = row-text (s .next) line r d in

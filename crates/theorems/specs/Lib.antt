@@ -1,2 +1,3 @@
 pub mod JobText
+pub mod Accepted
 pub mod MarkedCases

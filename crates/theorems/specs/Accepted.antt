@@ -1,0 +1,30 @@
+-- "Texts are accepted where no reason but 6 refuses them", said without reading them.
+use Prim.Native.Nat.{ℕ, _≤_, _<_}
+use mathlib.Core.Path.{_≡_}
+use mathlib.Core.List.{List}
+use lib.ListN.{length, getD}
+use Rattle.job.specs.Job.{Job}
+use Rattle.job.specs.WellFormed.{WellFormed}
+use Rattle.compile.specs.CompiledJob.{positionCount, stepCount}
+use Rattle.plans.specs.PlanText.{planText}
+use Rattle.offers.specs.Refusals.{Offer, keyFor, boundFor}
+use Rattle.offers.specs.declared.offer.Sort.{Sort}
+use Rattle.theorems.specs.JobText.{jobText}
+
+-- reasons 1 to 4 refuse no text of a well-formed job "within the limits"
+pub record AcceptedJob (text : List ℕ) (j : Job) : Type 0 where
+  pub right : WellFormed j
+  pub positions : positionCount j ≤ 256
+  pub steps : stepCount j ≤ 1024
+  pub written : text ≡ jobText j
+
+-- nor reason 5 the text of at most 4,000 entries that the job has
+pub record AcceptedPlan (sort : Sort) (j : Job) (plan entries : List ℕ) : Type 0 where
+  pub few : length entries ≤ 4000
+  pub each : (i : ℕ) → i < length entries → getD entries i 0 < boundFor sort j
+  pub written : plan ≡ planText (keyFor sort) entries
+
+-- both texts
+pub record Accepted (sort : Sort) (text plan : List ℕ) (o : Offer) : Type 0 where
+  pub job : AcceptedJob text (o .job)
+  pub plan : AcceptedPlan sort (o .job) plan (o .entries)
