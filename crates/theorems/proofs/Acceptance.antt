@@ -81,15 +81,15 @@ module _ (sort : Sort) (text plan : List ℕ) (o : Offer) where
   texts-pass : Accepted sort text plan o → offerIn sort text plan ≡ passed o
   unfolding offerIn
   texts-pass a =
-      ap (λ (c : Checked Job). next c planned) (job-passes text (o .job) (a .job))
-      ∙ ap (offered (o .job)) (plan-iff sort (o .job) plan (o .entries) (a .job .right) (a .job .steps) .1 (a .plan))
+      ap (λ (c : Checked Job). next c planned) (job-passes text (o .job) (a .its-job))
+      ∙ ap (offered (o .job)) (plan-iff sort (o .job) plan (o .entries) (a .its-job .right) (a .its-job .steps) .1 (a .its-plan))
 
   pub accepted-iff : (offerIn sort text plan ≡ passed o) ↔ Accepted sort text plan o
   accepted-iff = (
     λ e.
         let t = offer-taken sort text plan o e in
         let a = job-iff text (o .job) .0 (t .0) in
-        record { job = a; plan = plan-iff sort (o .job) plan (o .entries) (a .right) (a .steps) .0 (t .1) },
+        record { its-job = a; its-plan = plan-iff sort (o .job) plan (o .entries) (a .right) (a .steps) .0 (t .1) },
     texts-pass,
   )
 

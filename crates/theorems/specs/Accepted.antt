@@ -26,5 +26,5 @@ pub record AcceptedPlan (sort : Sort) (j : Job) (plan entries : List ℕ) : Type
 
 -- both texts
 pub record Accepted (sort : Sort) (text plan : List ℕ) (o : Offer) : Type 0 where
-  pub job : AcceptedJob text (o .job)
-  pub plan : AcceptedPlan sort (o .job) plan (o .entries)
+  pub its-job : AcceptedJob text (o .job)
+  pub its-plan : AcceptedPlan sort (o .job) plan (o .entries)

@@ -1,3 +1,5 @@
 pub mod JobText
 pub mod Accepted
+pub mod Decided
+pub mod CostSum
 pub mod MarkedCases

@@ -1,0 +1,13 @@
+-- "Its cost is the sum of its moves' costs, 0 for the empty list": the plain sum, by the moves' classes.
+use Prim.Native.Nat.{ℕ, _+_}
+use mathlib.Core.List.{List, [], _∷_}
+use Rattle.job.specs.Job.{Job}
+use Rattle.domain.specs.Cost.{classCost}
+use Rattle.domain.specs.Domain.{moveAt}
+
+unfoldable pub sumOf : (ℕ → ℕ) → List ℕ → ℕ
+sumOf f [] = 0
+sumOf f (m ∷ ms) = f m + sumOf f ms
+
+abbrev pub classSum : Job → List ℕ → ℕ
+classSum j = sumOf (λ m. classCost (moveAt j m .class))
