@@ -1,6 +1,6 @@
--- A reader of lines answers a text as it does the text's front, where right lines are short and few may come.
+-- A reader of lines answers a text as it does the text's front, where right texts are short.
 -- Assumes nothing.
-use Prim.Native.Nat.{ℕ, zero, suc, _+_, _-_, _*_, _≤_, _<_}
+use Prim.Native.Nat.{ℕ, zero, suc, _+_, _-_, _≤_, _<_}
 use mathlib.Core.Path.{_≡_, sym, _∙_, ap}
 use mathlib.Core.List.{List, _∷_}
 use native.Mathlib.Omega.{arith}
@@ -9,16 +9,17 @@ use lib.ListN.{length, take, drop, length-drop}
 use lib.Seq.{length-take-le, take-take}
 use Rattle.laws.proofs.Lists.{drop-take}
 use Rattle.text.specs.Lines.{lines, lineLength}
-use Rattle.text.proofs.LineLaws.{lines-first, length-le, front-length}
+use Rattle.text.proofs.LineLaws.{lines-first, length-le, length-pos, front-length}
 
--- `ahead s` lines may still come in the state s, each of `width` bytes at the most. All longer lines are answered alike, whatever follows them (long). What
--- follows one line is answered alike after it where it is in each state after it, in which fewer lines may come (same).
-module _ {S O : Type 0} (read : S → List (List ℕ) → O) (ahead : S → ℕ) (width : ℕ)
-    (long : (s : S) (line other : List ℕ) (rest more : List (List ℕ)) → width < length line → width < length other → read s (line ∷ rest) ≡ read s (other ∷ more))
+-- `ahead s` bytes may still come in the state s, at the most. All longer lines are answered alike, whatever follows them (long). What follows one line is
+-- answered alike after it where it is in each state after it, in which fewer bytes may come, by the line's length (same).
+module _ {S O : Type 0} (read : S → List (List ℕ) → O) (ahead : S → ℕ)
+    (long : (s : S) (line other : List ℕ) (rest more : List (List ℕ))
+    → ahead s < length line → ahead s < length other → read s (line ∷ rest) ≡ read s (other ∷ more))
     (same : (s : S) (line : List ℕ) (rest more : List (List ℕ))
-    → ((q : S) → ahead q < ahead s → length line ≤ width → read q rest ≡ read q more) → read s (line ∷ rest) ≡ read s (line ∷ more)) where
+    → ((q : S) → ahead q + length line ≤ ahead s → read q rest ≡ read q more) → read s (line ∷ rest) ≡ read s (line ∷ more)) where
   -- a text, and its front of m bytes
-  module _ (m : ℕ) (s : S) (text : List ℕ) (some-bytes : width < m) (within : m ≤ length text) where
+  module _ (m : ℕ) (s : S) (text : List ℕ) (enough : ahead s < m) (within : m ≤ length text) where
     abbrev l : ℕ
     l = lineLength text
 
@@ -41,24 +42,24 @@ module _ {S O : Type 0} (read : S → List (List ℕ) → O) (ahead : S → ℕ)
         ∙ sym (ap (read s) front)
 
     -- the first line ends in the front
-    cut-after : l ≤ m → ((q : S) → ahead q < ahead s → l ≤ width → read q (lines (drop l text)) ≡ read q (lines (take (m - l) (drop l text))))
+    cut-after : l ≤ m → ((q : S) → ahead q + l ≤ ahead s → read q (lines (drop l text)) ≡ read q (lines (take (m - l) (drop l text))))
         → read s (lines text) ≡ read s (lines (take m text))
     cut-after h again =
         let e : k ≡ l = front-length m text within ∙ omega arith in
         let f : lines (take m text) ≡ take l text ∷ lines (take (m - l) (drop l text)) = front ∙ rw (e, take-take l m text h, drop-take l m text h) in
         ap (read s) all
-        ∙ same s (take l text) _ _ (λ q a b. again q a (omega (arith, length-take-le l text (length-le text))))
+        ∙ same s (take l text) _ _ (λ q a. again q (omega (arith, length-take-le l text (length-le text))))
         ∙ sym (ap (read s) f)
 
-  -- the front decides, where it has more bytes than all the lines that may still come
-  pub front-decides : (fuel m : ℕ) (s : S) (text : List ℕ) → ahead s ≤ fuel → width + 1 + width * fuel ≤ m → m ≤ length text
-      → read s (lines text) ≡ read s (lines (take m text))
-  front-decides zero m s text a h g = elim (decLt m (lineLength text)) [
-    | yes p ↦ cut-within m s text (omega arith) g p
-    | no p ↦ cut-after m s text (omega arith) g (omega arith) (λ q b d. absurd (omega arith))
+  -- by so many bytes at the most, since no line is empty
+  decides-within : (fuel m : ℕ) (s : S) (text : List ℕ) → m ≤ fuel → ahead s < m → m ≤ length text → read s (lines text) ≡ read s (lines (take m text))
+  decides-within zero m s text f h g = absurd (omega arith)
+  decides-within (suc fuel) m s text f h g = elim (decLt m (lineLength text)) [
+    | yes p ↦ cut-within m s text h g p
+    | no p ↦ cut-after m s text h g (omega arith) (λ q a. decides-within fuel (m - lineLength text) q (drop (lineLength text) text)
+        (omega (arith, length-pos text (omega arith))) (omega arith) (simp length-drop (omega arith)))
   ]
-  front-decides (suc fuel) m s text a h g = elim (decLt m (lineLength text)) [
-    | yes p ↦ cut-within m s text (omega arith) g p
-    | no p ↦ cut-after m s text (omega arith) g (omega arith)
-        (λ q b d. front-decides fuel (m - lineLength text) q (drop (lineLength text) text) (omega arith) (omega arith) (simp length-drop (omega arith)))
-  ]
+
+  -- the front decides, where it has more bytes than may still come
+  pub front-decides : (m : ℕ) (s : S) (text : List ℕ) → ahead s < m → m ≤ length text → read s (lines text) ≡ read s (lines (take m text))
+  front-decides m s text h g = decides-within m m s text (omega arith) h g

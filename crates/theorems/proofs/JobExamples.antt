@@ -7,6 +7,7 @@ use Rattle.text.specs.Lines.{lines, hasKey, valueOf}
 use Rattle.text.specs.Numbers.{byteRead, numbers}
 use Rattle.job.specs.Line.{rowNumbers}
 use Rattle.job.specs.Fault.{fault}
+use Rattle.theorems.specs.MarkedCases.{sampleWith}
 use Rattle.job.specs.ReadJob.{read, refused, taken, ended, readFrom, readJob}
 
 -- one fact, one move that sets it, and the program of that move
@@ -30,8 +31,8 @@ refuses-count : readJob (bytes "job=1\nfacts=13\n") ≡ refused 2 2
 unfolding bytes lines hasKey valueOf byteRead numbers rowNumbers fault taken ended readFrom readJob
 refuses-count = refl
 
--- a goal that is no formula, on line 7
-refuses-goal : readJob (bytes "job=1\nfacts=0\ninit=0\nformulas=1\nf=1,0,0\nmoves=0\ngoal=1\n") ≡ refused 3 7
+-- "sample with `goal=4`: line 14"
+refuses-goal : readJob (sampleWith "init=0\n" "goal=4\n" "program=3\np=1,0,0,0\np=1,1,0,0\np=4,0,1,0\n") ≡ refused 3 14
 unfolding bytes lines hasKey valueOf byteRead numbers rowNumbers fault taken ended readFrom readJob
 refuses-goal = refl
 

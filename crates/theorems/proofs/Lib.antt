@@ -11,11 +11,13 @@ pub mod StepPlans
 pub mod CostSum
 pub mod OneAnswer
 pub mod OneCall
+pub mod CallNumbers
 pub mod JudgeDecides
 pub mod JudgedCosts
 pub mod JudgedChecks
 pub mod Exhibited
 pub mod ExhibitedLeast
 pub mod MarkedCases
+pub mod OriginalStar
 pub mod JobExamples
 pub mod OperationExamples

@@ -1,8 +1,9 @@
--- A text of 65,536 bytes or more is refused just as its first 65,536 bytes are: right lines are short, and no job has many.
+-- A text of 65,536 bytes or more is refused just as its first 65,536 bytes are: right texts are short.
 -- Assumes nothing.
 use Prim.Native.Nat.{ℕ, _+_, _-_, _*_, _≤_, _<_}
 use mathlib.Core.Path.{_≡_, refl, sym, _∙_, ap}
-use mathlib.Core.List.{List, _∷_}
+use mathlib.Core.Bool.{true, cond, _&&_}
+use mathlib.Core.List.{List, [], _∷_}
 use mathlib.Core.Option.{Option, none, some}
 use native.Mathlib.Omega.{arith}
 use native.Mathlib.Decide.{decLt}
@@ -16,7 +17,7 @@ use Rattle.text.proofs.LineText.{line-short}
 use Rattle.job.specs.Job.{countsOf}
 use Rattle.job.specs.Line.{formOf, rowNumbers}
 use Rattle.job.specs.Fault.{fault}
-use Rattle.job.specs.ReadJob.{Reading, refused, begun, taken, takenAt, readFrom, readJob}
+use Rattle.job.specs.ReadJob.{Reading, refused, begun, afterMoves, takenAt, taken, readFrom, readJob}
 use Rattle.job.specs.declared.head.Counts.{Counts}
 use Rattle.job.specs.declared.line.Line.{Line}
 use Rattle.job.specs.declared.line.Line.the-variants.{Job, Facts, Init, Formulas, Formula, Moves, Move, Effect, Goal, Program, Row, End}
@@ -25,119 +26,41 @@ use Rattle.reader.proofs.RoomLaws.{Right, fault-right, moves-has}
 use Rattle.reader.proofs.KeptLaws.{Kept, taken-kept, begun-kept}
 use Rattle.reader.proofs.ReadLaws.{line-right, line-wrong}
 
--- how many lines that are no rows may still come
-abbrev singlesAhead : Line → ℕ
-singlesAhead Job = 7
-singlesAhead Facts = 6
-singlesAhead Init = 5
-singlesAhead Formulas = 4
-singlesAhead Formula = 3
-singlesAhead Moves = 3
-singlesAhead Move = 2
-singlesAhead Effect = 2
-singlesAhead Goal = 2
-singlesAhead Program = 1
-singlesAhead Row = 0
-singlesAhead End = 0
+-- how many bytes a right line of this sort has at the most
+abbrev most : Line → ℕ
+most k = length (formOf k .key) + 2 + 6 * formOf k .width
 
--- how many lines may still come
-abbrev linesAhead : Line → ℕ → ℕ → ℕ
-linesAhead k rows effects =
-    let a = ahead k rows effects in singlesAhead k + (a .formulas + (a .moves + (a .effects + a .program)))
+row-short : (k : Line) (line r : List ℕ) → rowNumbers k line ≡ some r → length line ≤ most k
+unfolding rowNumbers
+row-short k line r e = line-short (formOf k .key) (formOf k .width) r line e
+
+-- the lines that are no rows and may still come; End is the line past the last, which is refused
+abbrev singles : Line → List Line
+singles Job = Job ∷ Facts ∷ Init ∷ Formulas ∷ Moves ∷ Goal ∷ Program ∷ End ∷ []
+singles Facts = Facts ∷ Init ∷ Formulas ∷ Moves ∷ Goal ∷ Program ∷ End ∷ []
+singles Init = Init ∷ Formulas ∷ Moves ∷ Goal ∷ Program ∷ End ∷ []
+singles Formulas = Formulas ∷ Moves ∷ Goal ∷ Program ∷ End ∷ []
+singles Formula = Moves ∷ Goal ∷ Program ∷ End ∷ []
+singles Moves = Moves ∷ Goal ∷ Program ∷ End ∷ []
+singles Move = Goal ∷ Program ∷ End ∷ []
+singles Effect = Goal ∷ Program ∷ End ∷ []
+singles Goal = Goal ∷ Program ∷ End ∷ []
+singles Program = Program ∷ End ∷ []
+singles Row = End ∷ []
+singles End = End ∷ []
+
+abbrev total : List Line → ℕ
+total [] = 0
+total (k ∷ ks) = most k + total ks
+
+-- how many bytes may still come
+abbrev bytesAhead : Line → ℕ → ℕ → ℕ
+bytesAhead k rows effects =
+    let a = ahead k rows effects in
+    total (singles k) + (a .formulas * most Formula + (a .moves * most Move + (a .effects * most Effect + a .program * most Row)))
 
 abbrev aheadOf : Reading → ℕ
-aheadOf s = linesAhead (s .next) (s .rows) (s .effects)
-
-module _ (s : Reading) (r : List ℕ) where
-  abbrev c : Counts
-  c = countsOf (s .job)
-
-  falls-at : (k : Line) → Right k c r → Room k (s .rows) (s .effects) c → aheadOf (takenAt k s r) < linesAhead k (s .rows) (s .effects)
-  falls-at Job x h = omega arith
-  falls-at Facts x h = omega arith
-  falls-at Init x h = omega arith
-  falls-at Formulas x h = omega (arith, leb-true (getD r 0 0) 255 (and-right (leb 1 (getD r 0 0)) (leb (getD r 0 0) 255) (x .range)))
-  falls-at Formula x h =
-      cond-has (λ k. linesAhead k (s .rows - 1) (s .effects) < linesAhead Formula (s .rows) (s .effects)) (eqb (s .rows - 1) 0) Moves Formula
-      (λ z. omega (arith, h .due)) (λ z. omega (arith, h .due))
-  falls-at Moves x h =
-      let n = leb-true (getD r 0 0) 64 (x .range) in
-      moves-has (λ k. linesAhead k (getD r 0 0) 0 < linesAhead Moves (s .rows) (s .effects)) (getD r 0 0) 0 (λ y z. omega arith) (λ y z. omega arith) (λ z. omega arith)
-  falls-at Move x h =
-      let n = leb-true (getD r 2 0) 16 (x .range) in
-      moves-has (λ k. linesAhead k (s .rows - 1) (getD r 2 0) < linesAhead Move (s .rows) (s .effects)) (s .rows - 1) (getD r 2 0)
-      (λ y z. omega (arith, h .due .0)) (λ y z. omega (arith, h .due .0)) (λ z. omega (arith, h .due .0))
-  falls-at Effect x h =
-      moves-has (λ k. linesAhead k (s .rows) (s .effects - 1) < linesAhead Effect (s .rows) (s .effects)) (s .rows) (s .effects - 1)
-      (λ y z. omega (arith, h .due)) (λ y z. omega (arith, h .due)) (λ z. omega (arith, h .due))
-  falls-at Goal x h = omega arith
-  falls-at Program x h = omega (arith, leb-true (getD r 0 0) 128 (and-right (leb 1 (getD r 0 0)) (leb (getD r 0 0) 128) (x .range)))
-  falls-at Row x h =
-      cond-has (λ k. linesAhead k (s .rows - 1) (s .effects) < linesAhead Row (s .rows) (s .effects)) (eqb (s .rows - 1) 0) End Row
-      (λ z. omega (arith, h .due .0)) (λ z. omega (arith, h .due .0))
-  falls-at End x h = never (x .form)
-
-  ahead-falls : Right (s .next) c r → Kept s → aheadOf (taken s r) < aheadOf s
-  unfolding taken
-  ahead-falls x k = falls-at (s .next) x (k .room)
-
--- a right line has 27 bytes at the most
-width-short : (k : Line) → length (formOf k .key) + 2 + 6 * formOf k .width ≤ 27
-unfolding bytes
-width-short Job = omega arith
-width-short Facts = omega arith
-width-short Init = omega arith
-width-short Formulas = omega arith
-width-short Formula = omega arith
-width-short Moves = omega arith
-width-short Move = omega arith
-width-short Effect = omega arith
-width-short Goal = omega arith
-width-short Program = omega arith
-width-short Row = omega arith
-width-short End = omega arith
-
-row-short : (k : Line) (line r : List ℕ) → rowNumbers k line ≡ some r → length line ≤ 27
-unfolding rowNumbers
-row-short k line r e = omega (arith, line-short (formOf k .key) (formOf k .width) r line e, width-short k)
-
-module _ (n : ℕ) (s : Reading) where
-  abbrev reason : List ℕ → ℕ
-  reason line = fault (s .next) (countsOf (s .job)) (rowNumbers (s .next) line)
-
-  long-by : (line : List ℕ) (o : Option (List ℕ)) → rowNumbers (s .next) line ≡ o → 27 < length line → fault (s .next) (countsOf (s .job)) o ≡ 1
-  unfolding fault
-  long-by line none e h = refl
-  long-by line (some r) e h = absurd (omega (arith, row-short (s .next) line r e))
-
-  -- a longer line is of wrong form
-  long-wrong : (line : List ℕ) (rest : List (List ℕ)) → 27 < length line → readFrom n s (line ∷ rest) ≡ refused 1 (n + 1)
-  long-wrong line rest h =
-      let e = long-by line (rowNumbers (s .next) line) refl h in
-      line-wrong n s line rest (λ z. omega (arith, e, z)) ∙ ap (λ k. refused k (n + 1)) e
-
-  module _ (line : List ℕ) (rest other : List (List ℕ)) where
-    both-wrong : (reason line ≡ 0 → ⊥) → readFrom n s (line ∷ rest) ≡ readFrom n s (line ∷ other)
-    both-wrong h = line-wrong n s line rest h ∙ sym (line-wrong n s line other h)
-
-    abbrev After : Type 0
-    After = (r : List ℕ) → rowNumbers (s .next) line ≡ some r → Right (s .next) (countsOf (s .job)) r
-        → readFrom (n + 1) (taken s r) rest ≡ readFrom (n + 1) (taken s r) other
-
-    both-by : (o : Option (List ℕ)) → rowNumbers (s .next) line ≡ o → After → readFrom n s (line ∷ rest) ≡ readFrom n s (line ∷ other)
-    unfolding fault
-    both-by none e f = both-wrong (λ z. let y : _≡_ {A = ℕ} 0 1 = sym z ∙ ap (fault (s .next) (countsOf (s .job))) e in omega arith)
-    both-by (some r) e f = elim (decLt 0 (reason line)) [
-      | yes h ↦ both-wrong (λ z. omega arith)
-      | no h ↦ (let z : reason line ≡ 0 = omega arith in
-          line-right n s line rest r e z
-          ∙ f r e (fault-right (s .next) (countsOf (s .job)) r (ap (fault (s .next) (countsOf (s .job))) (sym e) ∙ z))
-          ∙ sym (line-right n s line other r e z))
-    ]
-
-    -- the same line before two rests: what is read of them decides
-    both-lines : After → readFrom n s (line ∷ rest) ≡ readFrom n s (line ∷ other)
-    both-lines f = both-by (rowNumbers (s .next) line) refl f
+aheadOf s = bytesAhead (s .next) (s .rows) (s .effects)
 
 -- a reading that goes on after n lines
 record Place : Type 0 where
@@ -145,11 +68,87 @@ record Place : Type 0 where
   s : Reading
   kept : Kept s
 
+count-within : (n limit : ℕ) → (leb 1 n && leb n limit) ≡ true → n ≤ limit
+count-within n limit e = leb-true n limit (and-right (leb 1 n) (leb n limit) e)
+
+module _ (s : Reading) where
+  abbrev c : Counts
+  c = countsOf (s .job)
+
+  -- after a line of the sort k fewer bytes may come, by its length
+  abbrev Falls : Line → ℕ → ℕ → Line → Type 0
+  Falls k rows effects next = bytesAhead next rows effects + most k ≤ bytesAhead k (s .rows) (s .effects)
+
+  moves-fall : (k : Line) (m e : ℕ) → Falls k m e Effect → Falls k m e (afterMoves m e)
+  unfolding bytes
+  moves-fall k m e h = moves-has (Falls k m e) m e (λ y z. omega arith) (λ y z. omega arith) (λ z. h)
+
+  rows-fall : (k next : Line) (m e : ℕ) → Falls k m e next → Falls k m e k → Falls k m e (cond (eqb m 0) next k)
+  rows-fall k next m e f g = cond-has (Falls k m e) (eqb m 0) next k (λ z. f) (λ z. g)
+
+  -- a line that comes next is among the bytes that may come, and after it, where it is right, they are fewer
+  falls-at : (r : List ℕ) (k : Line) → Room k (s .rows) (s .effects) c
+      → (most k ≤ bytesAhead k (s .rows) (s .effects)) × (Right k c r → Falls k (takenAt k s r .rows) (takenAt k s r .effects) (takenAt k s r .next))
+  unfolding bytes
+  falls-at r Job h = omega arith
+  falls-at r Facts h = omega arith
+  falls-at r Init h = omega arith
+  falls-at r Formulas h = (omega arith, λ x. omega (arith, count-within))
+  falls-at r Formula h = (omega arith, λ x. rows-fall Formula Moves (s .rows - 1) (s .effects) (omega arith) (omega arith))
+  falls-at r Moves h = (omega arith, λ x. moves-fall Moves (getD r 0 0) 0 (omega (arith, leb-true)))
+  falls-at r Move h = (omega arith, λ x. moves-fall Move (s .rows - 1) (getD r 2 0) (omega (arith, leb-true)))
+  falls-at r Effect h = (omega arith, λ x. moves-fall Effect (s .rows) (s .effects - 1) (omega arith))
+  falls-at r Goal h = omega arith
+  falls-at r Program h = (omega arith, λ x. omega (arith, count-within))
+  falls-at r Row h = (omega arith, λ x. rows-fall Row End (s .rows - 1) (s .effects) (omega arith) (omega arith))
+  falls-at r End h = (omega arith, λ x. never (x .form))
+
+  abbrev reason : Option (List ℕ) → ℕ
+  reason o = fault (s .next) c o
+
+  module _ (n : ℕ) (kept : Kept s) where
+    long-by : (line : List ℕ) (o : Option (List ℕ)) → rowNumbers (s .next) line ≡ o → aheadOf s < length line → reason o ≡ 1
+    unfolding fault
+    long-by line none e h = refl
+    long-by line (some r) e h = absurd (omega (arith, row-short (s .next) line r e, falls-at r (s .next) (kept .room) .0))
+
+    -- a line that is longer than all that may come is of wrong form
+    long-wrong : (line : List ℕ) (rest : List (List ℕ)) → aheadOf s < length line → readFrom n s (line ∷ rest) ≡ refused 1 (n + 1)
+    long-wrong line rest h =
+        let e = long-by line (rowNumbers (s .next) line) refl h in
+        line-wrong n s line rest (λ z. omega (arith, e, z)) ∙ ap (λ k. refused k (n + 1)) e
+
+    -- the same line before two rests: what is read of them decides
+    module _ (line : List ℕ) (rest more : List (List ℕ))
+        (after : (q : Place) → aheadOf (q .s) + length line ≤ aheadOf s → readFrom (q .n) (q .s) rest ≡ readFrom (q .n) (q .s) more) where
+      both-wrong : (reason (rowNumbers (s .next) line) ≡ 0 → ⊥) → readFrom n s (line ∷ rest) ≡ readFrom n s (line ∷ more)
+      both-wrong h = line-wrong n s line rest h ∙ sym (line-wrong n s line more h)
+
+      both-right : (r : List ℕ) → rowNumbers (s .next) line ≡ some r → reason (rowNumbers (s .next) line) ≡ 0
+          → readFrom n s (line ∷ rest) ≡ readFrom n s (line ∷ more)
+      unfolding taken
+      both-right r e z =
+          let x = fault-right (s .next) c r (ap reason (sym e) ∙ z) in
+          line-right n s line rest r e z
+          ∙ after (record { n = n + 1; s = taken s r; kept = taken-kept s r x kept })
+          (omega (arith, row-short (s .next) line r e, falls-at r (s .next) (kept .room) .1 x))
+          ∙ sym (line-right n s line more r e z)
+
+      both-by : (o : Option (List ℕ)) → rowNumbers (s .next) line ≡ o → readFrom n s (line ∷ rest) ≡ readFrom n s (line ∷ more)
+      unfolding fault
+      both-by none e = both-wrong (λ z. let y : _≡_ {A = ℕ} 0 1 = sym z ∙ ap reason e in omega arith)
+      both-by (some r) e = elim (decLt 0 (reason (rowNumbers (s .next) line))) [
+        | yes h ↦ both-wrong (λ z. omega arith)
+        | no h ↦ both-right r e (omega arith)
+      ]
+
+      both-lines : readFrom n s (line ∷ rest) ≡ readFrom n s (line ∷ more)
+      both-lines = both-by (rowNumbers (s .next) line) refl
+
 -- so a program's buffer of 65,536 bytes is enough
 pub long-text : (text : List ℕ) → 65536 ≤ length text → readJob text ≡ readJob (take 65536 text)
-unfolding readJob
-long-text text h = front-decides {S = Place} (λ p ls. readFrom (p .n) (p .s) ls) (λ p. aheadOf (p .s)) 27
-    (λ p line other rest more g k. long-wrong (p .n) (p .s) line rest g ∙ sym (long-wrong (p .n) (p .s) other more k))
-    (λ p line rest more f. both-lines (p .n) (p .s) line rest more (λ r e x.
-    f (record { n = p .n + 1; s = taken (p .s) r; kept = taken-kept (p .s) r x (p .kept) }) (ahead-falls (p .s) r x (p .kept)) (row-short (p .s .next) line r e)))
-    1478 65536 (record { n = 0; s = begun; kept = begun-kept }) text (omega arith) (omega arith) h
+unfolding readJob bytes
+long-text text h = front-decides {S = Place} (λ p ls. readFrom (p .n) (p .s) ls) (λ p. aheadOf (p .s))
+    (λ p line other rest more g k. long-wrong (p .s) (p .n) (p .kept) line rest g ∙ sym (long-wrong (p .s) (p .n) (p .kept) other more k))
+    (λ p. both-lines (p .s) (p .n) (p .kept))
+    65536 (record { n = 0; s = begun; kept = begun-kept }) text (omega arith) h

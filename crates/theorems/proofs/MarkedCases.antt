@@ -1,7 +1,7 @@
 -- The ten marked cases, from the bytes of their texts, with a cost table for each that asks for the least cost.
 -- Assumes nothing.
 use Prim.Native.Nat.{ℕ}
-use mathlib.Core.Path.{_≡_, refl}
+use mathlib.Core.Path.{_≡_, refl, ap}
 use mathlib.Core.Option.{Option, some}
 use mathlib.Core.List.{List, [], _∷_, map, List·Memᴰ, List·Memᴰ·head, List·Memᴰ·tail}
 use Rattle.laws.proofs.Tests.{never}
@@ -20,7 +20,7 @@ use Rattle.domain.specs.World.{fact, putFact, value, values, afterEffect, appli
 use Rattle.domain.specs.Cost.{classCost}
 use Rattle.domain.specs.Domain.{holdsIn, successorOf, costIn, domainOf}
 use Rattle.compile.specs.Program.{build, programs, programOf}
-use Rattle.compile.specs.CompiledJob.{fits}
+use Rattle.compile.specs.CompiledJob.{positionCount, stepCount, fits}
 use Rattle.plans.specs.PlanText.{entryIn, readEntries, readLines, readPlan}
 use Rattle.offers.specs.Refusals.{Checked, passed, refused, Offer, next, jobIn, offerIn}
 use Rattle.jesmovit.specs.Checking.{checking}
@@ -82,17 +82,26 @@ tables =
 abbrev judgement : Table → Offer → Option Judgement
 judgement T o = finds (domainOf (o .job)) (programOf (o .job)) T (verdict (domainOf (o .job)) (programOf (o .job)) (o .entries))
 
--- the same from the texts, or the refusal
-unfoldable judged : Case → Table → Checked (Option Judgement)
-judged c T = next (judging (c .job) (c .plan) 4096 12288) (λ o. passed (judgement T o))
+-- the sizes and the judgement
+record Found : Type 0 where
+  positions : ℕ
+  steps : ℕ
+  says : Option Judgement
 
-unfoldable judgements : List Case → List Table → List (Checked (Option Judgement))
+abbrev foundOf : Table → Offer → Found
+foundOf T o = record { positions = positionCount (o .job); steps = stepCount (o .job); says = judgement T o }
+
+-- the same from the texts, or the refusal
+unfoldable judged : Case → Table → Checked Found
+judged c T = next (judging (c .job) (c .plan) 4096 12288) (λ o. passed (foundOf T o))
+
+unfoldable judgements : List Case → List Table → List (Checked Found)
 judgements [] Ts = []
 judgements (c ∷ cs) [] = []
 judgements (c ∷ cs) (T ∷ Ts) = judged c T ∷ judgements cs Ts
 
-abbrev said : Case → Checked (Option Judgement)
-said c = passed (some (c .says))
+abbrev said : Case → Checked Found
+said c = passed (record { positions = c .positions; steps = c .steps; says = some (c .says) })
 
 computed : judgements marked tables ≡ map said marked
 unfolding bytes lines hasKey valueOf byteRead numbers
@@ -109,11 +118,17 @@ judged-right : (c : Case) (T : Table) → judged c T ≡ said c → Right c
 unfolding judged
 judged-right c T e = by (judging (c .job) (c .plan) 4096 12288) refl e
   where
-    by : (k : Checked Offer) → judging (c .job) (c .plan) 4096 12288 ≡ k → next k (λ o. passed (judgement T o)) ≡ said c → Right c
+    by : (k : Checked Offer) → judging (c .job) (c .plan) 4096 12288 ≡ k → next k (λ o. passed (foundOf T o)) ≡ said c → Right c
     by (passed o) f g =
-        let z : judgement T o ≡ some (c .says) = cc in
+        let z : foundOf T o ≡ record { positions = c .positions; steps = c .steps; says = some (c .says) } = cc in
         let j = verdict-judged (domainOf (o .job)) (programOf (o .job)) (o .entries) in
-        (o, f, finds-right (domainOf (o .job)) (programOf (o .job)) T (o .entries) _ (c .says) j z)
+        record {
+          offer = o;
+          passes = f;
+          positions = ap (λ (x : Found). x .positions) z;
+          steps = ap (λ (x : Found). x .steps) z;
+          finds = finds-right (domainOf (o .job)) (programOf (o .job)) T (o .entries) _ (c .says) j (ap (λ (x : Found). x .says) z);
+        }
     by (refused number place) f g = never (cc)
 
 each-right : (cs : List Case) (Ts : List Table) → judgements cs Ts ≡ map said cs → (c : Case) → List·Memᴰ c cs → Right c

@@ -1,4 +1,4 @@
--- Small texts, compiled by the definition: the sample, the programs of the marked cases, and examples of refusals 4, 5 and 6.
+-- Small texts, compiled by the definition: the sample, and examples of refusals 4, 5 and 6.
 -- Assumes nothing.
 use mathlib.Core.Path.{_≡_, refl}
 use mathlib.Core.List.{[], _∷_}
@@ -8,7 +8,7 @@ use Rattle.text.specs.Numbers.{byteRead, numbers}
 use Rattle.job.specs.Line.{rowNumbers}
 use Rattle.job.specs.Fault.{fault}
 use Rattle.job.specs.ReadJob.{taken, ended, readFrom, readJob}
-use Rattle.semantics.specs.CompilingTable.{end, steps, branchSteps, whileSteps, starSteps, flat}
+use Rattle.semantics.specs.CompilingTable.{end, steps, flat}
 use Rattle.compile.specs.Program.{build, programs}
 use Rattle.compile.specs.CompiledJob.{fits}
 use Rattle.plans.specs.PlanText.{entryIn, readEntries, readLines, readPlan}
@@ -16,7 +16,7 @@ use Rattle.offers.specs.Refusals.{refused, jobIn, offerIn}
 use Rattle.offers.specs.declared.offer.Sort.the-variants.{Moves}
 use Rattle.jesmovit.specs.Checking.{checking}
 use Rattle.jesmovit.specs.Judging.{costing, judging}
-use Rattle.theorems.specs.MarkedCases.{sample, starOfChoice, starOfWhile}
+use Rattle.theorems.specs.MarkedCases.{sample}
 use Rattle.jesmovit.specs.Compiling.{compiling, compileAnswer, listAfter}
 use Rattle.jesmovit.specs.declared.compiling.CompileAnswer.{CompileAnswer}
 
@@ -24,16 +24,6 @@ use Rattle.jesmovit.specs.declared.compiling.CompileAnswer.{CompileAnswer}
 compiles-sample : compileAnswer (compiling sample 9) ≡ CompileAnswer.Compiled 3 2
 unfolding bytes lines hasKey valueOf byteRead numbers rowNumbers fault taken ended readFrom readJob end steps build programs fits jobIn compiling
 compiles-sample = refl
-
--- "With recipe star of (0 or 1), 8 positions and 9 steps"
-compiles-choice : compileAnswer (compiling starOfChoice 4096) ≡ CompileAnswer.Compiled 8 9
-unfolding bytes lines hasKey valueOf byteRead numbers rowNumbers fault taken ended readFrom readJob end steps branchSteps starSteps build programs fits jobIn compiling
-compiles-choice = refl
-
--- "With star of (while formula 3 do 0), 6 positions"
-compiles-while : compileAnswer (compiling starOfWhile 4096) ≡ CompileAnswer.Compiled 6 7
-unfolding bytes lines hasKey valueOf byteRead numbers rowNumbers fault taken ended readFrom readJob end steps whileSteps starSteps build programs fits jobIn compiling
-compiles-while = refl
 
 -- with a later entry, which does not change
 fills-list : listAfter (compiling sample 9) (7 ∷ 7 ∷ 7 ∷ 7 ∷ 7 ∷ 7 ∷ 7 ∷ 7 ∷ 7 ∷ []) ≡ 3 ∷ 0 ∷ 1 ∷ 0 ∷ 3 ∷ 1 ∷ 2 ∷ 1 ∷ 7 ∷ []

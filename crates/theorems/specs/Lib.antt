@@ -2,4 +2,5 @@ pub mod JobText
 pub mod Accepted
 pub mod Decided
 pub mod CostSum
+pub mod OriginalStar
 pub mod MarkedCases

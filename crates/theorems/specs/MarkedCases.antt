@@ -8,34 +8,37 @@ use Rattle.semantics.specs.Verdict.{blocked, unfinished, missed}
 use Rattle.semantics.specs.Judgement.{Judgement, least, dearer, other, Finds}
 use Rattle.domain.specs.Domain.{domainOf}
 use Rattle.compile.specs.Program.{programOf}
+use Rattle.compile.specs.CompiledJob.{positionCount, stepCount}
 use Rattle.offers.specs.Refusals.{passed, Offer}
 use Rattle.jesmovit.specs.Judging.{judging}
 
--- the bytes of a job text and of a plan text, and what the judge finds
+-- the bytes of a job text and of a plan text, the positions and steps of the compiled job, and what the judge finds
 pub record Case : Type 0 where
   pub job : List ℕ
   pub plan : List ℕ
+  pub positions : ℕ
+  pub steps : ℕ
   pub says : Judgement
 
-abbrev marks : List ℕ → String → Judgement → Case
-marks job plan says = record { job = job; plan = bytes plan; says = says }
+abbrev marks : List ℕ → ℕ → ℕ → String → Judgement → Case
+marks job positions steps plan says = record { job = job; plan = bytes plan; positions = positions; steps = steps; says = says }
 
--- "The sample", with this init and this program
-abbrev sampleWith : String → String → List ℕ
-sampleWith init program =
+-- "The sample", with this init, this goal and this program
+abbrev pub sampleWith : String → String → String → List ℕ
+sampleWith init goal program =
     bytes "job=1\nfacts=2\n" ++ bytes init
-    ++ bytes "formulas=4\nf=1,0,0\nf=2,0,0\nf=2,1,0\nf=3,1,0\nmoves=2\nm=0,3,1\ne=0,1,1\nm=2,1,1\ne=0,0,1\ngoal=1\n" ++ bytes program
+    ++ bytes "formulas=4\nf=1,0,0\nf=2,0,0\nf=2,1,0\nf=3,1,0\nmoves=2\nm=0,3,1\ne=0,1,1\nm=2,1,1\ne=0,0,1\n" ++ bytes goal ++ bytes program
 
 abbrev pub sample : List ℕ
-sample = sampleWith "init=0\n" "program=3\np=1,0,0,0\np=1,1,0,0\np=4,0,1,0\n"
+sample = sampleWith "init=0\n" "goal=1\n" "program=3\np=1,0,0,0\np=1,1,0,0\np=4,0,1,0\n"
 
--- "With recipe star of (0 or 1)"
+-- "With recipe star of (0 or 1), 8 positions and 9 steps"
 abbrev pub starOfChoice : List ℕ
-starOfChoice = sampleWith "init=0\n" "program=4\np=1,0,0,0\np=1,1,0,0\np=6,0,1,0\np=8,2,0,0\n"
+starOfChoice = sampleWith "init=0\n" "goal=1\n" "program=4\np=1,0,0,0\np=1,1,0,0\np=6,0,1,0\np=8,2,0,0\n"
 
--- "With star of (while formula 3 do 0)"
+-- "With star of (while formula 3 do 0), 6 positions"
 abbrev pub starOfWhile : List ℕ
-starOfWhile = sampleWith "init=0\n" "program=3\np=1,0,0,0\np=7,3,0,0\np=8,1,0,0\n"
+starOfWhile = sampleWith "init=0\n" "goal=1\n" "program=3\np=1,0,0,0\np=7,3,0,0\np=8,1,0,0\n"
 
 -- "With init 0, goal fact 0 and one move of precondition true that clears and sets fact 0, recipe that move"; the clearing comes last in the text, and
 -- the move costs 5
@@ -44,25 +47,28 @@ clearsAndSets = bytes "job=1\nfacts=1\ninit=0\nformulas=2\nf=1,0,0\nf=2,0,0\nmov
 
 -- "init=1 and recipe nil"
 abbrev nilProgram : List ℕ
-nilProgram = sampleWith "init=1\n" "program=1\np=0,0,0,0\n"
+nilProgram = sampleWith "init=1\n" "goal=1\n" "program=1\np=0,0,0,0\n"
 
 -- "Marked, on the sample"
 unfoldable pub marked : List Case
 marked =
-    marks sample "plan=2\nm=0\nm=1\n" (least 25)  -- "(1) 0,1 least at 25"
-    ∷ marks sample "plan=0\n" (other unfinished)  -- "(2) empty list unfinished"
-    ∷ marks sample "plan=1\nm=1\n" (other (blocked 0))  -- "(3) list 1 blocked 0"
-    ∷ marks sample "plan=1\nm=0\n" (other unfinished)  -- "(4) list 0 unfinished"
-    ∷ marks sample "plan=3\nm=0\nm=1\nm=1\n" (other (blocked 2))  -- "(5) 0,1,1 blocked 2"
-    ∷ marks starOfChoice "plan=3\nm=0\nm=0\nm=1\n" (dearer 45 25)  -- "(6) 0,0,1 dearer, 45 against 25"
-    ∷ marks starOfChoice "plan=0\n" (other missed)  -- "(7) empty list goal missed"
-    ∷ marks starOfWhile "plan=1\nm=0\n" (other unfinished)  -- "(8) list 0 unfinished"
-    ∷ marks clearsAndSets "plan=1\nm=0\n" (least 5)  -- "(9) … list 0 is a plan"
-    ∷ marks nilProgram "plan=0\n" (least 0)  -- "(10) … empty plan least at 0"
+    marks sample 3 2 "plan=2\nm=0\nm=1\n" (least 25)  -- "(1) 0,1 least at 25"
+    ∷ marks sample 3 2 "plan=0\n" (other unfinished)  -- "(2) empty list unfinished"
+    ∷ marks sample 3 2 "plan=1\nm=1\n" (other (blocked 0))  -- "(3) list 1 blocked 0"
+    ∷ marks sample 3 2 "plan=1\nm=0\n" (other unfinished)  -- "(4) list 0 unfinished"
+    ∷ marks sample 3 2 "plan=3\nm=0\nm=1\nm=1\n" (other (blocked 2))  -- "(5) 0,1,1 blocked 2"
+    ∷ marks starOfChoice 8 9 "plan=3\nm=0\nm=0\nm=1\n" (dearer 45 25)  -- "(6) 0,0,1 dearer, 45 against 25"
+    ∷ marks starOfChoice 8 9 "plan=0\n" (other missed)  -- "(7) empty list goal missed"
+    ∷ marks starOfWhile 6 7 "plan=1\nm=0\n" (other unfinished)  -- "(8) list 0 unfinished"
+    ∷ marks clearsAndSets 2 1 "plan=1\nm=0\n" (least 5)  -- "(9) … list 0 is a plan"
+    ∷ marks nilProgram 2 1 "plan=0\n" (least 0)  -- "(10) … empty plan least at 0"
     ∷ []
 
--- nothing is refused, with a list of 4,096 and a cost table of 12,288 places, and this is what the judge finds: by the program's own runs, and by all allowed
--- plans of whatever length
-abbrev pub Right : Case → Type 0
-Right c =
-    (o : Offer) × (judging (c .job) (c .plan) 4096 12288 ≡ passed o) × Finds (domainOf (o .job)) (programOf (o .job)) (o .entries) (c .says)
+-- nothing is refused, with a list of 4,096 and a cost table of 12,288 places, the compiled job has these sizes, and this is what the judge finds: by the
+-- program's own runs, and by all allowed plans of whatever length
+pub record Right (c : Case) : Type 0 where
+  pub offer : Offer
+  pub passes : judging (c .job) (c .plan) 4096 12288 ≡ passed offer
+  pub positions : positionCount (offer .job) ≡ c .positions
+  pub steps : stepCount (offer .job) ≡ c .steps
+  pub finds : Finds (domainOf (offer .job)) (programOf (offer .job)) (offer .entries) (c .says)

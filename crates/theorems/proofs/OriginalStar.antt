@@ -1,0 +1,77 @@
+-- 003's star is wrong: with the steps of its own row, on the job of marked case 8, some path that makes move 0 reaches the final position, while no run of
+-- the program that makes move 0 leaves nil.
+-- Assumes nothing.
+use Prim.Native.Nat.{ℕ}
+use mathlib.Core.Path.{_≡_, refl}
+use mathlib.Core.List.{List, [], _∷_}
+use Rattle.text.specs.Bytes.{bytes}
+use Rattle.text.specs.Lines.{lines, hasKey, valueOf}
+use Rattle.text.specs.Numbers.{byteRead, numbers}
+use Rattle.job.specs.Job.{Job}
+use Rattle.job.specs.Line.{rowNumbers}
+use Rattle.job.specs.Fault.{fault}
+use Rattle.job.specs.ReadJob.{read, taken, ended, readFrom, readJob}
+use Rattle.semantics.specs.Program.{Program, nil, move, while, star}
+use Rattle.semantics.specs.Domain.{Domain}
+use Rattle.semantics.specs.Transition.{Run}
+use Rattle.semantics.specs.CompilingTable.{end, steps, whileSteps, starSteps}
+use Rattle.semantics.specs.Path as P
+use Rattle.semantics.specs.Path.{Path, here, there, idles, passes, moves-on}
+use Rattle.semantics.specs.Verdict.{Entries, Judged, unfinished, byRuns, is-unfinished}
+use Rattle.semantics.specs.PositionSets.{spread, close, silentIn, isMove, anyMark, firstSet, nextSet, onward, finished, verdictFrom, verdictBy, verdict}
+use Rattle.semantics.proofs.CheckLaws.{verdict-judged}
+use Rattle.domain.specs.World.{fact, putFact, value, values, afterEffect, applied, affected}
+use Rattle.domain.specs.Cost.{classCost}
+use Rattle.domain.specs.Domain.{holdsIn, successorOf, costIn, domainOf}
+use Rattle.compile.specs.Program.{build, programs, programOf}
+use Rattle.theorems.specs.MarkedCases.{starOfWhile}
+use Rattle.theorems.specs.OriginalStar.{originalEnd, originalSteps}
+
+-- the job of marked case 8
+abbrev pub caseEight : Job
+caseEight = record {
+  scalars = record { facts = 2; init = 0; goal = 1 };
+  formulas = record { kind = 1; a = 0; b = 0 } ∷ record { kind = 2; a = 0; b = 0 } ∷ record { kind = 2; a = 1; b = 0 } ∷ record { kind = 3; a = 1; b = 0 } ∷ [];
+  moves = record { pre = 0; class = 3; count = 1; first = 0 } ∷ record { pre = 2; class = 1; count = 1; first = 1 } ∷ [];
+  effects = record { cond = 0; fact = 1; value = 1 } ∷ record { cond = 0; fact = 0; value = 1 } ∷ [];
+  program = record { kind = 1; a = 0; b = 0; c = 0 } ∷ record { kind = 7; a = 3; b = 0; c = 0 } ∷ record { kind = 8; a = 1; b = 0; c = 0 } ∷ [];
+}
+
+pub case-eight : readJob starOfWhile ≡ read 18 caseEight
+unfolding bytes lines hasKey valueOf byteRead numbers rowNumbers fault taken ended readFrom readJob
+case-eight = refl
+
+abbrev D : Domain
+D = domainOf caseEight
+
+-- the star's body
+abbrev body : Program
+body = while 3 (move 0)
+
+-- "star of (while formula 3 do 0)"
+pub star-of-body : programOf caseEight ≡ star body
+unfolding build programs
+star-of-body = refl
+
+-- into the while, move 0, back to the while's position, which is the star's too, and out through the star
+pub original-star-completes : (is : List ℕ) × (t : ℕ) × Path D (originalSteps (D .moves) body 0) (D .start) 0 is (0 ∷ []) t (originalEnd body 0)
+unfolding end steps whileSteps fact putFact value values afterEffect applied affected holdsIn successorOf
+original-star-completes = (
+  1 ∷ 0 ∷ 3 ∷ 4 ∷ [],
+  2,
+  P.step (there here) (passes refl)
+      (P.step here (moves-on refl) (P.step (there (there (there here))) idles (P.step (there (there (there (there here)))) idles P.stop))),
+)
+
+-- the program's own runs, by the verdict on move 0
+computed : verdict D (star body) (0 ∷ []) ≡ unfinished
+unfolding end steps whileSteps starSteps fact putFact value values afterEffect applied affected classCost holdsIn successorOf costIn
+    spread close silentIn isMove anyMark firstSet nextSet onward finished verdictFrom verdictBy verdict
+computed = refl
+
+not-completed : (E : Entries) (es : List ℕ) → Judged D E es unfinished → (t : ℕ) → E .Completed es t → ⊥
+not-completed E es (is-unfinished x f) = f
+
+pub no-run-completes : (t : ℕ) → Run D (D .start) (star body) (0 ∷ []) t nil → ⊥
+unfolding byRuns
+no-run-completes = not-completed (byRuns D (star body)) (0 ∷ []) (rw computed at (verdict-judged D (star body) (0 ∷ [])))
