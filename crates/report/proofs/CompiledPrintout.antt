@@ -2,18 +2,16 @@
 -- Assumes nothing.
 use Prim.Native.Nat.{ℕ, _+_, _*_, _≤_}
 use mathlib.Core.Path.{_≡_, refl, _∙_, ap}
-use mathlib.Core.Bool.{Bool, true, false, cond}
 use mathlib.Core.List.{List, [], _∷_, _++_}
 use native.Mathlib.Omega.{arith}
-use lib.Dec.{leb}
 use lib.ListN.{length, take, drop}
 use lib.Seq.{sets, sets-eq, take-at}
-use borrow.Author.Tests.{leb-true}
 use Rattle.job.specs.Job.{Job}
 use Rattle.semantics.specs.CompilingTable.{Step, arc, flat, kindOf, argOf}
 use Rattle.semantics.proofs.FlatLaws.{flat-length}
 use Rattle.compile.specs.CompiledJob.{stepsOf, positionCount, stepCount}
-use Rattle.offers.specs.Refusals.{Checked, passed, refused, next, jobIn, listNeed, listLong}
+use Rattle.offers.specs.Refusals.{passed, jobIn, listNeed}
+use Rattle.offers.proofs.StageLaws.{stage-iff}
 use Rattle.jesmovit.specs.Compiling.{compiling, compileAnswer, listAfter}
 use Rattle.report.specs.Printout.{line, stepLine, stepLines, linesOf, compiledLines, compilePrintout}
 
@@ -34,17 +32,9 @@ prints-each-step positions L list h =
     ap (λ (l : List ℕ). line "positions" positions ++ line "steps" (length L) ++ l) (ap stepLines (front-flat L list h) ∙ flat-lines L)
 
 -- a list that is not refused is long enough
-fit : (places : ℕ) (i j : Job) (b : Bool) → leb (listNeed i) places ≡ b → cond b (passed i) (refused 6 (listNeed i)) ≡ passed j → listNeed j ≤ places
-fit places i j true f e = let z : i ≡ j = cc in rw (← z) (leb-true (listNeed i) places f)
-fit places i j false f e = let z : _≡_ {A = ℕ} 0 1 = cc in absurd (omega arith)
-
-long : (places : ℕ) (c : Checked Job) (j : Job) → next c (λ i. listLong places i i) ≡ passed j → listNeed j ≤ places
-long places (passed i) j e = fit places i j (leb (listNeed i) places) refl e
-long places (refused number place) j e = let z : _≡_ {A = ℕ} 0 1 = cc in absurd (omega arith)
-
 compiled-long : (text : List ℕ) (places : ℕ) (j : Job) → compiling text places ≡ passed j → listNeed j ≤ places
 unfolding compiling
-compiled-long text places j e = long places (jobIn text) j e
+compiled-long text places j e = stage-iff listNeed places j (jobIn text) .0 e .1
 
 -- what is printed after compiling a text that nothing refuses
 pub compile-prints : (text list : List ℕ) (j : Job) → compiling text (length list) ≡ passed j
