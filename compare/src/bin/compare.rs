@@ -9,7 +9,7 @@
 
 use std::process::ExitCode;
 
-use jesmovit_compare::comparison::run::{all_agree, case_agrees, faults_are_found};
+use jesmovit_compare::comparison::run::{all_agree, case_agrees, faults_are_found, FULL_RUN};
 use jesmovit_compare::second::fault::{Fault, FAULTS};
 
 fn main() -> ExitCode {
@@ -36,7 +36,7 @@ fn succeeds(arguments: &[&str]) -> Option<bool> {
         _ => (Fault::None, arguments),
     };
     match rest {
-        [] => Some(all_agree(50_000, 1, fault)),
+        [] => Some(all_agree(FULL_RUN, 1, fault)),
         ["--case", number, seed] => Some(case_agrees(number.parse().ok()?, seed.parse().ok()?, fault)),
         [cases] => Some(all_agree(cases.parse().ok()?, 1, fault)),
         [cases, seed] => Some(all_agree(cases.parse().ok()?, seed.parse().ok()?, fault)),

@@ -20,7 +20,7 @@ const TAILS: [&[u8]; 10] =
 
 /// How a text is damaged.
 #[derive(Clone, Copy)]
-enum Kind {
+enum Damage {
     Fields,
     Number,
     Count,
@@ -35,24 +35,24 @@ enum Kind {
 pub fn damage(random: &mut Random, text: &mut Vec<u8>) {
     for _ in 0..random.ranged(&[(850, (1, 1)), (150, (2, 4))]) {
         let kind = random.weighted(&[
-            (260, Kind::Fields),
-            (200, Kind::Number),
-            (40, Kind::Count),
-            (160, Kind::Byte),
-            (120, Kind::Line),
-            (60, Kind::Key),
-            (60, Kind::Form),
-            (100, Kind::End),
+            (260, Damage::Fields),
+            (200, Damage::Number),
+            (40, Damage::Count),
+            (160, Damage::Byte),
+            (120, Damage::Line),
+            (60, Damage::Key),
+            (60, Damage::Form),
+            (100, Damage::End),
         ]);
         match kind {
-            Kind::Fields => by_lines(random, text, |random, lines| change_fields(random, lines)),
-            Kind::Number => change_number(random, text, |_| true),
-            Kind::Count => change_number(random, text, follows_long_key),
-            Kind::Byte => change_byte(random, text),
-            Kind::Line => by_lines(random, text, change_line),
-            Kind::Key => by_lines(random, text, |random, lines| change_key(random, lines)),
-            Kind::Form => by_lines(random, text, |random, lines| change_form(random, lines)),
-            Kind::End => change_end(random, text),
+            Damage::Fields => by_lines(random, text, |random, lines| change_fields(random, lines)),
+            Damage::Number => change_number(random, text, |_| true),
+            Damage::Count => change_number(random, text, follows_long_key),
+            Damage::Byte => change_byte(random, text),
+            Damage::Line => by_lines(random, text, change_line),
+            Damage::Key => by_lines(random, text, |random, lines| change_key(random, lines)),
+            Damage::Form => by_lines(random, text, |random, lines| change_form(random, lines)),
+            Damage::End => change_end(random, text),
         }
     }
 }

@@ -37,7 +37,7 @@ pub const EDGES: [Edge; 22] = [
 ];
 
 /// A job, and the size of its program.
-struct Sized {
+struct Measured {
     job: Job,
     size: Size,
 }
@@ -45,7 +45,7 @@ struct Sized {
 /// A case, with its job where it is read, and otherwise the line that is refused by reason 2.
 pub struct Look<'a> {
     case: &'a Case,
-    job: Option<Sized>,
+    job: Option<Measured>,
     refused_line: Option<&'a [u8]>,
 }
 
@@ -56,7 +56,7 @@ pub fn edges(case: &Case) -> [bool; EDGES.len()] {
         Err(Refusal { number: 2, place }) => case.job.split(|byte| *byte == b'\n').nth(place - 1),
         _ => None,
     };
-    let job = read.ok().map(|job| Sized { size: program_size(&job), job });
+    let job = read.ok().map(|job| Measured { size: program_size(&job), job });
     let look = Look { case, job, refused_line };
     EDGES.map(|(_, meets)| meets(&look))
 }

@@ -11,7 +11,7 @@ mod plans;
 mod walks;
 
 use crate::generator::random::Random;
-use crate::generator::random_job;
+use crate::generator::random_jobs::random_job;
 use crate::generator::writer::{job_text, plan_text};
 use crate::second::compiler::compile;
 use damage::damage;

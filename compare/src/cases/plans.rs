@@ -31,7 +31,8 @@ pub fn random_plans(random: &mut Random, job: &Job, compiled: &Compiled) -> Plan
     Plans { goal, moves, steps }
 }
 
-/// A formula that holds where some run completes the program, and if possible not at first; none where no such run is met.
+/// A formula that holds where some run completes the program, and if possible not at first; none where no such run is
+/// met.
 fn reached_goal(random: &mut Random, domain: &Domain, runs: &Graph<Residual>) -> Option<u16> {
     let ends = runs.end_states();
     if ends.is_empty() {
@@ -65,7 +66,7 @@ fn step_graph(domain: &Domain, compiled: &Compiled) -> Graph<u16> {
 
 /// How a plan is made.
 #[derive(Clone, Copy)]
-enum Style {
+enum PlanStyle {
     Complete,
     Missed,
     Cut,
@@ -84,23 +85,23 @@ fn random_plan<P: Copy + Eq + Hash>(
     bound: usize,
 ) -> Vec<u16> {
     let style = random.weighted(&[
-        (450, Style::Complete),
-        (100, Style::Missed),
-        (100, Style::Cut),
-        (90, Style::Continued),
-        (90, Style::Changed),
-        (125, Style::Random),
-        (40, Style::Empty),
-        (5, Style::AtLimit),
+        (450, PlanStyle::Complete),
+        (100, PlanStyle::Missed),
+        (100, PlanStyle::Cut),
+        (90, PlanStyle::Continued),
+        (90, PlanStyle::Changed),
+        (125, PlanStyle::Random),
+        (40, PlanStyle::Empty),
+        (5, PlanStyle::AtLimit),
     ]);
     let wander = random.ranged(&[(300, (0, 2)), (500, (3, 12)), (188, (12, 60)), (10, (60, 600)), (2, (600, 4000))]);
     match style {
-        Style::Complete => graph.walk(random, is_goal, wander),
-        Style::Missed => graph.walk(random, |state| !is_goal(state), wander),
-        Style::Random => random_list(random, wander, bound),
-        Style::Empty => Vec::new(),
-        Style::AtLimit => at_limit(random, graph, is_goal, bound),
-        Style::Cut | Style::Continued | Style::Changed => {
+        PlanStyle::Complete => graph.walk(random, is_goal, wander),
+        PlanStyle::Missed => graph.walk(random, |state| !is_goal(state), wander),
+        PlanStyle::Random => random_list(random, wander, bound),
+        PlanStyle::Empty => Vec::new(),
+        PlanStyle::AtLimit => at_limit(random, graph, is_goal, bound),
+        PlanStyle::Cut | PlanStyle::Continued | PlanStyle::Changed => {
             let plan = graph.walk(random, |_| true, wander);
             altered(random, plan, bound, style)
         }
@@ -108,11 +109,11 @@ fn random_plan<P: Copy + Eq + Hash>(
 }
 
 /// A walk that is cut short, continued, or has one entry changed.
-fn altered(random: &mut Random, mut plan: Vec<u16>, bound: usize, style: Style) -> Vec<u16> {
+fn altered(random: &mut Random, mut plan: Vec<u16>, bound: usize, style: PlanStyle) -> Vec<u16> {
     let place = random.below(plan.len() + 1);
     match style {
-        Style::Cut => plan.truncate(place),
-        Style::Changed if place < plan.len() => plan[place] = random_entry(random, bound),
+        PlanStyle::Cut => plan.truncate(place),
+        PlanStyle::Changed if place < plan.len() => plan[place] = random_entry(random, bound),
         _ => {
             let count = random.between(1, 3);
             plan.extend(random_list(random, count, bound));

@@ -11,33 +11,33 @@ const MOST_NODES: usize = 2000;
 /// A configuration: a state, and how far the program is.
 type Node<P> = (u16, P);
 
-/// An edge: the entry of a plan that it stands for, if any, and the number of the node that it leads to.
-type Edge = (Option<u16>, usize);
+/// A transition or step: the entry of a plan that it stands for, if any, and the number of the node that it leads to.
+type Link = (Option<u16>, usize);
 
 /// Configurations by number, from 0, which is the first one, and where each leads.
 pub struct Graph<P> {
     nodes: Vec<Node<P>>,
-    edges: Vec<Vec<Edge>>,
+    links: Vec<Vec<Link>>,
     last: P,
 }
 
 impl<P: Copy + Eq + Hash> Graph<P> {
-    /// The graph of the configurations that can be reached, up to a bound; where the program is at `last`, it is complete.
+    /// The graph of the configurations that can be reached, up to a bound; a program that is at `last` is complete.
     pub fn of(start: Node<P>, last: P, mut next: impl FnMut(Node<P>) -> Vec<(Option<u16>, Node<P>)>) -> Graph<P> {
         let mut numbers = HashMap::from([(start, 0)]);
-        let mut graph = Graph { nodes: vec![start], edges: Vec::new(), last };
-        while graph.edges.len() < graph.nodes.len() && graph.nodes.len() < MOST_NODES {
-            let mut edges = Vec::new();
-            for (entry, to) in next(graph.nodes[graph.edges.len()]) {
+        let mut graph = Graph { nodes: vec![start], links: Vec::new(), last };
+        while graph.links.len() < graph.nodes.len() && graph.nodes.len() < MOST_NODES {
+            let mut links = Vec::new();
+            for (entry, to) in next(graph.nodes[graph.links.len()]) {
                 let number = *numbers.entry(to).or_insert(graph.nodes.len());
                 if number == graph.nodes.len() {
                     graph.nodes.push(to);
                 }
-                edges.push((entry, number));
+                links.push((entry, number));
             }
-            graph.edges.push(edges);
+            graph.links.push(links);
         }
-        graph.edges.resize(graph.nodes.len(), Vec::new());
+        graph.links.resize(graph.nodes.len(), Vec::new());
         graph
     }
 
@@ -61,13 +61,13 @@ impl<P: Copy + Eq + Hash> Graph<P> {
         entries
     }
 
-    /// The next edge of a walk; none at its end.
-    fn way(&self, random: &mut Random, node: usize, far: &[usize], wander: bool) -> Option<Edge> {
+    /// The next link of a walk; none at its end.
+    fn way(&self, random: &mut Random, node: usize, far: &[usize], wander: bool) -> Option<Link> {
         let lost = far[node] == usize::MAX;
         let free = |to: usize| (lost || far[to] != usize::MAX) && !self.is_end(to);
         let short = |to: usize| far[to] < far[node];
-        let some = |keep: &dyn Fn(usize) -> bool| -> Vec<Edge> {
-            self.edges[node].iter().copied().filter(|(_, to)| keep(*to)).collect()
+        let some = |keep: &dyn Fn(usize) -> bool| -> Vec<Link> {
+            self.links[node].iter().copied().filter(|(_, to)| keep(*to)).collect()
         };
         let mut ways = if wander { some(&free) } else { Vec::new() };
         if ways.is_empty() {
@@ -80,15 +80,15 @@ impl<P: Copy + Eq + Hash> Graph<P> {
         self.nodes[node].1 == self.last
     }
 
-    /// How many edges each node is from an end in a wanted state.
+    /// How many links each node is from an end in a wanted state.
     fn distances(&self, wanted: impl Fn(u16) -> bool) -> Vec<usize> {
-        let mut back = vec![Vec::new(); self.edges.len()];
-        for (from, edges) in self.edges.iter().enumerate() {
-            for (_, to) in edges {
+        let mut back = vec![Vec::new(); self.links.len()];
+        for (from, links) in self.links.iter().enumerate() {
+            for (_, to) in links {
                 back[*to].push(from);
             }
         }
-        let mut distances = vec![usize::MAX; self.edges.len()];
+        let mut distances = vec![usize::MAX; self.links.len()];
         let ends = (0..self.nodes.len()).filter(|node| self.is_end(*node) && wanted(self.nodes[*node].0));
         let mut open: VecDeque<usize> = ends.collect();
         for node in &open {

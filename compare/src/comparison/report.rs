@@ -4,7 +4,7 @@ use super::calls::Mismatch;
 use crate::cases::Case;
 
 /// A mismatch as a text.
-pub fn report(mismatch: &Mismatch, case: &Case, seed: u64, number: u64) -> String {
+pub fn mismatch_text(mismatch: &Mismatch, case: &Case, seed: u64, number: u64) -> String {
     let mut lines = vec![
         format!("mismatch: {}, seed {seed}, case {number}", mismatch.operation.name()),
         format!("lengths: list {}, table {}", mismatch.lengths.list, mismatch.lengths.table),
@@ -17,13 +17,13 @@ pub fn report(mismatch: &Mismatch, case: &Case, seed: u64, number: u64) -> Strin
     if let Some((index, library, second)) = mismatch.table {
         lines.push(format!("table at {index}: library {library}, second {second}"));
     }
-    lines.push(shown("job text", &case.job));
-    lines.extend(mismatch.operation.plan(case).map(|plan| shown("plan text", plan)));
+    lines.push(text_lines("job text", &case.job));
+    lines.extend(mismatch.operation.plan(case).map(|plan| text_lines("plan text", plan)));
     lines.join("\n")
 }
 
 /// A text line by line; bytes that can't be printed as escapes.
-pub fn shown(name: &str, text: &[u8]) -> String {
+pub fn text_lines(name: &str, text: &[u8]) -> String {
     let mut lines = vec![format!("--- {name}, {} bytes", text.len())];
     for line in text.split_inclusive(|byte| *byte == b'\n') {
         lines.push(match line.strip_suffix(b"\n") {

@@ -3,7 +3,7 @@
 use std::io::Write;
 
 use super::calls::{Mismatch, Trial};
-use super::report::{report, shown};
+use super::report::{mismatch_text, text_lines};
 use super::tally::Tally;
 use crate::cases::edges::edges;
 use crate::cases::Case;
@@ -12,21 +12,21 @@ use crate::second::expected::Expected;
 use crate::second::fault::{Fault, FAULTS};
 
 /// In a run of this many cases every answer and every limit must occur.
-const FULL_RUN: u64 = 50_000;
+pub const FULL_RUN: u64 = 50_000;
 
 /// Compares the cases below `cases`; whether all agree and, in a full run, everything occurred that has to.
 pub fn all_agree(cases: u64, seed: u64, fault: Fault) -> bool {
     let mut tally = Tally::default();
     if let Some(found) = first_mismatch(cases, seed, fault, &mut tally) {
-        print(&report(&found.mismatch, &found.case, seed, found.number));
+        print(&mismatch_text(&found.mismatch, &found.case, seed, found.number));
         return false;
     }
     print(&tally.lines().join("\n"));
+    print(&format!("{cases} cases, {} calls, 0 mismatches", tally.calls()));
     let missing = if cases < FULL_RUN { Vec::new() } else { tally.missing() };
     for name in &missing {
-        print(&format!("never occurred: {name}"));
+        print(&format!("never occurred in {cases} cases: {name}"));
     }
-    print(&format!("{cases} cases, {} calls, 0 mismatches", tally.calls()));
     missing.is_empty()
 }
 
@@ -34,12 +34,12 @@ pub fn all_agree(cases: u64, seed: u64, fault: Fault) -> bool {
 pub fn case_agrees(number: u64, seed: u64, fault: Fault) -> bool {
     let mut random = Random::of_case(seed, number);
     let case = Case::random(&mut random);
-    print(&shown("job text", &case.job));
-    print(&shown("text of moves", &case.moves));
-    print(&shown("text of steps", &case.steps));
+    print(&text_lines("job text", &case.job));
+    print(&text_lines("text of moves", &case.moves));
+    print(&text_lines("text of steps", &case.steps));
     let mut tally = Tally::default();
     if let Err(mismatch) = ask_both(&mut random, &case, fault, &mut tally) {
-        print(&report(&mismatch, &case, seed, number));
+        print(&mismatch_text(&mismatch, &case, seed, number));
         return false;
     }
     print(&format!("case {number} of seed {seed}, {} calls, 0 mismatches", tally.calls()));

@@ -1,4 +1,5 @@
-//! Residual programs and their transitions, by the section of document 01 on what a program allows. No positions occur here.
+//! Residual programs and their transitions, by the section of document 01 on what a program allows. No positions occur
+//! here.
 
 use std::collections::HashMap;
 

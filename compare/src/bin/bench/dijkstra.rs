@@ -10,20 +10,20 @@ use std::collections::BinaryHeap;
 
 /// A step but for where it starts, with its cost.
 #[derive(Clone, Copy)]
-struct Edge {
+struct Link {
     kind: u16,
     to: u16,
     arg: u16,
     cost: u32,
 }
 
-/// Steps by the positions that they start from: those from p are `edges[starts[p]..starts[p + 1]]`.
-struct Steps {
+/// Steps by the positions that they start from: those from p are `links[starts[p]..starts[p + 1]]`.
+struct Grouped {
     starts: Vec<usize>,
-    edges: Vec<Edge>,
+    links: Vec<Link>,
 }
 
-fn group(compiled: &Compiled, states: &States) -> Steps {
+fn group(compiled: &Compiled, states: &States) -> Grouped {
     let mut starts = vec![0; compiled.positions + 1];
     for step in &compiled.steps {
         starts[usize::from(step[1]) + 1] += 1;
@@ -32,18 +32,18 @@ fn group(compiled: &Compiled, states: &States) -> Steps {
         starts[p + 1] += starts[p];
     }
     let mut places = starts.clone();
-    let mut edges = vec![Edge { kind: 0, to: 0, arg: 0, cost: 0 }; compiled.steps.len()];
+    let mut links = vec![Link { kind: 0, to: 0, arg: 0, cost: 0 }; compiled.steps.len()];
     for &[kind, from, to, arg] in &compiled.steps {
         let cost = if kind < 3 { 0 } else { states.cost(arg) };
         let place = &mut places[usize::from(from)];
-        edges[*place] = Edge { kind, to, arg, cost };
+        links[*place] = Link { kind, to, arg, cost };
         *place += 1;
     }
-    Steps { starts, edges }
+    Grouped { starts, links }
 }
 
 /// What was worked out so far: formula values once for each state, a successor once for each state and move.
-struct Known<'a> {
+struct Memo<'a> {
     states: &'a States,
     visited: Vec<bool>,
     values: Vec<Values>,
@@ -51,9 +51,9 @@ struct Known<'a> {
     successors: Vec<u16>,
 }
 
-impl<'a> Known<'a> {
-    fn new(states: &'a States) -> Known<'a> {
-        Known {
+impl<'a> Memo<'a> {
+    fn new(states: &'a States) -> Memo<'a> {
+        Memo {
             states,
             visited: vec![false; states.count],
             values: vec![Values::default(); states.count],
@@ -86,7 +86,7 @@ fn entry(cost: u32, state: u16, position: u16) -> Reverse<u64> {
 
 /// Fills the table's front, which is unreached but for cell 0 of init. With `STACK`, what a free step lowers is settled
 /// at once and never in the heap.
-fn settle<const STACK: bool>(init: u16, positions: usize, steps: &Steps, known: &mut Known, table: &mut [u32]) {
+fn settle<const STACK: bool>(init: u16, positions: usize, steps: &Grouped, memo: &mut Memo, table: &mut [u32]) {
     let mut heap = BinaryHeap::new();
     let mut stack = Vec::new();
     heap.push(entry(0, init, 0));
@@ -95,20 +95,20 @@ fn settle<const STACK: bool>(init: u16, positions: usize, steps: &Steps, known: 
         if table[usize::from(state) * positions + p] < cost {
             continue;
         }
-        let values = known.values(state);
-        for edge in &steps.edges[steps.starts[p]..steps.starts[p + 1]] {
-            let after = match edge.kind {
+        let values = memo.values(state);
+        for link in &steps.links[steps.starts[p]..steps.starts[p + 1]] {
+            let after = match link.kind {
                 NO_OP => Some(state),
-                HOLDS => values.holds(edge.arg).then_some(state),
-                FAILS => (!values.holds(edge.arg)).then_some(state),
-                _ => known.successor(&values, edge.arg, state),
+                HOLDS => values.holds(link.arg).then_some(state),
+                FAILS => (!values.holds(link.arg)).then_some(state),
+                _ => memo.successor(&values, link.arg, state),
             };
             let Some(next) = after else { continue };
-            let cell = &mut table[usize::from(next) * positions + usize::from(edge.to)];
-            if cost + edge.cost < *cell {
-                *cell = cost + edge.cost;
-                let lowered = entry(*cell, next, edge.to);
-                if STACK && edge.cost == 0 {
+            let cell = &mut table[usize::from(next) * positions + usize::from(link.to)];
+            if cost + link.cost < *cell {
+                *cell = cost + link.cost;
+                let lowered = entry(*cell, next, link.to);
+                if STACK && link.cost == 0 {
                     stack.push(lowered);
                 } else {
                     heap.push(lowered);
@@ -127,6 +127,6 @@ pub fn least_cost<const STACK: bool>(text: &[u8], table: &mut [u32]) -> u32 {
     let positions = compiled.positions;
     table[..states.count * positions].fill(UNREACHED);
     table[usize::from(job.init) * positions] = 0;
-    settle::<STACK>(job.init, positions, &steps, &mut Known::new(&states), table);
+    settle::<STACK>(job.init, positions, &steps, &mut Memo::new(&states), table);
     least_entry(&states, positions, table)
 }

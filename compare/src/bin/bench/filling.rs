@@ -1,6 +1,6 @@
 //! Section 4: the cost table filled.
 
-use crate::jobs::{self, Named};
+use crate::inputs::{self, Named};
 use crate::print::{self, micros, ratio};
 use crate::timing::{self, Budget};
 use crate::{accepted, dijkstra, sweep, Settings};
@@ -126,7 +126,7 @@ pub fn section(settings: &Settings, only: Option<&String>, room: &mut Room) -> [
     let times = ["library", "dijkstra", "ratio", "stack", "ratio", "sweep", "ratio"];
     print::title(title, "job", &[&sizes[..], &times[..]].concat());
     let mut largest = [(0.0, ""); 2];
-    for job in jobs::named().into_iter().filter(|job| only.is_none_or(|name| name == job.name)) {
+    for job in inputs::named().into_iter().filter(|job| only.is_none_or(|name| name == job.name)) {
         let ratios = row(&job, settings, room);
         for (most, ratio) in largest.iter_mut().zip(ratios) {
             if ratio > most.0 {

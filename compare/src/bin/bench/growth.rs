@@ -1,10 +1,10 @@
 //! Section 5: how times grow with the input.
 
 use crate::filling::{self, Room};
-use crate::jobs::Growing;
+use crate::inputs::Growing;
 use crate::print::{self, micros, ratio};
 use crate::timing::{self, Budget};
-use crate::{accepted, dijkstra, jobs, texts};
+use crate::{accepted, dijkstra, inputs, texts};
 use jesmovit_compare::generator::jobs::wide;
 use jesmovit_compare::generator::writer::job_text;
 
@@ -48,7 +48,7 @@ fn checking(budget: Budget, list: &mut [u16]) {
     let [_, steps, ..] = accepted::compile(&text, list);
     let mut before = None;
     for moves in [500, 1000, 2000, 4000] {
-        let times = texts::check_times("wide", &text, &jobs::plan_in_turn(&job, moves), budget, list);
+        let times = texts::check_times("wide", &text, &inputs::plan_in_turn(&job, moves), budget, list);
         line(moves, steps as usize, times, before);
         before = Some(times);
     }
@@ -56,8 +56,8 @@ fn checking(budget: Budget, list: &mut [u16]) {
 
 /// Prints the section.
 pub fn section(budget: Budget, room: &mut Room) {
-    filling("5. growth: filling, by facts", "facts", jobs::by_facts(), budget, room);
-    filling("5. growth: filling, by positions", "positions", jobs::by_positions(), budget, room);
-    filling("5. growth: filling, by steps", "steps", jobs::by_steps(), budget, room);
+    filling("5. growth: filling, by facts", "facts", inputs::by_facts(), budget, room);
+    filling("5. growth: filling, by positions", "positions", inputs::by_positions(), budget, room);
+    filling("5. growth: filling, by steps", "steps", inputs::by_steps(), budget, room);
     checking(budget, &mut room.list);
 }

@@ -5,7 +5,7 @@ mod accepted;
 mod dijkstra;
 mod filling;
 mod growth;
-mod jobs;
+mod inputs;
 mod position_sets;
 mod print;
 mod states;

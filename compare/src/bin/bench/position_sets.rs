@@ -6,12 +6,12 @@ use jesmovit_compare::second::reader::{read_job, read_plan};
 use jesmovit_compare::second::verdict::Verdict;
 
 /// Silent steps and moves by the positions that they start from.
-struct Steps {
+struct Grouped {
     silent: Vec<Vec<[u16; 3]>>,
     moves: Vec<Vec<[u16; 2]>>,
 }
 
-fn group(compiled: &Compiled) -> Steps {
+fn group(compiled: &Compiled) -> Grouped {
     let mut silent = vec![Vec::new(); compiled.positions];
     let mut moves = vec![Vec::new(); compiled.positions];
     for &[kind, from, to, arg] in &compiled.steps {
@@ -21,7 +21,7 @@ fn group(compiled: &Compiled) -> Steps {
             moves[usize::from(from)].push([arg, to]);
         }
     }
-    Steps { silent, moves }
+    Grouped { silent, moves }
 }
 
 /// A set of positions: a mark for each, and those that are marked.
@@ -50,7 +50,7 @@ impl Positions {
     }
 
     /// Adds what silent steps reach, breadth first.
-    fn close(&mut self, steps: &Steps, values: &Values) {
+    fn close(&mut self, steps: &Grouped, values: &Values) {
         let mut done = 0;
         while done < self.marked.len() {
             for &[kind, to, arg] in &steps.silent[usize::from(self.marked[done])] {
@@ -69,7 +69,7 @@ impl Positions {
     }
 
     /// Where move m leads from the positions of `before`.
-    fn advance(&mut self, before: &Positions, steps: &Steps, m: u16) {
+    fn advance(&mut self, before: &Positions, steps: &Grouped, m: u16) {
         self.clear();
         for &p in &before.marked {
             for &[arg, to] in &steps.moves[usize::from(p)] {

@@ -1,6 +1,6 @@
 //! Sections 1 to 3: reading, compiling, and checking lists of moves.
 
-use crate::jobs::plan_in_turn;
+use crate::inputs::plan_in_turn;
 use crate::print::{self, micros, ratio};
 use crate::timing::{self, Budget};
 use crate::{accepted, position_sets};

@@ -1,7 +1,7 @@
 //! Programs with exactly as many positions or steps as are allowed, and one more or less.
 
-use super::program::{any, nil, test, then, Row};
 use super::programs::Sketch;
+use crate::generator::program::{any, nil, test, then, Row};
 use crate::second::compiler::{MOST_POSITIONS, MOST_STEPS};
 use crate::second::job::MOST_ROWS;
 

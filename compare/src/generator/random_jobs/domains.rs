@@ -1,6 +1,6 @@
 //! Random facts, formulas and moves.
 
-use super::random::Random;
+use crate::generator::random::Random;
 use crate::second::job::{Job, Move};
 
 /// A job with random facts, formulas and moves, and with no program yet.

@@ -1,8 +1,8 @@
 //! Random programs.
 
 use super::domains::open_formula;
-use super::program::{any, branch, either, make, nil, repeat_while, star, test, then, Program, Row};
-use super::random::Random;
+use crate::generator::program::{any, branch, either, make, nil, repeat_while, star, test, then, Program, Row};
+use crate::generator::random::Random;
 use crate::second::compiler::Size;
 use crate::second::job::{Job, MOST_ROWS};
 
@@ -15,7 +15,7 @@ pub struct Sketch<'a> {
 
 /// How a program is built.
 #[derive(Clone, Copy)]
-enum Style {
+enum ProgramStyle {
     Mixed,
     Staged,
     Loops,
@@ -29,25 +29,25 @@ enum Style {
 /// A random program for a job.
 pub fn random_program(random: &mut Random, job: &Job) -> Vec<Row> {
     let style = random.weighted(&[
-        (430, Style::Mixed),
-        (330, Style::Staged),
-        (100, Style::Loops),
-        (70, Style::AnyStar),
-        (30, Style::Free),
-        (10, Style::Doubling),
-        (15, Style::AtPositions),
-        (15, Style::AtSteps),
+        (430, ProgramStyle::Mixed),
+        (330, ProgramStyle::Staged),
+        (100, ProgramStyle::Loops),
+        (70, ProgramStyle::AnyStar),
+        (30, ProgramStyle::Free),
+        (10, ProgramStyle::Doubling),
+        (15, ProgramStyle::AtPositions),
+        (15, ProgramStyle::AtSteps),
     ]);
     let mut sketch = Sketch { random, job, program: Program::new(job.moves.len()) };
     match style {
-        Style::Mixed => sketch.mixed(job.facts),
-        Style::Staged => sketch.staged(),
-        Style::Loops => sketch.loops(),
-        Style::AnyStar => sketch.any_star(),
-        Style::Free => sketch.free(),
-        Style::Doubling => sketch.doubling(),
-        Style::AtPositions => sketch.at_position_limit(),
-        Style::AtSteps => sketch.at_step_limit(),
+        ProgramStyle::Mixed => sketch.mixed(job.facts),
+        ProgramStyle::Staged => sketch.staged(),
+        ProgramStyle::Loops => sketch.loops(),
+        ProgramStyle::AnyStar => sketch.any_star(),
+        ProgramStyle::Free => sketch.free(),
+        ProgramStyle::Doubling => sketch.doubling(),
+        ProgramStyle::AtPositions => sketch.at_position_limit(),
+        ProgramStyle::AtSteps => sketch.at_step_limit(),
     }
     sketch.program.rows
 }

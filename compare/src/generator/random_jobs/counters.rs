@@ -1,9 +1,9 @@
 //! Domains in which every state has to be passed: the facts are the digits of a binary number, and moves add one to it.
 
 use super::domains::random_move;
-use super::jobs::job_of;
-use super::moves::increments;
-use super::random::Random;
+use crate::generator::jobs::job_of;
+use crate::generator::moves::increments;
+use crate::generator::random::Random;
 use crate::second::job::Job;
 
 /// A counter of some facts, perhaps with a few random moves beside, and with no program yet.

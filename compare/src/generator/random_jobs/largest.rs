@@ -1,8 +1,8 @@
 //! Jobs of the greatest size: 12 facts and 256 positions, so that the cost table has 1,048,576 numbers.
 
-use super::jobs::{job_of, two_counters};
-use super::random::Random;
-use super::{moves, shapes};
+use crate::generator::jobs::{job_of, two_counters};
+use crate::generator::random::Random;
+use crate::generator::{moves, shapes};
 use crate::second::compiler::MOST_POSITIONS;
 use crate::second::job::{Job, MOST_FACTS};
 
