@@ -1,6 +1,6 @@
 //! The edges of document 01.
 
-use jesmovit_compare::answer::{Answer, COSTS, NONE};
+use jesmovit_compare::answer::{Answer, COSTS, LEAST, MISSED, NONE, PLAN, UNFINISHED};
 use jesmovit_compare::comparison::operation::Operation;
 use jesmovit_compare::second::costs::UNREACHED;
 
@@ -16,7 +16,10 @@ fn twelve_facts() {
     worked.table.resize(12288, UNREACHED);
     let read = ask(Operation::ReadJob, worked.job.as_bytes(), b"", 0, 0);
     assert_eq!(read.answer, Answer::accepted([12, 4, 2, 2, 3]));
+    worked.checks_moves(&[0, 1], [PLAN, 25]);
+    worked.checks_steps(&[0, 1], [PLAN, 25]);
     worked.costs([COSTS, 25]);
+    worked.judges(&[0, 1], [LEAST, 25, 25]);
     all_refuse(worked.job.replace("facts=12", "facts=13").as_bytes(), 2, 2);
 }
 
@@ -38,7 +41,10 @@ fn positions() {
     let list = (0..255).flat_map(|from| [3, from, from + 1, 0]).collect();
     let worked = Worked { job: with_rows(&rows), positions: 256, list, table };
     worked.compiles();
+    worked.checks_moves(&[0; 255], [MISSED, 0]);
+    worked.checks_steps(&(0..255).collect::<Vec<u16>>(), [MISSED, 0]);
     worked.costs([NONE, 0]);
+    worked.judges(&[0; 254], [UNFINISHED, 0, 0]);
     rows.push("p=4,14,0,0\n".to_string());
     all_refuse(with_rows(&rows).as_bytes(), 4, 15 + 16);
 }
@@ -50,7 +56,10 @@ fn steps() {
     let list = (0..16).flat_map(|from| (0..64).flat_map(move |index| [3, from, from + 1, index])).collect();
     let worked = Worked { job: format!("{domain}program=5\n{anys}"), positions: 17, list, table: vec![0; 17] };
     worked.compiles();
+    worked.checks_moves(&[63; 16], [PLAN, 0]);
+    worked.checks_steps(&(0..16).map(|round| 64 * round + 63).collect::<Vec<u16>>(), [PLAN, 0]);
     worked.costs([COSTS, 0]);
+    worked.judges(&[63; 16], [LEAST, 0, 0]);
     let one_more = format!("{domain}program=7\n{anys}p=1,0,0,0\np=4,4,5,0\n");
     all_refuse(one_more.as_bytes(), 4, 6 + 64 + 2 + 7);
 }

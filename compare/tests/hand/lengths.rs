@@ -5,7 +5,7 @@ use jesmovit_compare::answer::{BLOCKED, COSTS, LEAST, PLAN};
 use jesmovit_compare::comparison::operation::Operation;
 
 use crate::both::refused;
-use crate::sample::{plan, sample, sample_text};
+use crate::sample::{sample, sample_text};
 
 #[test]
 fn compile() {
@@ -14,14 +14,14 @@ fn compile() {
 
 #[test]
 fn check_moves() {
-    sample().checks_moves(&plan("m", &[0, 1]), [PLAN, 25]);
-    sample().checks_moves(&plan("m", &[1, 0]), [BLOCKED, 0]);
+    sample().checks_moves(&[0, 1], [PLAN, 25]);
+    sample().checks_moves(&[1], [BLOCKED, 0]);
 }
 
 #[test]
 fn check_steps() {
-    sample().checks_steps(&plan("t", &[0, 1]), [PLAN, 25]);
-    sample().checks_steps(&plan("t", &[1, 0]), [BLOCKED, 0]);
+    sample().checks_steps(&[0, 1], [PLAN, 25]);
+    sample().checks_steps(&[1, 0], [BLOCKED, 0]);
 }
 
 #[test]
@@ -31,14 +31,13 @@ fn least_cost() {
 
 #[test]
 fn judge() {
-    sample().judges(&plan("m", &[0, 1]), [LEAST, 25, 25]);
-    sample().judges(&plan("m", &[1, 0]), [BLOCKED, 0, 0]);
+    sample().judges(&[0, 1], [LEAST, 25, 25]);
+    sample().judges(&[1], [BLOCKED, 0, 0]);
 }
 
 #[test]
 fn a_bad_plan_comes_before_every_length() {
-    let (moves, steps) = (plan("m", &[0, 2]), plan("t", &[0, 2]));
-    refused(Operation::CheckMoves, sample_text().as_bytes(), moves.as_bytes(), 5, 3);
-    refused(Operation::CheckSteps, sample_text().as_bytes(), steps.as_bytes(), 5, 3);
-    refused(Operation::Judge, sample_text().as_bytes(), moves.as_bytes(), 5, 3);
+    refused(Operation::CheckMoves, sample_text().as_bytes(), b"plan=2\nm=0\nm=2\n", 5, 3);
+    refused(Operation::CheckSteps, sample_text().as_bytes(), b"plan=2\nt=0\nt=2\n", 5, 3);
+    refused(Operation::Judge, sample_text().as_bytes(), b"plan=2\nm=0\nm=2\n", 5, 3);
 }

@@ -2,6 +2,7 @@
 
 use jesmovit_compare::answer::{BLOCKED, COSTS, DEARER, LEAST, MISSED, NONE, PLAN, UNFINISHED};
 use jesmovit_compare::comparison::operation::Operation;
+use jesmovit_compare::generator::writer::plan_text;
 use jesmovit_compare::second::compiler::compile_with;
 use jesmovit_compare::second::domain::Domain;
 use jesmovit_compare::second::fault::Fault;
@@ -10,21 +11,21 @@ use jesmovit_compare::second::steps::Steps;
 use jesmovit_compare::second::verdict::Verdict;
 
 use crate::both::ask;
-use crate::sample::{nil_at_goal, one_move, plan, sample, sample_with, star_of_or, star_of_while};
+use crate::sample::{nil_at_goal, one_move, sample, sample_with, star_of_or, star_of_while};
 use crate::worked::Worked;
 
 /// Moves that are a plan of this cost, where the least cost is as given.
 fn is_plan(job: &Worked, moves: &[u16], cost: u64, least: u64) {
     job.compiles();
-    job.checks_moves(&plan("m", moves), [PLAN, cost]);
-    job.judges(&plan("m", moves), [if cost == least { LEAST } else { DEARER }, cost, least]);
+    job.checks_moves(moves, [PLAN, cost]);
+    job.judges(moves, [if cost == least { LEAST } else { DEARER }, cost, least]);
     job.costs([COSTS, least]);
 }
 
 /// Moves that are no plan.
 fn is_no_plan(job: &Worked, moves: &[u16], [number, value]: [u64; 2]) {
-    job.checks_moves(&plan("m", moves), [number, value]);
-    job.judges(&plan("m", moves), [number, value, 0]);
+    job.checks_moves(moves, [number, value]);
+    job.judges(moves, [number, value, 0]);
 }
 
 #[test]
@@ -84,7 +85,7 @@ fn case_10_empty_plan() {
 #[test]
 fn step_lists_get_no_step_added() {
     let through = [6, 2, 0, 4, 7, 6, 3, 1, 5, 7, 8];
-    let said = |steps: &[u16], verdict| star_of_or().checks_steps(&plan("t", steps), verdict);
+    let said = |steps: &[u16], verdict| star_of_or().checks_steps(steps, verdict);
     said(&through, [PLAN, 25]);
     said(&through[..10], [UNFINISHED, 0]);
     said(&[8], [MISSED, 0]);
@@ -104,7 +105,7 @@ fn case_8_with_the_faulty_star() {
 
 /// What the judge says of a list of moves, with room enough.
 fn judged(job: &str, moves: &[u16]) -> [u64; 3] {
-    let asked = ask(Operation::Judge, job.as_bytes(), plan("m", moves).as_bytes(), 4096, 12288);
+    let asked = ask(Operation::Judge, job.as_bytes(), &plan_text("m", moves), 4096, 12288);
     assert_eq!(asked.answer.number, 0);
     let [_, _, number, value, least] = asked.answer.values;
     [number, value, least]

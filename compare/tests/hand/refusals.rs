@@ -4,7 +4,7 @@ use jesmovit_compare::answer::{Answer, UNFINISHED};
 use jesmovit_compare::comparison::operation::Operation::{self, *};
 
 use crate::both::{all_refuse, ask, refused};
-use crate::sample::{plan, sample, sample_text, sample_with};
+use crate::sample::{sample, sample_text, sample_with};
 
 /// The sample with one line changed is refused so.
 fn changed(from: &str, to: &str, number: u32, place: u64) {
@@ -96,8 +96,8 @@ fn plans() {
         bad_plan(operation, "plan=0\nm=0\n", 2);
         bad_plan(operation, "plan=0", 1);
     }
-    sample().checks_moves(&plan("m", &[0]), [UNFINISHED, 0]);
-    sample().checks_steps(&plan("t", &[0]), [UNFINISHED, 0]);
+    sample().checks_moves(&[0], [UNFINISHED, 0]);
+    sample().checks_steps(&[0], [UNFINISHED, 0]);
 }
 
 #[test]
@@ -107,5 +107,5 @@ fn the_first_bad_line_decides() {
     all_refuse(job.as_bytes(), 1, 2);
     // Line 14 is wrong, and the plan too.
     let job = sample_text().replace("goal=1", "goal=4");
-    refused(Judge, job.as_bytes(), plan("m", &[2]).as_bytes(), 3, 14);
+    refused(Judge, job.as_bytes(), b"plan=1\nm=2\n", 3, 14);
 }

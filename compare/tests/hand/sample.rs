@@ -95,9 +95,3 @@ pub fn nil_at_goal() -> Worked {
         table: vec![X, X, 0, 0, X, X, X, X],
     }
 }
-
-/// A plan text.
-pub fn plan(key: &str, entries: &[u16]) -> String {
-    let lines: String = entries.iter().map(|entry| format!("{key}={entry}\n")).collect();
-    format!("plan={}\n{lines}", entries.len())
-}
