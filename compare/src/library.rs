@@ -56,7 +56,8 @@ fn answered(call: impl FnOnce(*mut u64) -> u32) -> Answer {
     Answer { number, values }
 }
 
-// In each call below, pointers and lengths are those of slices: never null, aligned, and none that is written overlaps another.
+// In each call below, pointers and lengths are those of slices: never null, aligned, and what is written overlaps
+// nothing else.
 
 pub fn read_job(job: &[u8]) -> Answer {
     answered(|answer| unsafe { jesmovit_read_job(job.as_ptr(), job.len(), answer) })

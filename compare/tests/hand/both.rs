@@ -1,64 +1,71 @@
-//! Asks the second implementation and the library the same, and gives the answer that both give.
+//! Asks the library and the second implementation the same, and gives what both answer and leave.
 
-use second::answer::{Answer, Expected};
-use second::fault::Fault;
-use second::library;
+use jesmovit_compare::answer::Answer;
+use jesmovit_compare::cases::Case;
+use jesmovit_compare::comparison::operation::{Operation, OPERATIONS};
+use jesmovit_compare::second::expected::Expected;
+use jesmovit_compare::second::fault::Fault;
 
-pub fn refused(number: u32, place: u64) -> Answer {
-    Answer { number, values: [place, 0, 0, 0, 0] }
+/// What every number of a list or table is before a call.
+const SEVEN: u8 = 7;
+
+/// How many numbers stand behind a list or table that is handed in.
+const GUARDS: usize = 3;
+
+/// What a call answered, and what list and table hold afterwards, with the numbers behind them.
+#[derive(Debug, PartialEq)]
+pub struct Asked {
+    pub answer: Answer,
+    list: Vec<u16>,
+    table: Vec<u32>,
 }
 
-pub fn answered(values: [u64; 5]) -> Answer {
-    Answer { number: 0, values }
+impl Asked {
+    /// Demands that list and table start with these numbers and hold sevens behind them.
+    pub fn holds(&self, list: &[u16], table: &[u32]) {
+        assert_eq!(self.list, sevens_behind(list, self.list.len()));
+        assert_eq!(self.table, sevens_behind(table, self.table.len()));
+    }
 }
 
-pub fn read_job(job: &[u8]) -> Answer {
-    same(Expected::of(job, b"", b"", Fault::None).read_job(), library::read_job(job))
+fn sevens_behind<T: Copy + From<u8>>(front: &[T], length: usize) -> Vec<T> {
+    let mut numbers = front.to_vec();
+    numbers.resize(length, SEVEN.into());
+    numbers
 }
 
-pub fn compile(job: &str, list: &mut [u16]) -> Answer {
-    let mut other = list.to_vec();
-    let second = Expected::of(job.as_bytes(), b"", b"", Fault::None).compile(&mut other);
-    let library = library::compile(job.as_bytes(), list);
-    assert_eq!(other, list);
-    same(second, library)
+/// Asks both with a list and a table of these lengths.
+pub fn ask(operation: Operation, job: &[u8], plan: &[u8], list: usize, table: usize) -> Asked {
+    let case = Case { job: job.to_vec(), moves: plan.to_vec(), steps: plan.to_vec() };
+    let expected = Expected::of(job, plan, plan, Fault::None);
+    let asked = |call: &dyn Fn(&mut [u16], &mut [u32]) -> Answer| {
+        let mut lists = sevens_behind(&[], list + GUARDS);
+        let mut tables = sevens_behind(&[], table + GUARDS);
+        let answer = call(&mut lists[..list], &mut tables[..table]);
+        Asked { answer, list: lists, table: tables }
+    };
+    let library = asked(&|list, table| operation.ask_library(&case, list, table));
+    let second = asked(&|list, table| operation.ask_second(&expected, list, table));
+    assert_eq!(library, second, "{operation:?}, lists of {list}, tables of {table}");
+    library
 }
 
-pub fn check_moves(job: &str, plan: &str) -> Answer {
-    let (mut list, mut other) = (vec![7; 4096], vec![7; 4096]);
-    let second = Expected::of(job.as_bytes(), plan.as_bytes(), b"", Fault::None).check_moves(&mut other);
-    let library = library::check_moves(job.as_bytes(), plan.as_bytes(), &mut list);
-    assert_eq!(other, list);
-    same(second, library)
+/// Demands a refusal that leaves list and table as they were, whatever their lengths.
+pub fn refused(operation: Operation, job: &[u8], plan: &[u8], number: u32, place: u64) {
+    for (list, table) in [(0, 0), (7, 11), (7, 12), (8, 11), (8, 12), (9, 13), (4096, 12288)] {
+        let asked = ask(operation, job, plan, list, table);
+        assert_eq!(asked.answer, Answer::refused(number, place), "{operation:?}");
+        asked.holds(&[], &[]);
+    }
 }
 
-pub fn check_steps(job: &str, plan: &str) -> Answer {
-    let (mut list, mut other) = (vec![7; 4096], vec![7; 4096]);
-    let second = Expected::of(job.as_bytes(), b"", plan.as_bytes(), Fault::None).check_steps(&mut other);
-    let library = library::check_steps(job.as_bytes(), plan.as_bytes(), &mut list);
-    assert_eq!(other, list);
-    same(second, library)
-}
-
-pub fn least_cost(job: &str, list: &mut [u16], table: &mut [u32]) -> Answer {
-    let (mut other_list, mut other_table) = (list.to_vec(), table.to_vec());
-    let expected = Expected::of(job.as_bytes(), b"", b"", Fault::None);
-    let second = expected.least_cost(&mut other_list, &mut other_table);
-    let library = library::least_cost(job.as_bytes(), list, table);
-    assert_eq!((&other_list[..], &other_table[..]), (&list[..], &table[..]));
-    same(second, library)
-}
-
-pub fn judge(job: &str, plan: &str, list: &mut [u16], table: &mut [u32]) -> Answer {
-    let (mut other_list, mut other_table) = (list.to_vec(), table.to_vec());
-    let expected = Expected::of(job.as_bytes(), plan.as_bytes(), b"", Fault::None);
-    let second = expected.judge(&mut other_list, &mut other_table);
-    let library = library::judge(job.as_bytes(), plan.as_bytes(), list, table);
-    assert_eq!((&other_list[..], &other_table[..]), (&list[..], &table[..]));
-    same(second, library)
-}
-
-fn same(second: Answer, library: Answer) -> Answer {
-    assert_eq!(second, library);
-    second
+/// Demands that every operation that looks for this reason refuses the job text so.
+pub fn all_refuse(job: &[u8], number: u32, place: u64) {
+    for operation in OPERATIONS {
+        if operation == Operation::ReadJob && number > 3 {
+            assert_eq!(ask(operation, job, b"", 0, 0).answer.number, 0);
+        } else {
+            refused(operation, job, b"plan=0\n", number, place);
+        }
+    }
 }

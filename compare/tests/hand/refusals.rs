@@ -1,20 +1,21 @@
-//! The refusal table, the order of refusals, and the edges.
+//! The refusal table, and the order of refusals.
 
-use second::answer::{COSTS, UNFINISHED};
+use jesmovit_compare::answer::{Answer, UNFINISHED};
+use jesmovit_compare::comparison::operation::Operation::{self, *};
 
-use crate::both::{answered, check_moves, check_steps, compile, judge, least_cost, read_job, refused};
-use crate::sample::{plan, sample, sample_with};
+use crate::both::{all_refuse, ask, refused};
+use crate::sample::{sample, sample_text, sample_with};
 
-/// The sample with one line changed is refused so when it is read.
+/// The sample with one line changed is refused so.
 fn changed(from: &str, to: &str, number: u32, place: u64) {
-    let job = sample();
+    let job = sample_text();
     assert!(job.contains(from));
-    assert_eq!(read_job(job.replacen(from, to, 1).as_bytes()), refused(number, place), "{from:?} to {to:?}");
+    all_refuse(job.replacen(from, to, 1).as_bytes(), number, place);
 }
 
 #[test]
 fn the_sample_reads() {
-    assert_eq!(read_job(sample().as_bytes()), answered([2, 4, 2, 2, 3]));
+    assert_eq!(ask(ReadJob, sample_text().as_bytes(), b"", 0, 0).answer, Answer::accepted([2, 4, 2, 2, 3]));
 }
 
 #[test]
@@ -24,11 +25,12 @@ fn examples_of_the_table() {
     changed("goal=1", "goal=4", 3, 14);
     let rows: String = (0..8).map(|row| format!("p=4,{row},{row},0\n")).collect();
     let job = sample_with(&format!("program=9\np=1,0,0,0\n{rows}"));
-    assert_eq!(read_job(job.as_bytes()).number, 0);
-    assert_eq!(compile(&job, &mut []), refused(4, 24));
-    assert_eq!(check_moves(&sample(), &plan("m", &[2])), refused(5, 2));
-    assert_eq!(least_cost(&sample(), &mut [0; 8], &mut [0; 11]), refused(6, 12));
-    assert_eq!(least_cost(&sample(), &mut [0; 7], &mut [0; 11]), refused(6, 8));
+    all_refuse(job.as_bytes(), 4, 24);
+    refused(CheckMoves, sample_text().as_bytes(), b"plan=1\nm=2\n", 5, 2);
+    refused(Judge, sample_text().as_bytes(), b"plan=1\nm=2\n", 5, 2);
+    let short = ask(LeastCost, sample_text().as_bytes(), b"", 8, 11);
+    assert_eq!(short.answer, Answer::refused(6, 12));
+    short.holds(&[], &[]);
 }
 
 #[test]
@@ -46,9 +48,9 @@ fn wrong_forms() {
     changed("p=4,0,1,0\n", "p=4,0,1,0\n\n", 1, 19);
     changed("p=4,0,1,0\n", "p=4,0,1,0", 1, 18);
     changed("p=4,0,1,0\n", "", 1, 18);
-    assert_eq!(read_job(b""), refused(1, 1));
-    assert_eq!(read_job(b"\n"), refused(1, 1));
-    assert_eq!(read_job(b"job=1\n"), refused(1, 2));
+    all_refuse(b"", 1, 1);
+    all_refuse(b"\n", 1, 1);
+    all_refuse(b"job=1\n", 1, 2);
 }
 
 #[test]
@@ -74,65 +76,36 @@ fn counts_and_fields() {
     changed("p=4,0,1,0", "p=9,0,0,0", 3, 18);
 }
 
+/// An operation refuses this plan text for the sample by 5.
+fn bad_plan(operation: Operation, plan: &str, place: u64) {
+    refused(operation, sample_text().as_bytes(), plan.as_bytes(), 5, place);
+}
+
 #[test]
 fn plans() {
-    let said = |text: &str| check_moves(&sample(), text);
-    assert_eq!(said(""), refused(5, 1));
-    assert_eq!(said("plan=4001\n"), refused(5, 1));
-    assert_eq!(said("plan=4000\n"), refused(5, 2));
-    assert_eq!(said("plan=0\nm=0\n"), refused(5, 2));
-    assert_eq!(said("plan=0"), refused(5, 1));
-    assert_eq!(said("plan=1\nt=0\n"), refused(5, 2));
-    assert_eq!(said("plan=1\nm=0\n"), answered([UNFINISHED, 0, 0, 0, 0]));
-    assert_eq!(check_steps(&sample(), "plan=1\nm=0\n"), refused(5, 2));
-    assert_eq!(check_steps(&sample(), "plan=1\nt=2\n"), refused(5, 2));
-    assert_eq!(check_steps(&sample(), "plan=1\nt=0\n"), answered([UNFINISHED, 0, 0, 0, 0]));
+    for operation in [CheckMoves, Judge] {
+        bad_plan(operation, "plan=1\nt=0\n", 2);
+        bad_plan(operation, "plan=1\nm=2\n", 2);
+    }
+    bad_plan(CheckSteps, "plan=1\nm=0\n", 2);
+    bad_plan(CheckSteps, "plan=1\nt=2\n", 2);
+    for operation in [CheckMoves, CheckSteps, Judge] {
+        bad_plan(operation, "", 1);
+        bad_plan(operation, "plan=4001\n", 1);
+        bad_plan(operation, "plan=4000\n", 2);
+        bad_plan(operation, "plan=0\nm=0\n", 2);
+        bad_plan(operation, "plan=0", 1);
+    }
+    sample().checks_moves(&[0], [UNFINISHED, 0]);
+    sample().checks_steps(&[0], [UNFINISHED, 0]);
 }
 
 #[test]
-fn later_reasons_wait() {
-    let bad_plan = plan("m", &[2]);
-    assert_eq!(judge(&sample(), &bad_plan, &mut [], &mut []), refused(5, 2));
-    assert_eq!(judge(&sample(), &plan("m", &[1]), &mut [0; 8], &mut []), refused(6, 12));
-    assert_eq!(judge(&sample(), &plan("m", &[1]), &mut [0; 7], &mut []), refused(6, 8));
-    let bad_job = sample().replace("goal=1", "goal=4");
-    assert_eq!(judge(&bad_job, &bad_plan, &mut [], &mut []), refused(3, 14));
-}
-
-#[test]
-fn twelve_facts() {
-    assert_eq!(read_job(sample().replace("facts=2", "facts=12").as_bytes()), answered([12, 4, 2, 2, 3]));
-    let job = sample().replace("facts=2", "facts=12");
-    assert_eq!(least_cost(&job, &mut [0; 8], &mut vec![0; 12288]), answered([COSTS, 25, 0, 0, 0]));
-    assert_eq!(least_cost(&job, &mut [0; 8], &mut vec![0; 12287]), refused(6, 12288));
-}
-
-#[test]
-fn positions_at_the_limit() {
-    // 128 moves by doubling, then 64, 32, ..., 1: 255 in all.
-    let mut lines = vec!["p=1,0,0,0\n".to_string()];
-    lines.extend((0..7).map(|row| format!("p=4,{row},{row},0\n")));
-    lines.extend((0..7).map(|row| format!("p=4,{},{row},0\n", 7 + row)));
-    let program = |lines: &[String]| sample_with(&format!("program={}\n{}", lines.len(), lines.concat()));
-    assert_eq!(compile(&program(&lines), &mut [0; 1020]), answered([256, 255, 0, 0, 0]));
-    lines.push("p=4,14,0,0\n".to_string());
-    assert_eq!(compile(&program(&lines), &mut [0; 4096]), refused(4, 15 + 16));
-}
-
-#[test]
-fn steps_at_the_limit() {
-    let domain = format!("job=1\nfacts=0\ninit=0\nformulas=1\nf=1,0,0\nmoves=64\n{}goal=0\n", "m=0,0,0\n".repeat(64));
-    let anys = "p=2,0,0,0\np=4,0,0,0\np=4,1,1,0\np=4,2,2,0\np=4,3,3,0\n";
-    let job = format!("{domain}program=5\n{anys}");
-    assert_eq!(compile(&job, &mut [0; 4096]), answered([17, 1024, 0, 0, 0]));
-    assert_eq!(compile(&job, &mut [0; 4095]), refused(6, 4096));
-    let job = format!("{domain}program=7\n{anys}p=1,0,0,0\np=4,4,5,0\n");
-    assert_eq!(compile(&job, &mut [0; 4096]), refused(4, 6 + 64 + 2 + 7));
-}
-
-#[test]
-fn doubled_rows_are_refused_at_once() {
-    let rows: String = (0..127).map(|row| format!("p=4,{row},{row},0\n")).collect();
-    let job = sample_with(&format!("program=128\np=1,0,0,0\n{rows}"));
-    assert_eq!(compile(&job, &mut [0; 4096]), refused(4, 15 + 128));
+fn the_first_bad_line_decides() {
+    // Line 2 is of wrong form, line 3 outside its range.
+    let job = sample_text().replace("facts=2", "facts=02").replace("init=0", "init=9");
+    all_refuse(job.as_bytes(), 1, 2);
+    // Line 14 is wrong, and the plan too.
+    let job = sample_text().replace("goal=1", "goal=4");
+    refused(Judge, job.as_bytes(), b"plan=1\nm=2\n", 3, 14);
 }

@@ -1,31 +1,97 @@
-//! The sample of document 01, and texts made from it.
+//! The sample of document 01 and jobs made from it, worked out by hand.
+
+use jesmovit_compare::second::costs::UNREACHED;
+
+use crate::worked::Worked;
+
+const X: u32 = UNREACHED;
 
 /// The sample's lines up to its goal.
 const DOMAIN: &str = "job=1\nfacts=2\ninit=0\nformulas=4\nf=1,0,0\nf=2,0,0\nf=2,1,0\nf=3,1,0\n\
                       moves=2\nm=0,3,1\ne=0,1,1\nm=2,1,1\ne=0,0,1\ngoal=1\n";
 
-/// The sample with another program.
+/// The sample's text with another program.
 pub fn sample_with(program: &str) -> String {
     format!("{DOMAIN}{program}")
 }
 
-/// The sample; its 18 lines are job, facts, init, formulas, 4 f, moves, m, e, m, e, goal, program, 3 p.
-pub fn sample() -> String {
+/// The sample's text; its 18 lines are job, facts, init, formulas, 4 f, moves, m, e, m, e, goal, program, 3 p.
+pub fn sample_text() -> String {
     sample_with("program=3\np=1,0,0,0\np=1,1,0,0\np=4,0,1,0\n")
 }
 
-/// The sample with the program star of (0 or 1).
-pub fn star_of_or() -> String {
-    sample_with("program=4\np=1,0,0,0\np=1,1,0,0\np=6,0,1,0\np=8,2,0,0\n")
+/// The sample. Move 0 leads from state 0 to state 2 at 20, move 1 from there to state 3 at 5.
+#[rustfmt::skip]
+pub fn sample() -> Worked {
+    Worked {
+        job: sample_text(),
+        positions: 3,
+        list: vec![3, 0, 1, 0, 3, 1, 2, 1],
+        table: vec![
+            0, X, X,
+            X, X, X,
+            X, 20, X,
+            X, X, 25,
+        ],
+    }
 }
 
-/// The sample with the program star of (while formula 3 do 0).
-pub fn star_of_while() -> String {
-    sample_with("program=3\np=1,0,0,0\np=7,3,0,0\np=8,1,0,0\n")
+/// The sample with the program star of (0 or 1). In state 3 position 3 is reached by move 0 once more.
+#[rustfmt::skip]
+pub fn star_of_or() -> Worked {
+    Worked {
+        job: sample_with("program=4\np=1,0,0,0\np=1,1,0,0\np=6,0,1,0\np=8,2,0,0\n"),
+        positions: 8,
+        list: [
+            [3, 2, 3, 0], [3, 4, 5, 1], [0, 1, 2, 0], [0, 1, 4, 0], [0, 3, 6, 0], [0, 5, 6, 0],
+            [0, 0, 1, 0], [0, 6, 0, 0], [0, 0, 7, 0],
+        ].concat(),
+        table: vec![
+            0, 0, 0, X, 0, X, X, 0,
+            X, X, X, X, X, X, X, X,
+            20, 20, 20, 20, 20, X, 20, 20,
+            25, 25, 25, 45, 25, 25, 25, 25,
+        ],
+    }
 }
 
-/// A plan text.
-pub fn plan(key: &str, entries: &[u16]) -> String {
-    let lines: String = entries.iter().map(|entry| format!("{key}={entry}\n")).collect();
-    format!("plan={}\n{lines}", entries.len())
+/// The sample with the program star of (while formula 3 do 0). Fact 0 stays false, so the while is never left.
+#[rustfmt::skip]
+pub fn star_of_while() -> Worked {
+    Worked {
+        job: sample_with("program=3\np=1,0,0,0\np=7,3,0,0\np=8,1,0,0\n"),
+        positions: 6,
+        list: [
+            [3, 2, 3, 0], [1, 1, 2, 3], [2, 1, 4, 3], [0, 3, 1, 0],
+            [0, 0, 1, 0], [0, 4, 0, 0], [0, 0, 5, 0],
+        ].concat(),
+        table: vec![
+            0, 0, 0, X, X, 0,
+            X, X, X, X, X, X,
+            X, 20, 20, 20, X, X,
+            X, X, X, X, X, X,
+        ],
+    }
+}
+
+/// One fact, false at first and true at the goal, and one move of class 1 with these effects, which is the program.
+pub fn one_move(effects: &str) -> Worked {
+    Worked {
+        job: format!(
+            "job=1\nfacts=1\ninit=0\nformulas=2\nf=1,0,0\nf=2,0,0\nmoves=1\nm=0,1,2\n{effects}goal=1\nprogram=1\np=1,0,0,0\n"
+        ),
+        positions: 2,
+        list: vec![3, 0, 1, 0],
+        table: vec![0, X, X, 5],
+    }
+}
+
+/// The sample with init=1 and the program nil.
+pub fn nil_at_goal() -> Worked {
+    Worked {
+        job: sample_with("program=1\np=0,0,0,0\n").replace("init=0", "init=1"),
+        positions: 2,
+        list: vec![0, 0, 1, 0],
+        table: vec![X, X, 0, 0, X, X, X, X],
+    }
 }

@@ -1,0 +1,49 @@
+//! Random cases.
+//!
+//! The mix: jobs come from the generator; 7 of 10 goals are replaced by ones that some complete run reaches. Plans are
+//! walks, walks that are cut, continued or changed, and random lists (`plans`, `walks`). Of each sort of text 23 in 100
+//! are damaged (`damage`, `fields`); a damaged text may still be a right one. `edges` says which limits a case meets.
+
+mod damage;
+pub mod edges;
+mod fields;
+mod plans;
+mod walks;
+
+use crate::generator::random::Random;
+use crate::generator::random_jobs::random_job;
+use crate::generator::writer::{job_text, plan_text};
+use crate::second::compiler::compile;
+use damage::damage;
+use plans::{random_plans, Plans};
+
+/// A job text, a text of moves and a text of steps.
+pub struct Case {
+    pub job: Vec<u8>,
+    pub moves: Vec<u8>,
+    pub steps: Vec<u8>,
+}
+
+impl Case {
+    pub fn random(random: &mut Random) -> Case {
+        let mut case = Case::undamaged(random);
+        for text in [&mut case.job, &mut case.moves, &mut case.steps] {
+            if random.chance(230) {
+                damage(random, text);
+            }
+        }
+        case
+    }
+
+    /// The plans are empty where the job doesn't compile.
+    fn undamaged(random: &mut Random) -> Case {
+        let mut job = random_job(random);
+        let plans = match compile(&job) {
+            Ok(compiled) => random_plans(random, &job, &compiled),
+            Err(_) => Plans { goal: job.goal, moves: Vec::new(), steps: Vec::new() },
+        };
+        job.goal = plans.goal;
+        let [move_key, step_key] = random.weighted(&[(98, ["m", "t"]), (1, ["t", "m"]), (1, ["m", "m"])]);
+        Case { job: job_text(&job), moves: plan_text(move_key, &plans.moves), steps: plan_text(step_key, &plans.steps) }
+    }
+}

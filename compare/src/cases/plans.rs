@@ -1,0 +1,147 @@
+//! Random plans: walks through the configurations, cut, continued or changed, and lists of random entries.
+
+use std::hash::Hash;
+
+use super::walks::Graph;
+use crate::generator::random::Random;
+use crate::second::compiler::Compiled;
+use crate::second::domain::Domain;
+use crate::second::fault::Fault;
+use crate::second::job::{Job, MOST_ENTRIES};
+use crate::second::residual::{Residual, NIL};
+use crate::second::runs::Runs;
+use crate::second::steps::Steps;
+
+/// A goal for a job, and the entries of a list of moves and of a list of steps.
+pub struct Plans {
+    pub goal: u16,
+    pub moves: Vec<u16>,
+    pub steps: Vec<u16>,
+}
+
+/// Random plans for a job that compiles; mostly for a goal that some complete run reaches.
+pub fn random_plans(random: &mut Random, job: &Job, compiled: &Compiled) -> Plans {
+    let domain = Domain::new(job, Fault::None);
+    let runs = run_graph(&domain);
+    let reached = if random.chance(700) { reached_goal(random, &domain, &runs) } else { None };
+    let goal = reached.unwrap_or(job.goal);
+    let is_goal = |state| domain.holds(goal, state);
+    let moves = random_plan(random, &runs, &is_goal, job.moves.len());
+    let steps = random_plan(random, &step_graph(&domain, compiled), &is_goal, compiled.steps.len());
+    Plans { goal, moves, steps }
+}
+
+/// A formula that holds where some run completes the program, and if possible not at first; none where no such run is
+/// met.
+fn reached_goal(random: &mut Random, domain: &Domain, runs: &Graph<Residual>) -> Option<u16> {
+    let ends = runs.end_states();
+    if ends.is_empty() {
+        return None;
+    }
+    let state = random.pick(&ends);
+    let job = domain.job;
+    let mut held: Vec<u16> = (0..job.formulas.len() as u16).filter(|formula| domain.holds(*formula, state)).collect();
+    if held.iter().any(|formula| !domain.holds(*formula, job.init)) {
+        held.retain(|formula| !domain.holds(*formula, job.init));
+    }
+    (!held.is_empty()).then(|| random.pick(&held))
+}
+
+/// The configurations of the program's runs.
+fn run_graph(domain: &Domain) -> Graph<Residual> {
+    let mut runs = Runs::new(domain, Fault::None);
+    let start = runs.start();
+    Graph::of(start, NIL, |from| runs.next(from))
+}
+
+/// The configurations of the compiled job.
+fn step_graph(domain: &Domain, compiled: &Compiled) -> Graph<u16> {
+    let steps = Steps::new(domain, compiled);
+    let next = |(state, position)| {
+        let made = |(number, step)| Some((Some(number), (steps.after(state, step)?, step[2])));
+        steps.from(position).filter_map(made).collect()
+    };
+    Graph::of((domain.job.init, 0), steps.last(), next)
+}
+
+/// How a plan is made.
+#[derive(Clone, Copy)]
+enum PlanStyle {
+    Complete,
+    Missed,
+    Cut,
+    Continued,
+    Changed,
+    Random,
+    Empty,
+    AtLimit,
+}
+
+/// A random plan whose entries are below a bound.
+fn random_plan<P: Copy + Eq + Hash>(
+    random: &mut Random,
+    graph: &Graph<P>,
+    is_goal: &impl Fn(u16) -> bool,
+    bound: usize,
+) -> Vec<u16> {
+    let style = random.weighted(&[
+        (450, PlanStyle::Complete),
+        (100, PlanStyle::Missed),
+        (100, PlanStyle::Cut),
+        (90, PlanStyle::Continued),
+        (90, PlanStyle::Changed),
+        (125, PlanStyle::Random),
+        (40, PlanStyle::Empty),
+        (5, PlanStyle::AtLimit),
+    ]);
+    let wander = random.ranged(&[(300, (0, 2)), (500, (3, 12)), (188, (12, 60)), (10, (60, 600)), (2, (600, 4000))]);
+    match style {
+        PlanStyle::Complete => graph.walk(random, is_goal, wander),
+        PlanStyle::Missed => graph.walk(random, |state| !is_goal(state), wander),
+        PlanStyle::Random => random_list(random, wander, bound),
+        PlanStyle::Empty => Vec::new(),
+        PlanStyle::AtLimit => at_limit(random, graph, is_goal, bound),
+        PlanStyle::Cut | PlanStyle::Continued | PlanStyle::Changed => {
+            let plan = graph.walk(random, |_| true, wander);
+            altered(random, plan, bound, style)
+        }
+    }
+}
+
+/// A walk that is cut short, continued, or has one entry changed.
+fn altered(random: &mut Random, mut plan: Vec<u16>, bound: usize, style: PlanStyle) -> Vec<u16> {
+    let place = random.below(plan.len() + 1);
+    match style {
+        PlanStyle::Cut => plan.truncate(place),
+        PlanStyle::Changed if place < plan.len() => plan[place] = random_entry(random, bound),
+        _ => {
+            let count = random.between(1, 3);
+            plan.extend(random_list(random, count, bound));
+        }
+    }
+    plan
+}
+
+/// A plan of as many entries as are allowed, or about as many.
+fn at_limit<P: Copy + Eq + Hash>(
+    random: &mut Random,
+    graph: &Graph<P>,
+    is_goal: &impl Fn(u16) -> bool,
+    bound: usize,
+) -> Vec<u16> {
+    let most = usize::from(MOST_ENTRIES);
+    let count = random.pick(&[most - 1, most, most, most + 1]);
+    let mut plan = if random.chance(700) { graph.walk(random, is_goal, count) } else { Vec::new() };
+    plan.truncate(count);
+    let missing = count - plan.len();
+    plan.extend(random_list(random, missing, bound));
+    plan
+}
+
+fn random_list(random: &mut Random, count: usize, bound: usize) -> Vec<u16> {
+    (0..count).map(|_| random_entry(random, bound)).collect()
+}
+
+fn random_entry(random: &mut Random, bound: usize) -> u16 {
+    random.below(bound.max(1)) as u16
+}

@@ -1,0 +1,74 @@
+//! The six operations, asked of the library and of the second implementation.
+
+use crate::answer::Answer;
+use crate::cases::Case;
+use crate::library;
+use crate::second::expected::Expected;
+
+#[derive(Clone, Copy, Debug, PartialEq, Eq, PartialOrd, Ord)]
+pub enum Operation {
+    ReadJob,
+    Compile,
+    CheckMoves,
+    CheckSteps,
+    LeastCost,
+    Judge,
+}
+
+use Operation::*;
+
+pub const OPERATIONS: [Operation; 6] = [ReadJob, Compile, CheckMoves, CheckSteps, LeastCost, Judge];
+
+impl Operation {
+    pub fn name(self) -> &'static str {
+        match self {
+            ReadJob => "read_job",
+            Compile => "compile",
+            CheckMoves => "check_moves",
+            CheckSteps => "check_steps",
+            LeastCost => "least_cost",
+            Judge => "judge",
+        }
+    }
+
+    pub fn takes_list(self) -> bool {
+        self != ReadJob
+    }
+
+    pub fn takes_table(self) -> bool {
+        matches!(self, LeastCost | Judge)
+    }
+
+    /// The plan text that the operation takes.
+    pub fn plan(self, case: &Case) -> Option<&[u8]> {
+        match self {
+            CheckMoves | Judge => Some(&case.moves),
+            CheckSteps => Some(&case.steps),
+            ReadJob | Compile | LeastCost => None,
+        }
+    }
+
+    /// What the library answers.
+    pub fn ask_library(self, case: &Case, list: &mut [u16], table: &mut [u32]) -> Answer {
+        match self {
+            ReadJob => library::read_job(&case.job),
+            Compile => library::compile(&case.job, list),
+            CheckMoves => library::check_moves(&case.job, &case.moves, list),
+            CheckSteps => library::check_steps(&case.job, &case.steps, list),
+            LeastCost => library::least_cost(&case.job, list, table),
+            Judge => library::judge(&case.job, &case.moves, list, table),
+        }
+    }
+
+    /// What the second implementation answers.
+    pub fn ask_second(self, expected: &Expected, list: &mut [u16], table: &mut [u32]) -> Answer {
+        match self {
+            ReadJob => expected.read_job(),
+            Compile => expected.compile(list),
+            CheckMoves => expected.check_moves(list),
+            CheckSteps => expected.check_steps(list),
+            LeastCost => expected.least_cost(list, table),
+            Judge => expected.judge(list, table),
+        }
+    }
+}

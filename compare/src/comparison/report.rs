@@ -1,0 +1,36 @@
+//! Mismatches and texts, as they are printed.
+
+use super::calls::Mismatch;
+use crate::cases::Case;
+
+/// A mismatch as a text.
+pub fn mismatch_text(mismatch: &Mismatch, case: &Case, seed: u64, number: u64) -> String {
+    let mut lines = vec![
+        format!("mismatch: {}, seed {seed}, case {number}", mismatch.operation.name()),
+        format!("lengths: list {}, table {}", mismatch.lengths.list, mismatch.lengths.table),
+        format!("library: {:?}", mismatch.library),
+        format!("second:  {:?}", mismatch.second),
+    ];
+    if let Some((index, library, second)) = mismatch.list {
+        lines.push(format!("list at {index}: library {library}, second {second}"));
+    }
+    if let Some((index, library, second)) = mismatch.table {
+        lines.push(format!("table at {index}: library {library}, second {second}"));
+    }
+    lines.push(text_lines("job text", &case.job));
+    lines.extend(mismatch.operation.plan(case).map(|plan| text_lines("plan text", plan)));
+    lines.join("\n")
+}
+
+/// A text line by line; bytes that can't be printed as escapes.
+pub fn text_lines(name: &str, text: &[u8]) -> String {
+    let mut lines = vec![format!("--- {name}, {} bytes", text.len())];
+    for line in text.split_inclusive(|byte| *byte == b'\n') {
+        lines.push(match line.strip_suffix(b"\n") {
+            Some(line) => line.escape_ascii().to_string(),
+            None => format!("{} (no line feed)", line.escape_ascii()),
+        });
+    }
+    lines.push("---".to_string());
+    lines.join("\n")
+}

@@ -1,0 +1,13 @@
+//! Jobs, and the texts of jobs and plans.
+//!
+//! `random_jobs` draws jobs from random numbers (`random`); `jobs` has certain ones, the benchmarks' among them. Both
+//! use the same sets of moves (`moves`, `formulas`), shapes of programs (`shapes`, `program`) and writer (`writer`).
+
+mod formulas;
+pub mod jobs;
+pub mod moves;
+mod program;
+pub mod random;
+pub mod random_jobs;
+pub mod shapes;
+pub mod writer;

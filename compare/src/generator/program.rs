@@ -1,0 +1,105 @@
+//! Programs under construction, and their rows by name.
+
+use crate::second::compiler::{size_of, Size};
+
+/// A program row: kind, and the fields a, b and c.
+pub type Row = [u16; 4];
+
+pub fn nil() -> Row {
+    [0, 0, 0, 0]
+}
+
+pub fn make(index: u16) -> Row {
+    [1, index, 0, 0]
+}
+
+pub fn any() -> Row {
+    [2, 0, 0, 0]
+}
+
+pub fn test(formula: u16) -> Row {
+    [3, formula, 0, 0]
+}
+
+pub fn then(first: u16, second: u16) -> Row {
+    [4, first, second, 0]
+}
+
+pub fn branch(formula: u16, yes: u16, no: u16) -> Row {
+    [5, formula, yes, no]
+}
+
+pub fn either(first: u16, second: u16) -> Row {
+    [6, first, second, 0]
+}
+
+pub fn repeat_while(formula: u16, body: u16) -> Row {
+    [7, formula, body, 0]
+}
+
+pub fn star(body: u16) -> Row {
+    [8, body, 0, 0]
+}
+
+/// Rows so far, with their sizes, for a job of so many moves.
+pub struct Program {
+    pub rows: Vec<Row>,
+    pub sizes: Vec<Size>,
+    moves: usize,
+}
+
+impl Program {
+    pub fn new(moves: usize) -> Program {
+        Program { rows: Vec::new(), sizes: Vec::new(), moves }
+    }
+
+    /// Adds a row, and gives its number.
+    pub fn add(&mut self, row: Row) -> u16 {
+        self.sizes.push(self.size_with(row));
+        self.rows.push(row);
+        self.last()
+    }
+
+    /// The number of the last row.
+    pub fn last(&self) -> u16 {
+        self.rows.len() as u16 - 1
+    }
+
+    /// The size of the program whose last row is this one.
+    pub fn size(&self, row: u16) -> Size {
+        self.sizes[usize::from(row)]
+    }
+
+    /// The size that the program would have with one more row.
+    pub fn size_with(&self, row: Row) -> Size {
+        size_of(row, self.moves, &self.sizes)
+    }
+
+    /// A row so many times in sequence.
+    pub fn sequence(&mut self, row: u16, count: usize) -> u16 {
+        self.copies(row, count, then)
+    }
+
+    /// A choice of so many copies of a row.
+    pub fn choice(&mut self, row: u16, count: usize) -> u16 {
+        self.copies(row, count, either)
+    }
+
+    /// Copies of a row, at least one, joined in blocks that double.
+    fn copies(&mut self, row: u16, count: usize, join: fn(u16, u16) -> Row) -> u16 {
+        let mut block = row;
+        let mut all = (count % 2 == 1).then_some(row);
+        let mut left = count / 2;
+        while left > 0 {
+            block = self.add(join(block, block));
+            if left % 2 == 1 {
+                all = Some(match all {
+                    None => block,
+                    Some(rest) => self.add(join(block, rest)),
+                });
+            }
+            left /= 2;
+        }
+        all.unwrap_or(row)
+    }
+}

@@ -1,0 +1,18 @@
+//! Domains in which every state has to be passed: the facts are the digits of a binary number, and moves add one to it.
+
+use super::domains::random_move;
+use crate::generator::jobs::job_of;
+use crate::generator::moves::increments;
+use crate::generator::random::Random;
+use crate::second::job::Job;
+
+/// A counter of some facts, perhaps with a few random moves beside, and with no program yet.
+pub fn random_counter(random: &mut Random) -> Job {
+    let facts = random.ranged(&[(20, (1, 6)), (8, (7, 9)), (1, (10, 12))]) as u16;
+    let moves = increments(facts, || random.pick(&[0, 1, 3, 15, 15]));
+    let mut job = job_of(facts, moves, Vec::new());
+    for _ in 0..random.pick(&[0, 0, 0, 1, 2]) {
+        job.moves.push(random_move(random, usize::from(facts), &job.formulas));
+    }
+    job
+}

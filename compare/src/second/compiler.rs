@@ -1,0 +1,154 @@
+//! The compiling table: from program rows to numbered steps, and refusal 4.
+
+use super::fault::Fault;
+use super::job::{Job, Refusal};
+
+/// The highest number of positions.
+pub const MOST_POSITIONS: u64 = 256;
+/// The highest number of steps.
+pub const MOST_STEPS: u64 = 1024;
+
+/// Kinds of steps: no-op, formula holds, formula doesn't hold, move.
+pub const NO_OP: u16 = 0;
+pub const HOLDS: u16 = 1;
+pub const FAILS: u16 = 2;
+pub const MOVE: u16 = 3;
+
+/// A compiled job: the number of positions, of which the last is the final one, and its steps `[kind, from, to, arg]`.
+#[derive(Clone, Debug, PartialEq, Eq)]
+pub struct Compiled {
+    pub positions: usize,
+    pub steps: Vec<[u16; 4]>,
+}
+
+/// How far a row's end is behind its start, and how many steps it has; saturating.
+#[derive(Clone, Copy, Debug, PartialEq, Eq)]
+pub struct Size {
+    pub length: u64,
+    pub steps: u64,
+}
+
+impl Size {
+    /// Whether a program of this size is within the limits.
+    pub fn fits(self) -> bool {
+        self.length < MOST_POSITIONS && self.steps <= MOST_STEPS
+    }
+
+    fn plus(self, other: Size) -> Size {
+        Size { length: self.length.saturating_add(other.length), steps: self.steps.saturating_add(other.steps) }
+    }
+}
+
+/// The size of a row over `moves` moves, given the sizes of the rows before it.
+pub fn size_of(row: [u16; 4], moves: usize, earlier: &[Size]) -> Size {
+    let size = |length, steps| Size { length, steps };
+    let part = |index: u16| earlier[usize::from(index)];
+    let [kind, a, b, c] = row;
+    match kind {
+        2 => size(1, moves as u64),
+        4 => part(a).plus(part(b)),
+        5 => size(3, 4).plus(part(b)).plus(part(c)),
+        6 => size(3, 4).plus(part(a)).plus(part(b)),
+        7 => size(2, 3).plus(part(b)),
+        8 => size(2, 3).plus(part(a)),
+        _ => size(1, 1),
+    }
+}
+
+/// The size of the job's program, from the sizes of all rows in their order.
+pub fn program_size(job: &Job) -> Size {
+    let mut sizes = Vec::new();
+    for row in &job.rows {
+        sizes.push(size_of(*row, job.moves.len(), &sizes));
+    }
+    sizes[job.rows.len() - 1]
+}
+
+/// Compiles the job's program; refused by 4.
+pub fn compile(job: &Job) -> Result<Compiled, Refusal> {
+    compile_with(job, Fault::None)
+}
+
+/// Compiles the job's program with a seeded fault.
+pub fn compile_with(job: &Job, fault: Fault) -> Result<Compiled, Refusal> {
+    if !program_size(job).fits() {
+        return Err(Refusal { number: 4, place: job.lines() });
+    }
+    let mut compiler = Compiler { job, fault, steps: Vec::new() };
+    let end = compiler.row(job.rows.len() as u16 - 1, 0);
+    Ok(Compiled { positions: usize::from(end) + 1, steps: compiler.steps })
+}
+
+struct Compiler<'a> {
+    job: &'a Job,
+    fault: Fault,
+    steps: Vec<[u16; 4]>,
+}
+
+impl Compiler<'_> {
+    /// Writes the steps of a row that starts at position `n`, and gives its end.
+    fn row(&mut self, index: u16, n: u16) -> u16 {
+        let [kind, a, b, c] = self.job.rows[usize::from(index)];
+        match kind {
+            0 => self.one(NO_OP, n, 0),
+            1 => self.one(MOVE, n, a),
+            2 => self.any(n),
+            3 => self.one(HOLDS, n, a),
+            4 => {
+                let n1 = self.row(a, n);
+                self.row(b, n1)
+            }
+            5 => self.branch(n, b, c, HOLDS, FAILS, a),
+            6 => self.branch(n, a, b, NO_OP, NO_OP, 0),
+            7 => self.repeat(n, b, a),
+            _ => self.star(n, a),
+        }
+    }
+
+    /// One step from `n` to the next position.
+    fn one(&mut self, kind: u16, n: u16, arg: u16) -> u16 {
+        self.steps.push([kind, n, n + 1, arg]);
+        n + 1
+    }
+
+    fn any(&mut self, n: u16) -> u16 {
+        for index in 0..self.job.moves.len() as u16 {
+            self.steps.push([MOVE, n, n + 1, index]);
+        }
+        n + 1
+    }
+
+    /// Two rows side by side, each entered by a step of its own kind: if, and or.
+    fn branch(&mut self, n: u16, left: u16, right: u16, enter_left: u16, enter_right: u16, arg: u16) -> u16 {
+        let n1 = self.row(left, n + 1);
+        let n2 = self.row(right, n1 + 1);
+        self.steps.push([enter_left, n, n + 1, arg]);
+        self.steps.push([enter_right, n, n1 + 1, arg]);
+        self.steps.push([NO_OP, n1, n2 + 1, 0]);
+        self.steps.push([NO_OP, n2, n2 + 1, 0]);
+        n2 + 1
+    }
+
+    /// While formula `condition` do row `body`.
+    fn repeat(&mut self, n: u16, body: u16, condition: u16) -> u16 {
+        let n1 = self.row(body, n + 1);
+        self.steps.push([HOLDS, n, n + 1, condition]);
+        self.steps.push([FAILS, n, n1 + 1, condition]);
+        self.steps.push([NO_OP, n1, n, 0]);
+        n1 + 1
+    }
+
+    fn star(&mut self, n: u16, body: u16) -> u16 {
+        if self.fault == Fault::Star {
+            let n1 = self.row(body, n);
+            self.steps.push([NO_OP, n, n1 + 1, 0]);
+            self.steps.push([NO_OP, n1, n, 0]);
+            return n1 + 1;
+        }
+        let n1 = self.row(body, n + 1);
+        self.steps.push([NO_OP, n, n + 1, 0]);
+        self.steps.push([NO_OP, n1, n, 0]);
+        self.steps.push([NO_OP, n, n1 + 1, 0]);
+        n1 + 1
+    }
+}

@@ -1,0 +1,101 @@
+//! States, the formulas that hold in them, and the successors that moves lead to.
+
+use std::cell::OnceCell;
+
+use super::fault::Fault;
+use super::job::{Job, Move};
+
+/// Cost of each class in tenths of a second.
+pub const CLASS_COSTS: [u64; 16] = [0, 5, 12, 20, 30, 45, 60, 90, 120, 180, 240, 360, 600, 900, 1800, 3600];
+
+/// What is true of one state: the value of each formula, and the successor by each move that is applicable.
+pub struct View {
+    pub values: Vec<bool>,
+    pub successors: Vec<Option<u16>>,
+}
+
+/// The states of a job; what is true of a state is worked out once.
+pub struct Domain<'a> {
+    pub job: &'a Job,
+    fault: Fault,
+    views: Vec<OnceCell<View>>,
+}
+
+impl<'a> Domain<'a> {
+    pub fn new(job: &'a Job, fault: Fault) -> Self {
+        let views = (0..state_count(job)).map(|_| OnceCell::new()).collect();
+        Domain { job, fault, views }
+    }
+
+    /// The value of a formula in a state.
+    pub fn holds(&self, formula: u16, state: u16) -> bool {
+        self.view(state).values[usize::from(formula)]
+    }
+
+    /// The state after a move, where it is applicable.
+    pub fn successor(&self, index: u16, state: u16) -> Option<u16> {
+        self.view(state).successors[usize::from(index)]
+    }
+
+    /// What a move costs.
+    pub fn cost(&self, index: u16) -> u64 {
+        CLASS_COSTS[usize::from(self.job.moves[usize::from(index)].class)]
+    }
+
+    /// Whether the goal holds.
+    pub fn is_goal(&self, state: u16) -> bool {
+        self.holds(self.job.goal, state)
+    }
+
+    fn view(&self, state: u16) -> &View {
+        self.views[usize::from(state)].get_or_init(|| self.look(state))
+    }
+
+    fn look(&self, state: u16) -> View {
+        let values = formula_values(&self.job.formulas, state);
+        let successors = self.job.moves.iter().map(|action| self.after(action, state, &values)).collect();
+        View { values, successors }
+    }
+
+    /// The state after a move, given the formulas' values before it: effects that hold clear first, then set.
+    fn after(&self, action: &Move, state: u16, values: &[bool]) -> Option<u16> {
+        if !values[usize::from(action.pre)] {
+            return None;
+        }
+        let (mut cleared, mut set) = (0, 0);
+        for [condition, fact, value] in &action.effects {
+            let holds = match self.fault {
+                Fault::Effects => formula_values(&self.job.formulas, state & !cleared | set)[usize::from(*condition)],
+                _ => values[usize::from(*condition)],
+            };
+            let mask = if *value == 0 { &mut cleared } else { &mut set };
+            *mask |= u16::from(holds) << fact;
+        }
+        match self.fault {
+            Fault::ClearLast => Some((state | set) & !cleared),
+            _ => Some(state & !cleared | set),
+        }
+    }
+}
+
+/// The number of states of a job.
+pub fn state_count(job: &Job) -> usize {
+    1 << job.facts
+}
+
+/// The values of all formulas in a state; each refers to earlier ones only.
+fn formula_values(formulas: &[[u16; 3]], state: u16) -> Vec<bool> {
+    let mut values: Vec<bool> = Vec::with_capacity(formulas.len());
+    for [kind, a, b] in formulas {
+        let value = match kind {
+            0 => false,
+            1 => true,
+            2 => state >> a & 1 == 1,
+            3 => !values[usize::from(*a)],
+            4 => values[usize::from(*a)] && values[usize::from(*b)],
+            _ => values[usize::from(*a)] || values[usize::from(*b)],
+        };
+        values.push(value);
+    }
+    values
+}

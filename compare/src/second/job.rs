@@ -1,0 +1,54 @@
+//! Jobs, their limits, and refusals.
+
+/// The highest number of facts.
+pub const MOST_FACTS: u16 = 12;
+/// The highest number of formulas.
+pub const MOST_FORMULAS: u16 = 255;
+/// The highest number of moves.
+pub const MOST_MOVES: u16 = 64;
+/// The highest number of effects of one move.
+pub const MOST_EFFECTS: u16 = 16;
+/// The highest number of program rows.
+pub const MOST_ROWS: u16 = 128;
+/// The number of cost classes.
+pub const CLASSES: u16 = 16;
+/// The highest number of entries of a plan.
+pub const MOST_ENTRIES: u16 = 4000;
+
+/// A move: its precondition, its cost class and its effects `[condition, fact, value]`.
+#[derive(Clone, Debug, PartialEq, Eq)]
+pub struct Move {
+    pub pre: u16,
+    pub class: u16,
+    pub effects: Vec<[u16; 3]>,
+}
+
+/// A job.
+#[derive(Clone, Debug, PartialEq, Eq)]
+pub struct Job {
+    pub facts: u16,
+    pub init: u16,
+    pub formulas: Vec<[u16; 3]>,
+    pub moves: Vec<Move>,
+    pub goal: u16,
+    pub rows: Vec<[u16; 4]>,
+}
+
+impl Job {
+    /// The number of effects of all moves.
+    pub fn effects(&self) -> usize {
+        self.moves.iter().map(|action| action.effects.len()).sum()
+    }
+
+    /// The number of lines of its text: seven that every job has, and one for each row.
+    pub fn lines(&self) -> usize {
+        7 + self.formulas.len() + self.moves.len() + self.effects() + self.rows.len()
+    }
+}
+
+/// The number of a reason and the place: a line, or for reason 6 a length.
+#[derive(Clone, Copy, Debug, PartialEq, Eq)]
+pub struct Refusal {
+    pub number: u32,
+    pub place: usize,
+}

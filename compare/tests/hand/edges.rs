@@ -1,0 +1,72 @@
+//! The edges of document 01.
+
+use jesmovit_compare::answer::{Answer, COSTS, LEAST, MISSED, NONE, PLAN, UNFINISHED};
+use jesmovit_compare::comparison::operation::Operation;
+use jesmovit_compare::second::costs::UNREACHED;
+
+use crate::both::{all_refuse, ask};
+use crate::sample::{sample, sample_with};
+use crate::worked::Worked;
+
+#[test]
+fn twelve_facts() {
+    let mut worked = sample();
+    worked.job = worked.job.replace("facts=2", "facts=12");
+    // The other facts stay false, so none of the further states is reached.
+    worked.table.resize(12288, UNREACHED);
+    let read = ask(Operation::ReadJob, worked.job.as_bytes(), b"", 0, 0);
+    assert_eq!(read.answer, Answer::accepted([12, 4, 2, 2, 3]));
+    worked.checks_moves(&[0, 1], [PLAN, 25]);
+    worked.checks_steps(&[0, 1], [PLAN, 25]);
+    worked.costs([COSTS, 25]);
+    worked.judges(&[0, 1], [LEAST, 25, 25]);
+    all_refuse(worked.job.replace("facts=12", "facts=13").as_bytes(), 2, 2);
+}
+
+/// The sample with a program of these rows.
+fn with_rows(rows: &[String]) -> String {
+    sample_with(&format!("program={}\n{}", rows.len(), rows.concat()))
+}
+
+#[test]
+fn positions() {
+    // 128 times move 0 by doubling, then 64, 32, ..., 1: 255 in all.
+    let mut rows = vec!["p=1,0,0,0\n".to_string()];
+    rows.extend((0..7).map(|row| format!("p=4,{row},{row},0\n")));
+    rows.extend((0..7).map(|row| format!("p=4,{},{row},0\n", 7 + row)));
+    // State 0 is left by the first move, for state 2.
+    let mut table = vec![UNREACHED; 4 * 256];
+    table[0] = 0;
+    (1..256).for_each(|made| table[2 * 256 + made] = 20 * made as u32);
+    let list = (0..255).flat_map(|from| [3, from, from + 1, 0]).collect();
+    let worked = Worked { job: with_rows(&rows), positions: 256, list, table };
+    worked.compiles();
+    worked.checks_moves(&[0; 255], [MISSED, 0]);
+    worked.checks_steps(&(0..255).collect::<Vec<u16>>(), [MISSED, 0]);
+    worked.costs([NONE, 0]);
+    worked.judges(&[0; 254], [UNFINISHED, 0, 0]);
+    rows.push("p=4,14,0,0\n".to_string());
+    all_refuse(with_rows(&rows).as_bytes(), 4, 15 + 16);
+}
+
+#[test]
+fn steps() {
+    let domain = format!("job=1\nfacts=0\ninit=0\nformulas=1\nf=1,0,0\nmoves=64\n{}goal=0\n", "m=0,0,0\n".repeat(64));
+    let anys = "p=2,0,0,0\np=4,0,0,0\np=4,1,1,0\np=4,2,2,0\np=4,3,3,0\n";
+    let list = (0..16).flat_map(|from| (0..64).flat_map(move |index| [3, from, from + 1, index])).collect();
+    let worked = Worked { job: format!("{domain}program=5\n{anys}"), positions: 17, list, table: vec![0; 17] };
+    worked.compiles();
+    worked.checks_moves(&[63; 16], [PLAN, 0]);
+    worked.checks_steps(&(0..16).map(|round| 64 * round + 63).collect::<Vec<u16>>(), [PLAN, 0]);
+    worked.costs([COSTS, 0]);
+    worked.judges(&[63; 16], [LEAST, 0, 0]);
+    let one_more = format!("{domain}program=7\n{anys}p=1,0,0,0\np=4,4,5,0\n");
+    all_refuse(one_more.as_bytes(), 4, 6 + 64 + 2 + 7);
+}
+
+#[test]
+fn doubled_rows_are_refused_at_once() {
+    let mut rows = vec!["p=1,0,0,0\n".to_string()];
+    rows.extend((0..127).map(|row| format!("p=4,{row},{row},0\n")));
+    all_refuse(with_rows(&rows).as_bytes(), 4, 15 + 128);
+}
