@@ -1,6 +1,6 @@
 -- The number and the values of each case of each answer.
 use Prim.Native.Nat.{ℕ}
-use mathlib.Core.List.{List, [], _∷_}
+use mathlib.Core.List.{[], _∷_}
 use Rattle.job.specs.declared.head.Refusal.{Refusal}
 use Rattle.validate.specs.declared.verdict.Verdict.{Verdict}
 use Rattle.validate.specs.declared.verdict.Verdict.the-variants.{Plan, Blocked, Unfinished, Missed}

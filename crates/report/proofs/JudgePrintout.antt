@@ -1,7 +1,7 @@
 -- What the judge prints, from the bytes of the two texts: the compiled job, a line for each of its steps, and what the judge finds; or the refusal alone.
 -- Assumes nothing.
 use Prim.Native.Nat.{ℕ, _≤_}
-use mathlib.Core.Path.{_≡_, refl, sym, _∙_, ap, subst}
+use mathlib.Core.Path.{_≡_, sym, ap, subst}
 use mathlib.Core.List.{List, _++_}
 use lib.ListN.{length}
 use Rattle.laws.proofs.Tests.{never}

@@ -1,6 +1,6 @@
 -- Demand 1: which texts, lists and tables are not refused, of every operation.
 -- Assumes nothing.
-use Prim.Native.Nat.{ℕ, _*_, _^_, _≤_}
+use Prim.Native.Nat.{ℕ, _^_, _≤_}
 use mathlib.Core.Path.{_≡_, refl, sym, _∙_, ap}
 use mathlib.Core.Bool.{true}
 use mathlib.Core.List.{List}
@@ -15,7 +15,7 @@ use Rattle.job.specs.Job.{Job}
 use Rattle.job.specs.ReadJob.{read, readJob}
 use Rattle.job.specs.WellFormed.{WellFormed}
 use Rattle.reader.proofs.ReadLaws.{read-well-formed, read-lines}
-use Rattle.compile.specs.CompiledJob.{positionCount, stepCount}
+use Rattle.compile.specs.CompiledJob.{stepCount}
 use Rattle.compile.proofs.FitLaws.{few-positions, few-steps}
 use Rattle.plans.specs.PlanText.{listed, readPlan}
 use Rattle.offers.specs.Refusals.{Checked, passed, next, limits, jobIn, Offer, offered, keyFor, boundFor, offerIn, listNeed, tableNeed}

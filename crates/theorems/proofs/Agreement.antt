@@ -5,7 +5,6 @@ use mathlib.Core.Path.{_≡_, sym, _∙_, ap, subst}
 use mathlib.Core.List.{List}
 use native.Mathlib.Omega.{arith}
 use lib.ListN.{length}
-use borrow.Author.Tests.{le-leb}
 use Rattle.job.specs.Job.{Job}
 use Rattle.semantics.specs.CompilingTable.{Step, end, stepsIn}
 use Rattle.semantics.specs.Agreement.{Agrees}
@@ -14,7 +13,8 @@ use Rattle.semantics.proofs.FlatLaws.{laid-back}
 use Rattle.domain.specs.Domain.{domainOf}
 use Rattle.compile.specs.Program.{programOf}
 use Rattle.compile.specs.CompiledJob.{stepsOf, positionCount, stepCount}
-use Rattle.offers.specs.Refusals.{Checked, passed, next, jobIn, listNeed, listLong}
+use Rattle.offers.specs.Refusals.{Checked, passed, jobIn, listNeed}
+use Rattle.offers.proofs.StageLaws.{stage-iff}
 use Rattle.jesmovit.specs.Compiling.{compiling, listAfter}
 
 module _ (text : List ℕ) (j : Job) (accepted : jobIn text ≡ passed j) where
@@ -31,7 +31,7 @@ module _ (text : List ℕ) (j : Job) (accepted : jobIn text ≡ passed j) where
 
     pub compiles : compiling text (length list) ≡ passed j
     unfolding compiling
-    compiles = ap (λ (c : Checked Job). next c (λ k. listLong (length list) k k)) accepted ∙ rw (le-leb (listNeed j) (length list) long)
+    compiles = stage-iff listNeed (length list) j (jobIn text) .1 (accepted, long)
 
     pub list-holds : stepsIn (stepCount j) after ≡ stepsOf j
     list-holds = ap (λ (c : Checked Job). stepsIn (stepCount j) (listAfter c list)) compiles ∙ laid-back (stepsOf j) list long

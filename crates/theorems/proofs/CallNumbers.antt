@@ -3,7 +3,7 @@
 use Prim.Native.Nat.{ℕ, _≤_}
 use mathlib.Core.Path.{_≡_, refl, sym, _∙_, ap}
 use mathlib.Core.List.{List}
-use mathlib.Core.Logic.{_↔_, _⊎_, inl, inr}
+use mathlib.Core.Logic.{_↔_, inl, inr}
 use native.Mathlib.Omega.{arith}
 use lib.ListN.{length}
 use Rattle.laws.proofs.Tests.{never}
@@ -22,7 +22,7 @@ use Rattle.jesmovit.specs.declared.judging.JudgeAnswer.{JudgeAnswer}
 use Rattle.capi.specs.Numbers.{readNumbers, compileNumbers, checkNumbers, leastNumbers, judgeNumbers}
 use Rattle.capi.specs.Calls.{Gives, Compiles}
 use Rattle.capi.specs.declared.numbers.Numbers.{Numbers}
-use Rattle.theorems.proofs.RefusalNumbers.{UpTo, WithoutPlan, read-number, compile-number, check-number, cost-number, judge-number}
+use Rattle.theorems.proofs.RefusalNumbers.{WithoutPlan, read-number, compile-number, check-number, cost-number, judge-number}
 
 -- the number of a refusal, and 0 for none
 abbrev numberOf : {A : Type 0} → Checked A → ℕ

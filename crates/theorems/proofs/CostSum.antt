@@ -1,8 +1,8 @@
 -- Of a list of moves that a run makes, the cost is the plain sum of the moves' class costs.
 -- Assumes nothing.
 use Prim.Native.Nat.{ℕ, _+_}
-use mathlib.Core.Path.{_≡_, refl, _∙_, ap}
-use mathlib.Core.List.{List, [], _∷_, _++_}
+use mathlib.Core.Path.{_≡_, refl}
+use mathlib.Core.List.{List, _++_}
 use native.Mathlib.Omega.{arith}
 use Rattle.job.specs.Job.{Job}
 use Rattle.semantics.specs.Program.{Program}

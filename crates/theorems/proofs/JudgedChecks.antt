@@ -1,7 +1,7 @@
 -- The judge and the check agree: for what is no plan the judge's verdict is the check's, and of a plan the check says that it is one, with the same cost.
 -- Assumes nothing.
 use Prim.Native.Nat.{ℕ}
-use mathlib.Core.Path.{_≡_, refl, _∙_, ap}
+use mathlib.Core.Path.{_≡_, _∙_, ap}
 use mathlib.Core.List.{List}
 use lib.ListN.{length}
 use Rattle.semantics.specs.Program.{Program}

@@ -2,9 +2,9 @@
 -- Assumes nothing.
 use Prim.Native.Nat.{ℕ, _+_, _≤_}
 use mathlib.Core.Path.{_≡_, refl, subst}
-use mathlib.Core.Bool.{Bool, cond}
+use mathlib.Core.Bool.{cond}
 use mathlib.Core.List.{List, [], _∷_}
-use mathlib.Core.Logic.{_↔_, _⊎_, inl, inr}
+use mathlib.Core.Logic.{_⊎_, inl, inr}
 use mathlib.Core.Option.{Option, none, some}
 use native.Mathlib.Omega.{arith}
 use lib.Dec.{eqb, leb}
@@ -22,7 +22,7 @@ use Rattle.text.specs.Lines.{lines}
 use Rattle.plans.specs.PlanText as P
 use Rattle.plans.specs.PlanText.{PlanOutcome, readPlan}
 use Rattle.compile.specs.CompiledJob.{fits}
-use Rattle.offers.specs.Refusals.{Checked, passed, refused, next, limits, jobIn, Offer, offered, keyFor, boundFor, offerIn, listNeed, tableNeed}
+use Rattle.offers.specs.Refusals.{Checked, passed, refused, next, limits, jobIn, offered, keyFor, boundFor, offerIn, listNeed, tableNeed}
 use Rattle.offers.specs.declared.offer.Sort.{Sort}
 use Rattle.offers.specs.declared.offer.Sort.the-variants.{Moves}
 use Rattle.jesmovit.specs.Compiling.{compiling}

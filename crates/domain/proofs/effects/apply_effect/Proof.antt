@@ -1,9 +1,6 @@
 use Prim.Native.Nat.{_*_, _≤_}
-use mathlib.Core.Path.{_≡_}
-use mathlib.Core.Bool.{false, _&&_}
 use native.Mathlib.Omega.{arith}
 use lib.Dec.{eqb}
-use lib.ListN.{getD}
 use Rattle.domain.specs.World.{afterEffect}
 use Rattle.domain.proofs.FactLaws.{count-within, bits-once, bits-both}
 use Rattle.domain.proofs.StoreLaws.{effect-row, effect-fact, counts-within}

@@ -1,4 +1,4 @@
-use Prim.Native.Nat.{_+_, _-_, _*_, _/_, _%_, _^_, _≤_}
+use Prim.Native.Nat.{_-_, _*_, _/_, _%_, _^_, _≤_}
 use native.Mathlib.Omega.{arith}
 use Rattle.domain.proofs.FactLaws.{count-within, times-within, cleared-within, set-within, clears, sets-fact}
 use borrow.Author.Needs.{needs}
