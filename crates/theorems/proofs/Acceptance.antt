@@ -64,14 +64,15 @@ module _ (sort : Sort) (j : Job) (plan entries : List ℕ) where
   key-plain Moves = refl
   key-plain Steps = refl
 
-  bound-small : (s : Sort) → WellFormed j → stepCount j ≤ 1024 → boundFor s j ≤ 65536
-  bound-small Moves w h = omega (arith, w .moves)
-  bound-small Steps w h = omega (arith, h)
+  module _ (text : List ℕ) (accepted : AcceptedJob text j) where
+    bound-small : (s : Sort) → boundFor s j ≤ 65536
+    bound-small Moves = omega (arith, accepted .right .moves)
+    bound-small Steps = omega (arith, accepted .steps)
 
-  pub plan-iff : WellFormed j → stepCount j ≤ 1024 → (readPlan (keyFor sort) (boundFor sort j) plan ≡ listed entries) ↔ AcceptedPlan sort j plan entries
-  plan-iff w h =
-      let p = plan-text-iff (keyFor sort) (boundFor sort j) plan entries (key-plain sort) (bound-small sort w h) in
-      (λ e. let x = p .0 e in record { few = x .0; each = x .1; written = x .2 }, λ a. p .1 (a .few, a .each, a .written))
+    pub plan-iff : (readPlan (keyFor sort) (boundFor sort j) plan ≡ listed entries) ↔ AcceptedPlan sort j plan entries
+    plan-iff =
+        let p = plan-text-iff (keyFor sort) (boundFor sort j) plan entries (key-plain sort) (bound-small sort) in
+        (λ e. let x = p .0 e in record { few = x .0; each = x .1; written = x .2 }, λ a. p .1 (a .few, a .each, a .written))
 
 -- of both: reasons 1 to 5
 module _ (sort : Sort) (text plan : List ℕ) (o : Offer) where
@@ -82,14 +83,14 @@ module _ (sort : Sort) (text plan : List ℕ) (o : Offer) where
   unfolding offerIn
   texts-pass a =
       ap (λ (c : Checked Job). next c planned) (job-passes text (o .job) (a .its-job))
-      ∙ ap (offered (o .job)) (plan-iff sort (o .job) plan (o .entries) (a .its-job .right) (a .its-job .steps) .1 (a .its-plan))
+      ∙ ap (offered (o .job)) (plan-iff sort (o .job) plan (o .entries) text (a .its-job) .1 (a .its-plan))
 
   pub accepted-iff : (offerIn sort text plan ≡ passed o) ↔ Accepted sort text plan o
   accepted-iff = (
     λ e.
         let t = offer-taken sort text plan o e in
         let a = job-iff text (o .job) .0 (t .0) in
-        record { its-job = a; its-plan = plan-iff sort (o .job) plan (o .entries) (a .right) (a .steps) .0 (t .1) },
+        record { its-job = a; its-plan = plan-iff sort (o .job) plan (o .entries) text a .0 (t .1) },
     texts-pass,
   )
 
