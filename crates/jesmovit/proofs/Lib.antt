@@ -4,3 +4,4 @@ pub mod SaysLaws
 pub mod CheckingLaws
 pub mod CostingLaws
 pub mod JudgingLaws
+pub mod PassedLaws

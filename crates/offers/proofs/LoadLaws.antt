@@ -50,15 +50,15 @@ module _ (text table : List ℕ) where
     abbrev j : Job
     j = jobOf h table
 
-    accepts : readJob text ≡ R.read n j
-    accepts = sym e ∙ ap (λ (x : Answer). outcomeOf x table) g
+    reads : readJob text ≡ R.read n j
+    reads = sym e ∙ ap (λ (x : Answer). outcomeOf x table) g
 
     pub load-well-formed : WellFormed j
-    load-well-formed = read-well-formed text n j accepts
+    load-well-formed = read-well-formed text n j reads
 
     limited : (b : Bool) → fits j ≡ b → cond b (passed j) (refused 4 n) ≡ jobIn text
     unfolding jobIn
-    limited b f = ap (λ (x : Bool). cond x (passed j) (refused 4 n)) (sym f) ∙ ap limits (sym accepts)
+    limited b f = ap (λ (x : Bool). cond x (passed j) (refused 4 n)) (sym f) ∙ ap limits (sym reads)
 
     module _ (positions steps : ℕ) (m : (positions ≡ min (positionCount j) 1026) × (steps ≡ capped (stepCount j))) where
       pub load-positions : 256 < positions → refused 4 n ≡ jobIn text

@@ -10,9 +10,9 @@ use Rattle.job.specs.Job.{Job}
 use Rattle.semantics.specs.CompilingTable.{Step, arc, flat, kindOf, argOf}
 use Rattle.semantics.proofs.FlatLaws.{flat-length}
 use Rattle.compile.specs.CompiledJob.{stepsOf, positionCount, stepCount}
-use Rattle.offers.specs.Refusals.{passed, jobIn, listNeed}
-use Rattle.offers.proofs.StageLaws.{stage-iff}
+use Rattle.offers.specs.Refusals.{passed}
 use Rattle.jesmovit.specs.Compiling.{compiling, compileAnswer, listAfter}
+use Rattle.jesmovit.proofs.PassedLaws.{compiling-passes}
 use Rattle.report.specs.Printout.{line, stepLine, stepLines, linesOf, compiledLines, compilePrintout}
 
 flat-lines : (L : List Step) → stepLines (flat L) ≡ linesOf L
@@ -31,13 +31,8 @@ pub prints-each-step : (positions : ℕ) (L : List Step) (list : List ℕ) → l
 prints-each-step positions L list h =
     ap (λ (l : List ℕ). line "positions" positions ++ line "steps" (length L) ++ l) (ap stepLines (front-flat L list h) ∙ flat-lines L)
 
--- a list that is not refused is long enough
-compiled-long : (text : List ℕ) (places : ℕ) (j : Job) → compiling text places ≡ passed j → listNeed j ≤ places
-unfolding compiling
-compiled-long text places j e = stage-iff listNeed places j (jobIn text) .0 e .1
-
 -- what is printed after compiling a text that nothing refuses
 pub compile-prints : (text list : List ℕ) (j : Job) → compiling text (length list) ≡ passed j
     → compilePrintout (compileAnswer (compiling text (length list))) (listAfter (compiling text (length list)) list)
     ≡ line "positions" (positionCount j) ++ line "steps" (stepCount j) ++ linesOf (stepsOf j)
-compile-prints text list j e = rw e (prints-each-step (positionCount j) (stepsOf j) list (compiled-long text (length list) j e))
+compile-prints text list j e = rw e (prints-each-step (positionCount j) (stepsOf j) list (compiling-passes text (length list) j .0 e .1))

@@ -1,53 +1,19 @@
 -- What the judge prints, from the bytes of the two texts: the compiled job, a line for each of its steps, and what the judge finds; or the refusal alone.
 -- Assumes nothing.
-use Prim.Native.Nat.{ℕ, _≤_}
-use mathlib.Core.Path.{_≡_, sym, ap, subst}
+use Prim.Native.Nat.{ℕ}
+use mathlib.Core.Path.{_≡_, ap, _∙_}
 use mathlib.Core.List.{List, _++_}
 use lib.ListN.{length}
 use Rattle.laws.proofs.Tests.{never}
-use Rattle.semantics.specs.Judgement.{Finds}
-use Rattle.domain.specs.Domain.{domainOf}
-use Rattle.compile.specs.Program.{programOf}
 use Rattle.compile.specs.CompiledJob.{stepsOf, positionCount, stepCount}
-use Rattle.offers.specs.Refusals.{Checked, passed, refused, Offer, jobsOf, offerIn, listNeed, tableNeed}
+use Rattle.offers.specs.Refusals.{Checked, passed, refused, Offer, jobsOf}
 use Rattle.offers.specs.declared.offer.Sort.the-variants.{Moves}
-use Rattle.offers.proofs.StageLaws.{stage-iff}
 use Rattle.jesmovit.specs.Compiling.{listAfter}
-use Rattle.jesmovit.specs.Checking.{checking}
-use Rattle.jesmovit.specs.Judging.{judging, judgementOf, JudgeAnswers, judges, not-judged, Judges}
-use Rattle.jesmovit.specs.declared.judging.Judgement.{Judgement}
+use Rattle.jesmovit.specs.Judging.{judging, JudgeAnswers, judges, not-judged, Judges}
 use Rattle.jesmovit.specs.declared.judging.JudgeAnswer.{JudgeAnswer}
-use Rattle.report.specs.Printout.{line, linesOf, judgementLines, refusedLine, judgePrintout}
+use Rattle.jesmovit.proofs.PassedLaws.{checking-passes, judging-passes, judge-told}
+use Rattle.report.specs.Printout.{compiledLines, judgementLines, refusedLine, judgePrintout, Printed}
 use Rattle.report.proofs.CompiledPrintout.{prints-each-step}
-
--- a list that is not refused is long enough
-checked-long : (text plan : List ℕ) (places : ℕ) (o : Offer) → checking Moves text plan places ≡ passed o → listNeed (o .job) ≤ places
-unfolding checking
-checked-long text plan places o e = stage-iff (λ (x : Offer). listNeed (x .job)) places o (offerIn Moves text plan) .0 e .1
-
-judged-long : (text plan : List ℕ) (places cells : ℕ) (o : Offer) → judging text plan places cells ≡ passed o → listNeed (o .job) ≤ places
-unfolding judging
-judged-long text plan places cells o e =
-    checked-long text plan places o (stage-iff (λ (x : Offer). tableNeed (x .job)) cells o (checking Moves text plan places) .0 e .0)
-
--- what is printed of an offer, with what the judge finds of its moves
-pub record Printed (o : Offer) (bytes : List ℕ) : Type 0 where
-  pub judgement : Judgement
-  pub finds : Finds (domainOf (o .job)) (programOf (o .job)) (o .entries) (judgementOf judgement)
-  pub prints : bytes
-      ≡ line "positions" (positionCount (o .job)) ++ line "steps" (stepCount (o .job)) ++ linesOf (stepsOf (o .job)) ++ judgementLines judgement
-
-by-answer : (list old new : List ℕ) (k : Checked Offer) (a : JudgeAnswer) → JudgeAnswers old new k a → (o : Offer) → k ≡ passed o
-    → listNeed (o .job) ≤ length list → Printed o (judgePrintout a (listAfter (jobsOf k) list))
-by-answer list old new k a (judges {o = q} {g} x t) o e long =
-    let z : q ≡ o = cc in
-    let fits : listNeed (q .job) ≤ length list = subst (λ (y : Offer). listNeed (y .job) ≤ length list) (sym z) long in
-    subst (λ (y : Offer). Printed y (judgePrintout a (listAfter (passed (q .job)) list))) z (record {
-      judgement = g;
-      finds = x;
-      prints = ap (λ (l : List ℕ). l ++ judgementLines g) (prints-each-step (positionCount (q .job)) (stepsOf (q .job)) list fits);
-    })
-by-answer list old new k a (not-judged t) o e long = never (cc)
 
 refusal-printed : (old new : List ℕ) (k : Checked Offer) (a : JudgeAnswer) → JudgeAnswers old new k a → (l : List ℕ) (number place : ℕ) → k ≡ refused number place
     → judgePrintout a l ≡ refusedLine (record { number = number; place = place })
@@ -60,7 +26,18 @@ module _ (text plan list table : List ℕ) (answer : JudgeAnswer) (list-after ta
   -- where nothing is refused
   pub judge-prints : (o : Offer) → judging text plan (length list) (length table) ≡ passed o → Printed o (judgePrintout answer list-after)
   judge-prints o e =
-      rw (promised .holds) (by-answer list table table-after _ answer (promised .answers) o e (judged-long text plan (length list) (length table) o e))
+      let t = judge-told table table-after _ answer (promised .answers) o e in
+      let c = judging-passes text plan (length list) (length table) o .0 e .0 in
+      let l : list-after ≡ listAfter (passed (o .job)) list = promised .holds ∙ ap (λ (k : Checked Offer). listAfter (jobsOf k) list) e in
+      record {
+        judgement = t .judgement;
+        finds = t .found .0;
+        prints =
+            ap (λ (a : JudgeAnswer). judgePrintout a list-after) (t .is)
+            ∙ ap (λ (b : List ℕ). compiledLines (positionCount (o .job)) (stepCount (o .job)) b ++ judgementLines (t .judgement)) l
+            ∙ ap (λ (b : List ℕ). b ++ judgementLines (t .judgement))
+            (prints-each-step (positionCount (o .job)) (stepsOf (o .job)) list (checking-passes Moves text plan (length list) o .0 c .1));
+      }
 
   -- "A refusal prints only `refused=number,place`."
   pub judge-prints-refusal : (number place : ℕ) → judging text plan (length list) (length table) ≡ refused number place

@@ -1,11 +1,18 @@
 -- "The sample and its printout": what the programs print, a line each.
 use Prim.Native.Nat.{ℕ, _*_}
 use Prim.Native.String.{String}
+use mathlib.Core.Path.{_≡_}
 use mathlib.Core.List.{List, [], _∷_, _++_}
 use lib.ListN.{take}
 use Rattle.text.specs.Bytes.{bytes}
 use Rattle.text.specs.Written.{written, lineText}
 use Rattle.semantics.specs.CompilingTable.{Step, arc, kindOf, argOf}
+use Rattle.semantics.specs.Judgement.{Finds}
+use Rattle.domain.specs.Domain.{domainOf}
+use Rattle.compile.specs.Program.{programOf}
+use Rattle.compile.specs.CompiledJob.{stepsOf, positionCount, stepCount}
+use Rattle.offers.specs.Refusals.{Offer}
+use Rattle.jesmovit.specs.Judging.{judgementOf}
 use Rattle.job.specs.declared.head.Counts.{Counts}
 use Rattle.job.specs.declared.head.Refusal.{Refusal}
 use Rattle.validate.specs.declared.verdict.Verdict.{Verdict}
@@ -90,3 +97,10 @@ countLines c =
 abbrev pub readPrintout : R.ReadAnswer → List ℕ
 readPrintout (R.the-variants.Read c) = countLines c
 readPrintout (R.the-variants.Refused r) = refusedLine r
+
+-- what the judge prints of an offer that no reason refuses: its compiled job, a line for each step, and a judgement that holds of its moves
+pub record Printed (o : Offer) (printout : List ℕ) : Type 0 where
+  pub judgement : Judgement
+  pub finds : Finds (domainOf (o .job)) (programOf (o .job)) (o .entries) (judgementOf judgement)
+  pub prints : printout
+      ≡ line "positions" (positionCount (o .job)) ++ line "steps" (stepCount (o .job)) ++ linesOf (stepsOf (o .job)) ++ judgementLines judgement

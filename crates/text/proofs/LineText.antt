@@ -84,7 +84,10 @@ values-short [] s = unfold written in omega arith
 values-short (n ∷ ns) s = omega (arith, written-short n ns s)
 
 -- a line of so many numbers has six bytes at the most for each, beside its key, the equals sign and, without numbers, its line feed
-pub line-short : (key : List ℕ) (want : ℕ) (ns line : List ℕ) → numbers want (valueOf key line) ≡ some ns → length line ≤ length key + 2 + 6 * want
+abbrev pub mostBytes : List ℕ → ℕ → ℕ
+mostBytes key want = length key + 2 + 6 * want
+
+pub line-short : (key : List ℕ) (want : ℕ) (ns line : List ℕ) → numbers want (valueOf key line) ≡ some ns → length line ≤ mostBytes key want
 line-short key want ns line e =
     let v = line-sound key want ns line e in
     omega (arith, ap length (v .1) ∙ length-append key (61 ∷ written ns), values-short ns (v .0 .small), v .0 .count)

@@ -23,10 +23,10 @@ use Rattle.offers.specs.declared.offer.Sort.{Sort}
 use Rattle.offers.specs.declared.offer.Sort.the-variants.{Moves, Steps}
 use Rattle.offers.proofs.LoadLaws.{passed-read, fit}
 use Rattle.offers.proofs.OfferLaws.{offer-taken}
-use Rattle.offers.proofs.StageLaws.{stage-iff}
 use Rattle.jesmovit.specs.Compiling.{compiling}
 use Rattle.jesmovit.specs.Checking.{checking}
 use Rattle.jesmovit.specs.Judging.{costing, judging}
+use Rattle.jesmovit.proofs.PassedLaws.{compiling-passes, costing-passes, checking-passes, judging-passes}
 use Rattle.theorems.specs.JobText.{jobLines, jobText}
 use Rattle.theorems.specs.Accepted.{AcceptedJob, AcceptedPlan, Accepted}
 use Rattle.theorems.proofs.TextLaws.{text-read}
@@ -57,13 +57,13 @@ module _ (text : List ℕ) (j : Job) where
     job-passes,
   )
 
+key-plain : (s : Sort) → plain (keyFor s) ≡ true
+unfolding bytes
+key-plain Moves = refl
+key-plain Steps = refl
+
 -- of a plan text: reason 5
 module _ (sort : Sort) (j : Job) (plan entries : List ℕ) where
-  key-plain : (s : Sort) → plain (keyFor s) ≡ true
-  unfolding bytes
-  key-plain Moves = refl
-  key-plain Steps = refl
-
   module _ (text : List ℕ) (accepted : AcceptedJob text j) where
     bound-small : (s : Sort) → boundFor s j ≤ 65536
     bound-small Moves = omega (arith, accepted .right .moves)
@@ -97,35 +97,31 @@ module _ (sort : Sort) (text plan : List ℕ) (o : Offer) where
 -- of each operation, with a list of so many places and a cost table of so many cells
 module _ (text : List ℕ) (places : ℕ) (j : Job) where
   pub compiling-iff : (compiling text places ≡ passed j) ↔ (AcceptedJob text j × (listNeed j ≤ places))
-  unfolding compiling
   compiling-iff =
-      let s = stage-iff listNeed places j (jobIn text) in
+      let s = compiling-passes text places j in
       let a = job-iff text j in
       (λ e. let x = s .0 e in (a .0 (x .0), x .1), λ h. s .1 (a .1 (h .0), h .1))
 
   pub costing-iff : (cells : ℕ) → (costing text places cells ≡ passed j) ↔ (AcceptedJob text j × (listNeed j ≤ places) × (tableNeed j ≤ cells))
-  unfolding costing
   costing-iff cells =
-      let s = stage-iff tableNeed cells j (compiling text places) in
+      let s = costing-passes text places cells j in
       (λ e. let x = s .0 e in let y = compiling-iff .0 (x .0) in (y .0, y .1, x .1), λ h. s .1 (compiling-iff .1 (h .0, h .1), h .2))
 
 module _ (text plan : List ℕ) (places : ℕ) (o : Offer) where
   pub checking-iff : (sort : Sort) → (checking sort text plan places ≡ passed o) ↔ (Accepted sort text plan o × (listNeed (o .job) ≤ places))
-  unfolding checking
   checking-iff sort =
-      let s = stage-iff (λ (x : Offer). listNeed (x .job)) places o (offerIn sort text plan) in
+      let s = checking-passes sort text plan places o in
       let a = accepted-iff sort text plan o in
       (λ e. let x = s .0 e in (a .0 (x .0), x .1), λ h. s .1 (a .1 (h .0), h .1))
 
   pub judging-iff : (cells : ℕ)
       → (judging text plan places cells ≡ passed o) ↔ (Accepted Moves text plan o × (listNeed (o .job) ≤ places) × (tableNeed (o .job) ≤ cells))
-  unfolding judging
   judging-iff cells =
-      let s = stage-iff (λ (x : Offer). tableNeed (x .job)) cells o (checking Moves text plan places) in
+      let s = judging-passes text plan places cells o in
       let a = checking-iff Moves in
       (λ e. let x = s .0 e in let y = a .0 (x .0) in (y .0, y .1, x .1), λ h. s .1 (a .1 (h .0, h .1), h .2))
 
--- "the list needs at most 4,096 numbers and the table at most 1,048,576"
+-- as the header says: 4,096 numbers of a list, and 1,048,576 of a table, are enough for every job
 pub needs-within : (text : List ℕ) (j : Job) → AcceptedJob text j → (listNeed j ≤ 4096) × (tableNeed j ≤ 1048576)
 needs-within text j a =
     let few : 2 ^ (j .scalars .facts) ≤ 2 ^ 12 = pow-le-pow-right (omega arith) (a .right .facts) in

@@ -13,11 +13,12 @@ use Rattle.semantics.proofs.FlatLaws.{laid-back}
 use Rattle.domain.specs.Domain.{domainOf}
 use Rattle.compile.specs.Program.{programOf}
 use Rattle.compile.specs.CompiledJob.{stepsOf, positionCount, stepCount}
-use Rattle.offers.specs.Refusals.{Checked, passed, jobIn, listNeed}
-use Rattle.offers.proofs.StageLaws.{stage-iff}
+use Rattle.offers.specs.Refusals.{Checked, passed, listNeed}
 use Rattle.jesmovit.specs.Compiling.{compiling, listAfter}
+use Rattle.theorems.specs.Accepted.{AcceptedJob}
+use Rattle.theorems.proofs.Acceptance.{compiling-iff}
 
-module _ (text : List ℕ) (j : Job) (accepted : jobIn text ≡ passed j) where
+module _ (text : List ℕ) (j : Job) (accepted : AcceptedJob text j) where
   -- "a plan of the compiled job, bookkeeping dropped, is allowed by the program on the original job, and every allowed plan comes from one"
   pub accepted-plans-agree : Agrees (domainOf j) (programOf j) (stepsOf j) (positionCount j - 1)
   accepted-plans-agree =
@@ -30,8 +31,7 @@ module _ (text : List ℕ) (j : Job) (accepted : jobIn text ≡ passed j) where
     after = listAfter (compiling text (length list)) list
 
     pub compiles : compiling text (length list) ≡ passed j
-    unfolding compiling
-    compiles = stage-iff listNeed (length list) j (jobIn text) .1 (accepted, long)
+    compiles = compiling-iff text (length list) j .1 (accepted, long)
 
     pub list-holds : stepsIn (stepCount j) after ≡ stepsOf j
     list-holds = ap (λ (c : Checked Job). stepsIn (stepCount j) (listAfter c list)) compiles ∙ laid-back (stepsOf j) list long

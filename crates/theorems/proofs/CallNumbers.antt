@@ -1,9 +1,9 @@
--- The number that a call from outside gives back is 0 just where nothing is refused.
+-- The number that a call from outside gives back: 0 just where nothing is refused, and otherwise a number of the operation's own.
 -- Assumes nothing.
 use Prim.Native.Nat.{ℕ, _≤_}
-use mathlib.Core.Path.{_≡_, refl, sym, _∙_, ap}
+use mathlib.Core.Path.{_≡_, refl, sym, _∙_, ap, subst}
 use mathlib.Core.List.{List}
-use mathlib.Core.Logic.{_↔_, inl, inr}
+use mathlib.Core.Logic.{inl, inr}
 use native.Mathlib.Omega.{arith}
 use lib.ListN.{length}
 use Rattle.laws.proofs.Tests.{never}
@@ -22,7 +22,8 @@ use Rattle.jesmovit.specs.declared.judging.JudgeAnswer.{JudgeAnswer}
 use Rattle.capi.specs.Numbers.{readNumbers, compileNumbers, checkNumbers, leastNumbers, judgeNumbers}
 use Rattle.capi.specs.Calls.{Gives, Compiles}
 use Rattle.capi.specs.declared.numbers.Numbers.{Numbers}
-use Rattle.theorems.proofs.RefusalNumbers.{WithoutPlan, read-number, compile-number, check-number, cost-number, judge-number}
+use Rattle.theorems.specs.RefusalNumbers.{UpTo, WithoutPlan, CallNumber}
+use Rattle.theorems.proofs.RefusalNumbers.{read-number, compile-number, check-number, cost-number, judge-number}
 
 -- the number of a refusal, and 0 for none
 abbrev numberOf : {A : Type 0} → Checked A → ℕ
@@ -33,46 +34,54 @@ abbrev readNumber : Outcome → ℕ
 readNumber (R.read lines j) = 0
 readNumber (R.refused number place) = number
 
--- no refusal has the number 0
-zero-iff : {A : Type 0} (c : Checked A) → ((number place : ℕ) → c ≡ refused number place → 1 ≤ number) → (numberOf c ≡ 0) ↔ ((a : A) × (c ≡ passed a))
-zero-iff (passed a) f = (λ e. (a, refl), λ x. refl)
-zero-iff (refused number place) f = (λ e. absurd (omega (arith, f number place refl)), λ x. let y = x .1 in never (cc))
+-- numbers of refusals that are not 0
+module _ (P : ℕ → Type 0) (positive : (number : ℕ) → P number → 1 ≤ number) where
+  checked-number : {A : Type 0} (c : Checked A) → ((number place : ℕ) → c ≡ refused number place → P number)
+      → CallNumber P ((a : A) × (c ≡ passed a)) (numberOf c)
+  checked-number (passed a) f = record { zero-iff = (λ e. (a, refl), λ x. refl); otherwise = inl refl }
+  checked-number (refused number place) f = record {
+    zero-iff = (λ e. absurd (omega (arith, positive number (f number place refl))), λ x. let y = x .1 in never (cc));
+    otherwise = inr (f number place refl);
+  }
 
-read-zero : (o : Outcome) → ((number place : ℕ) → o ≡ R.refused number place → 1 ≤ number) → (readNumber o ≡ 0) ↔ ((n : ℕ) × (j : Job) × (o ≡ R.read n j))
-read-zero (R.read n j) f = (λ e. (n, j, refl), λ x. refl)
-read-zero (R.refused number place) f = (λ e. absurd (omega (arith, f number place refl)), λ x. let y = x .2 in never (cc))
+  outcome-number : (o : Outcome) → ((number place : ℕ) → o ≡ R.refused number place → P number)
+      → CallNumber P ((n : ℕ) × (j : Job) × (o ≡ R.read n j)) (readNumber o)
+  outcome-number (R.read n j) f = record { zero-iff = (λ e. (n, j, refl), λ x. refl); otherwise = inl refl }
+  outcome-number (R.refused number place) f = record {
+    zero-iff = (λ e. absurd (omega (arith, positive number (f number place refl))), λ x. let y = x .2 in never (cc));
+    otherwise = inr (f number place refl);
+  }
 
-at-least-one : (number : ℕ) → WithoutPlan number → 1 ≤ number
-at-least-one number (inl x) = x .0
-at-least-one number (inr e) = omega arith
+first : (last number : ℕ) → UpTo last number → 1 ≤ number
+first last number x = x .0
+
+first-without : (number : ℕ) → WithoutPlan number → 1 ≤ number
+first-without number (inl x) = x .0
+first-without number (inr e) = omega arith
 
 -- a call whose answers all have the number n
-module _ {A : Type 0} {numbers : A → Numbers} {promised : A → Type 0} {Passed : Type 0} {number : ℕ} {values : List ℕ} (n : ℕ) where
-  call-zero : Gives numbers promised number values → ((a : A) → promised a → numbers a .number ≡ n) → (n ≡ 0) ↔ Passed → (number ≡ 0) ↔ Passed
-  call-zero g f z =
-      let e : number ≡ n = g .number-is ∙ f (g .answer) (g .holds) in
-      (λ h. z .0 (sym e ∙ h), λ p. e ∙ z .1 p)
+given : {A : Type 0} {numbers : A → Numbers} {promised : A → Type 0} {P : ℕ → Type 0} {Passes : Type 0} {number : ℕ} {values : List ℕ} (n : ℕ)
+    → Gives numbers promised number values → ((a : A) → promised a → numbers a .number ≡ n) → CallNumber P Passes n → CallNumber P Passes number
+given {P} {Passes} n g f x = subst (CallNumber P Passes) (sym (g .number-is ∙ f (g .answer) (g .holds))) x
 
 -- of reading
-pub read-call-zero : (text : List ℕ) {number : ℕ} {values : List ℕ} → Gives readNumbers (λ a. a ≡ readAnswer (readJob text)) number values
-    → (number ≡ 0) ↔ ((n : ℕ) × (j : Job) × (readJob text ≡ R.read n j))
-read-call-zero text g =
-    call-zero (readNumber (readJob text)) g (λ a e. ap (λ x. readNumbers x .number) e ∙ same (readJob text)) (read-zero (readJob text) (λ m p e. read-number text m p e .0))
+pub read-call-number : (text : List ℕ) {number : ℕ} {values : List ℕ} → Gives readNumbers (λ a. a ≡ readAnswer (readJob text)) number values
+    → CallNumber (UpTo 3) ((n : ℕ) × (j : Job) × (readJob text ≡ R.read n j)) number
+read-call-number text g =
+    given (readNumber (readJob text)) g (λ a e. ap (λ x. readNumbers x .number) e ∙ same (readJob text))
+    (outcome-number (UpTo 3) (first 3) (readJob text) (read-number text))
   where
     same : (o : Outcome) → readNumbers (readAnswer o) .number ≡ readNumber o
     same (R.read n j) = refl
     same (R.refused m p) = refl
 
 -- of compiling
-pub compile-call-zero : (text list after : List ℕ) {number : ℕ} {values : List ℕ} → Gives compileNumbers (λ a. Compiles text list a after) number values
-    → (number ≡ 0) ↔ ((j : Job) × (compiling text (length list) ≡ passed j))
-compile-call-zero text list after g =
-    call-zero (numberOf c₀) g (λ a x. ap (λ y. compileNumbers y .number) (x .answers) ∙ same c₀)
-    (zero-iff c₀ (λ m p e. at-least-one m (compile-number text (length list) m p e)))
+pub compile-call-number : (text list after : List ℕ) {number : ℕ} {values : List ℕ} → Gives compileNumbers (λ a. Compiles text list a after) number values
+    → CallNumber WithoutPlan ((j : Job) × (compiling text (length list) ≡ passed j)) number
+compile-call-number text list after g =
+    given (numberOf (compiling text (length list))) g (λ a x. ap (λ y. compileNumbers y .number) (x .answers) ∙ same (compiling text (length list)))
+    (checked-number WithoutPlan first-without (compiling text (length list)) (compile-number text (length list)))
   where
-    c₀ : Checked Job
-    c₀ = compiling text (length list)
-
     same : (c : Checked Job) → compileNumbers (compileAnswer c) .number ≡ numberOf c
     same (passed j) = refl
     same (refused m p) = refl
@@ -82,11 +91,12 @@ check-same : (sort : Sort) (c : Checked Offer) (a : CheckAnswer) → Answers sor
 check-same sort c a (says x) = refl
 check-same sort c a refuses = refl
 
-pub check-call-zero : (sort : Sort) (text plan list after : List ℕ) {number : ℕ} {values : List ℕ}
-    → Gives checkNumbers (λ a. Checks sort text plan list a after) number values → (number ≡ 0) ↔ ((o : Offer) × (checking sort text plan (length list) ≡ passed o))
-check-call-zero sort text plan list after g =
-    call-zero (numberOf (checking sort text plan (length list))) g (λ a x. check-same sort _ a (x .answers))
-    (zero-iff (checking sort text plan (length list)) (λ m p e. check-number sort text plan (length list) m p e .0))
+pub check-call-number : (sort : Sort) (text plan list after : List ℕ) {number : ℕ} {values : List ℕ}
+    → Gives checkNumbers (λ a. Checks sort text plan list a after) number values
+    → CallNumber (UpTo 6) ((o : Offer) × (checking sort text plan (length list) ≡ passed o)) number
+check-call-number sort text plan list after g =
+    given (numberOf (checking sort text plan (length list))) g (λ a x. check-same sort _ a (x .answers))
+    (checked-number (UpTo 6) (first 6) (checking sort text plan (length list)) (check-number sort text plan (length list)))
 
 -- of the least cost
 cost-same : (old new : List ℕ) (c : Checked Job) (a : LeastAnswer) → CostAnswers old new c a → leastNumbers a .number ≡ numberOf c
@@ -94,19 +104,20 @@ cost-same old new c a (costs x t) = refl
 cost-same old new c a (no-plan f t) = refl
 cost-same old new c a (not-costed t) = refl
 
-pub cost-call-zero : (text list table l t : List ℕ) {number : ℕ} {values : List ℕ} → Gives leastNumbers (λ a. CostsLeast text list table a l t) number values
-    → (number ≡ 0) ↔ ((j : Job) × (costing text (length list) (length table) ≡ passed j))
-cost-call-zero text list table l t g =
-    call-zero (numberOf (costing text (length list) (length table))) g (λ a x. cost-same table t _ a (x .answers))
-    (zero-iff (costing text (length list) (length table)) (λ m p e. at-least-one m (cost-number text (length list) (length table) m p e)))
+pub cost-call-number : (text list table l t : List ℕ) {number : ℕ} {values : List ℕ} → Gives leastNumbers (λ a. CostsLeast text list table a l t) number values
+    → CallNumber WithoutPlan ((j : Job) × (costing text (length list) (length table) ≡ passed j)) number
+cost-call-number text list table l t g =
+    given (numberOf (costing text (length list) (length table))) g (λ a x. cost-same table t _ a (x .answers))
+    (checked-number WithoutPlan first-without (costing text (length list) (length table)) (cost-number text (length list) (length table)))
 
 -- of the judge
 judge-same : (old new : List ℕ) (c : Checked Offer) (a : JudgeAnswer) → JudgeAnswers old new c a → judgeNumbers a .number ≡ numberOf c
 judge-same old new c a (judges x t) = refl
 judge-same old new c a (not-judged t) = refl
 
-pub judge-call-zero : (text plan list table l t : List ℕ) {number : ℕ} {values : List ℕ} → Gives judgeNumbers (λ a. Judges text plan list table a l t) number values
-    → (number ≡ 0) ↔ ((o : Offer) × (judging text plan (length list) (length table) ≡ passed o))
-judge-call-zero text plan list table l t g =
-    call-zero (numberOf (judging text plan (length list) (length table))) g (λ a x. judge-same table t _ a (x .answers))
-    (zero-iff (judging text plan (length list) (length table)) (λ m p e. judge-number text plan (length list) (length table) m p e .0))
+pub judge-call-number : (text plan list table l t : List ℕ) {number : ℕ} {values : List ℕ}
+    → Gives judgeNumbers (λ a. Judges text plan list table a l t) number values
+    → CallNumber (UpTo 6) ((o : Offer) × (judging text plan (length list) (length table) ≡ passed o)) number
+judge-call-number text plan list table l t g =
+    given (numberOf (judging text plan (length list) (length table))) g (λ a x. judge-same table t _ a (x .answers))
+    (checked-number (UpTo 6) (first 6) (judging text plan (length list) (length table)) (judge-number text plan (length list) (length table)))

@@ -1,7 +1,7 @@
 -- Demand 3, as written: for accepted texts, a list and a table long enough, whatever they held, and every offered list of moves that the program allows.
 -- Assumes nothing.
 use Prim.Native.Nat.{ℕ, _≤_}
-use mathlib.Core.Path.{_≡_, refl, sym, subst}
+use mathlib.Core.Path.{_≡_, refl, sym, _∙_, ap, subst}
 use mathlib.Core.List.{List}
 use mathlib.Core.Logic.{inl, inr}
 use native.Mathlib.Omega.{arith}
@@ -17,15 +17,20 @@ use Rattle.semantics.specs.Judgement.{Finds, is-least, is-dearer, is-other}
 use Rattle.semantics.proofs.VerdictLaws.{one-move-verdict}
 use Rattle.domain.specs.Domain.{domainOf}
 use Rattle.compile.specs.Program.{programOf}
-use Rattle.offers.specs.Refusals.{Checked, passed, Offer, listNeed, tableNeed}
+use Rattle.validate.specs.declared.verdict.Verdict.{Verdict}
+use Rattle.offers.specs.Refusals.{Offer, listNeed, tableNeed}
 use Rattle.offers.specs.declared.offer.Sort.the-variants.{Moves}
-use Rattle.jesmovit.specs.Judging.{judging, judgementOf, JudgeAnswers, judges, not-judged, Judges}
+use Rattle.jesmovit.specs.Checking.{Checks}
+use Rattle.jesmovit.specs.Judging.{judgementOf, Judges}
+use Rattle.jesmovit.specs.declared.checking.CheckAnswer.the-variants.{Said}
+use Rattle.jesmovit.proofs.PassedLaws.{Told, judge-told}
 use Rattle.jesmovit.specs.declared.judging.Judgement.{Judgement}
 use Rattle.jesmovit.specs.declared.judging.Judgement.the-variants.{Least, Dearer, Other}
 use Rattle.jesmovit.specs.declared.judging.JudgeAnswer.{JudgeAnswer}
 use Rattle.theorems.specs.Accepted.{Accepted}
-use Rattle.theorems.specs.Decided.{answering, Decided}
+use Rattle.theorems.specs.Decided.{answering, Decided, verdictIn}
 use Rattle.theorems.proofs.Acceptance.{judging-iff}
+use Rattle.theorems.proofs.JudgedChecks.{judged-is-checked}
 
 -- an allowed list is a plan, by its cost
 allowed-plan : (D : Domain) (σ : Program) (ms : List ℕ) → Allowed D σ ms → S.Judged D (byRuns D σ) ms (S.plan (cost D (D .start) ms))
@@ -45,17 +50,33 @@ module _ (j : Job) (ms : List ℕ) (allowed : Allowed (domainOf j) (programOf j)
       record { own = c; low = b; own-cost = cc; low-cost = y; says = inr refl; exactly = (λ z. never (cc), λ z. absurd (omega arith)) }
   decided (Other v) (is-other x f) = absurd (f _ (sym (own-verdict _ x)))
 
-by-answer : (old new : List ℕ) (k : Checked Offer) (a : JudgeAnswer) → JudgeAnswers old new k a → (o : Offer) → k ≡ passed o
-    → Allowed (domainOf (o .job)) (programOf (o .job)) (o .entries) → Decided (o .job) (o .entries) a
-by-answer old new k a (judges {o = q} {g} x t) o e allowed =
-    let z : q ≡ o = cc in
-    let own = subst (λ (y : Offer). Allowed (domainOf (y .job)) (programOf (y .job)) (y .entries)) (sym z) allowed in
-    subst (λ (y : Offer). Decided (y .job) (y .entries) (answering (q .job) g)) z (decided (q .job) (q .entries) own g x)
-by-answer old new k a (not-judged t) o e allowed = never (cc)
+-- of what is no plan
+plan-allowed : (D : Domain) (σ : Program) (ms : List ℕ) (c : ℕ) → S.Judged D (byRuns D σ) ms (S.plan c) → Allowed D σ ms
+unfolding byRuns
+plan-allowed D σ ms c (S.is-plan run reached) = record { last = _; run = run; reached = reached }
+
+repeated : (j : Job) (ms : List ℕ) → (Allowed (domainOf j) (programOf j) ms → ⊥) → (g : Judgement) → Finds (domainOf j) (programOf j) ms (judgementOf g)
+    → g ≡ Other (verdictIn g)
+repeated j ms none (Least c) (is-least x y) = absurd (none (plan-allowed (domainOf j) (programOf j) ms c x))
+repeated j ms none (Dearer c b) (is-dearer x y h) = absurd (none (plan-allowed (domainOf j) (programOf j) ms c x))
+repeated j ms none (Other v) x = refl
 
 -- whatever answer, list and table meet the judge's contract
-pub judge-decides : (text plan list table : List ℕ) (o : Offer) → Accepted Moves text plan o → listNeed (o .job) ≤ length list → tableNeed (o .job) ≤ length table
-    → Allowed (domainOf (o .job)) (programOf (o .job)) (o .entries)
-    → (answer : JudgeAnswer) (list-after table-after : List ℕ) → Judges text plan list table answer list-after table-after → Decided (o .job) (o .entries) answer
-judge-decides text plan list table o a l t allowed answer list-after table-after x =
-    by-answer table table-after _ answer (x .answers) o (judging-iff text plan (length list) o (length table) .1 (a, l, t)) allowed
+module _ (text plan list table : List ℕ) (o : Offer) (accepted : Accepted Moves text plan o) (long : listNeed (o .job) ≤ length list)
+    (large : tableNeed (o .job) ≤ length table) (answer : JudgeAnswer) (list-after table-after : List ℕ)
+    (promised : Judges text plan list table answer list-after table-after) where
+  told : Told o table table-after answer
+  told = judge-told table table-after _ answer (promised .answers) o (judging-iff text plan (length list) o (length table) .1 (accepted, long, large))
+
+  pub judge-decides : Allowed (domainOf (o .job)) (programOf (o .job)) (o .entries) → Decided (o .job) (o .entries) answer
+  judge-decides allowed =
+      subst (Decided (o .job) (o .entries)) (sym (told .is)) (decided (o .job) (o .entries) allowed (told .judgement) (told .found .0))
+
+  -- "for others it repeats the check's verdict"
+  pub judge-repeats : (Allowed (domainOf (o .job)) (programOf (o .job)) (o .entries) → ⊥)
+      → (v : Verdict) × (answer ≡ answering (o .job) (Other v)) × Checks Moves text plan list (Said v) list-after
+  judge-repeats none =
+      let e = repeated (o .job) (o .entries) none (told .judgement) (told .found .0) in
+      let f : answer ≡ answering (o .job) (Other (verdictIn (told .judgement))) = told .is ∙ ap (answering (o .job)) e in
+      let p = subst (λ (a : JudgeAnswer). Judges text plan list table a list-after table-after) f promised in
+      (verdictIn (told .judgement), f, judged-is-checked text plan list table _ _ list-after table-after (Other (verdictIn (told .judgement))) p)

@@ -6,48 +6,35 @@ use mathlib.Core.List.{List}
 use lib.ListN.{length}
 use Rattle.semantics.specs.Program.{Program}
 use Rattle.semantics.specs.Domain.{Domain}
-use Rattle.semantics.specs.Verdict as S
-use Rattle.semantics.specs.Verdict.{byRuns}
-use Rattle.semantics.specs.Judgement.{Finds, least, dearer, other, is-least, is-dearer, is-other}
+use Rattle.semantics.specs.Verdict.{Judged, byRuns}
+use Rattle.semantics.specs.Judgement.{Finds, is-least, is-dearer, is-other}
 use Rattle.validate.specs.Verdict.{verdictOf}
-use Rattle.validate.specs.declared.verdict.Verdict.{Verdict}
-use Rattle.validate.specs.declared.verdict.Verdict.the-variants.{Plan}
 use Rattle.offers.specs.Refusals.{Checked, passed, Offer, jobsOf}
 use Rattle.offers.specs.declared.offer.Sort.the-variants.{Moves}
 use Rattle.jesmovit.specs.Compiling.{listAfter}
-use Rattle.jesmovit.specs.Checking.{checking, Says, says, Checks}
-use Rattle.jesmovit.specs.Judging.{judging, Judges}
+use Rattle.jesmovit.specs.Checking.{checking, says, Checks}
+use Rattle.jesmovit.specs.Judging.{judging, judgementOf, Judges}
 use Rattle.jesmovit.specs.declared.checking.CheckAnswer.the-variants.{Said}
+use Rattle.jesmovit.specs.declared.judging.Judgement.{Judgement}
 use Rattle.jesmovit.specs.declared.judging.Judgement.the-variants.{Least, Dearer, Other}
-use Rattle.jesmovit.specs.declared.judging.JudgeAnswer.the-variants.{Judged}
-use Rattle.theorems.proofs.Acceptance.{checking-iff, judging-iff}
+use Rattle.jesmovit.specs.declared.judging.JudgeAnswer as J
+use Rattle.jesmovit.proofs.PassedLaws.{judging-passes}
+use Rattle.theorems.specs.Decided.{verdictIn}
 use Rattle.theorems.proofs.JudgedCosts.{told}
 
-module _ {D : Domain} {σ : Program} {ms : List ℕ} where
-  least-plan : {c : ℕ} → Finds D σ ms (least c) → S.Judged D (byRuns D σ) ms (S.plan c)
-  least-plan (is-least x l) = x
+-- what the judge finds has the verdict in it
+found-verdict : (D : Domain) (σ : Program) (ms : List ℕ) (g : Judgement) → Finds D σ ms (judgementOf g) → Judged D (byRuns D σ) ms (verdictOf (verdictIn g))
+found-verdict D σ ms (Least c) (is-least x l) = x
+found-verdict D σ ms (Dearer c b) (is-dearer x l h) = x
+found-verdict D σ ms (Other v) (is-other x f) = x
 
-  dearer-plan : {c b : ℕ} → Finds D σ ms (dearer c b) → S.Judged D (byRuns D σ) ms (S.plan c)
-  dearer-plan (is-dearer x l h) = x
-
-  other-verdict : {v : S.Verdict} → Finds D σ ms (other v) → S.Judged D (byRuns D σ) ms v
-  other-verdict (is-other x f) = x
-
-module _ (text plan list table : List ℕ) (positions steps : ℕ) (l t : List ℕ) where
-  abbrev k₀ : Checked Offer
-  k₀ = judging text plan (length list) (length table)
-
-  checked : (o : Offer) (v : Verdict) → k₀ ≡ passed o → Says Moves o (verdictOf v) → l ≡ listAfter (jobsOf k₀) list → Checks Moves text plan list (Said v) l
-  checked o v e x h =
-      let j = judging-iff text plan (length list) o (length table) .0 e in
-      let f : checking Moves text plan (length list) ≡ passed o = checking-iff text plan (length list) o Moves .1 (j .0, j .1) in
-      record { answers = rw f (says x); holds = h ∙ ap (λ (c : Checked Offer). listAfter (jobsOf c) list) e ∙ rw f }
-
-  pub other-is-checked : (v : Verdict) → Judges text plan list table (Judged positions steps (Other v)) l t → Checks Moves text plan list (Said v) l
-  other-is-checked v x = let w = told table t _ positions steps (Other v) (x .answers) in checked (w .offer) v (w .is) (other-verdict (w .finds)) (x .holds)
-
-  pub least-is-checked : (c : ℕ) → Judges text plan list table (Judged positions steps (Least c)) l t → Checks Moves text plan list (Said (Plan c)) l
-  least-is-checked c x = let w = told table t _ positions steps (Least c) (x .answers) in checked (w .offer) (Plan c) (w .is) (least-plan (w .finds)) (x .holds)
-
-  pub dearer-is-checked : (c b : ℕ) → Judges text plan list table (Judged positions steps (Dearer c b)) l t → Checks Moves text plan list (Said (Plan c)) l
-  dearer-is-checked c b x = let w = told table t _ positions steps (Dearer c b) (x .answers) in checked (w .offer) (Plan c) (w .is) (dearer-plan (w .finds)) (x .holds)
+pub judged-is-checked : (text plan list table : List ℕ) (positions steps : ℕ) (l t : List ℕ) (g : Judgement)
+    → Judges text plan list table (J.the-variants.Judged positions steps g) l t → Checks Moves text plan list (Said (verdictIn g)) l
+judged-is-checked text plan list table positions steps l t g x =
+    let w = told table t _ positions steps g (x .answers) in
+    let o = w .offer in
+    let f : checking Moves text plan (length list) ≡ passed o = judging-passes text plan (length list) (length table) o .0 (w .is) .0 in
+    record {
+      answers = rw f (says (found-verdict _ _ (o .entries) g (w .finds)));
+      holds = x .holds ∙ ap (λ (c : Checked Offer). listAfter (jobsOf c) list) (w .is) ∙ rw f;
+    }

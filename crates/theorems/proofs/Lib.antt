@@ -12,9 +12,9 @@ pub mod CostSum
 pub mod OneAnswer
 pub mod OneCall
 pub mod CallNumbers
-pub mod JudgeDecides
 pub mod JudgedCosts
 pub mod JudgedChecks
+pub mod JudgeDecides
 pub mod Exhibited
 pub mod ExhibitedLeast
 pub mod MarkedCases

@@ -1,4 +1,4 @@
--- A plan text of 65,536 bytes or more is read just as its first 65,536 bytes are: right texts are short.
+-- A plan text of 65,536 bytes or more is answered just as its first 65,536 bytes are: right texts are short.
 -- Assumes nothing.
 use Prim.Native.Nat.{ℕ, zero, suc, _+_, _*_, _≤_, _<_}
 use mathlib.Core.Path.{_≡_, refl, sym, _∙_}
@@ -9,13 +9,17 @@ use native.Mathlib.Omega.{arith}
 use lib.ListN.{length, take}
 use Rattle.text.specs.Bytes.{bytes}
 use Rattle.theorems.proofs.Fronts.{front-decides}
-use Rattle.text.proofs.LineText.{line-short}
+use Rattle.text.proofs.LineText.{mostBytes, line-short}
+use Rattle.job.specs.Job.{Job}
 use Rattle.plans.specs.PlanText.{PlanOutcome, mostEntries, entryIn, readEntries, readLines, readPlan}
+use Rattle.offers.specs.Refusals.{keyFor, boundFor}
+use Rattle.offers.specs.declared.offer.Sort.{Sort}
+use Rattle.offers.specs.declared.offer.Sort.the-variants.{Moves, Steps}
 use Rattle.plans.proofs.PlanLaws.{countIn, count-right, count-wrong, line-right, line-wrong, entry-number}
 
--- how many bytes a right line of one number has at the most
+-- how many bytes a right line has at the most: it has one number
 abbrev most : List ℕ → ℕ
-most key = length key + 2 + 6 * 1
+most key = mostBytes key 1
 
 module _ (key : List ℕ) (limit : ℕ) (line : List ℕ) where
   entry-short : (v : ℕ) → entryIn key limit line ≡ some v → length line ≤ most key
@@ -75,7 +79,16 @@ module _ (key : List ℕ) (bound : ℕ) where
     same (within got zero) f = refl
     same (within got (suc due)) f = entry-same got due (entryIn key bound line) refl f
 
-pub long-plan : (key : List ℕ) (bound : ℕ) (text : List ℕ) → length key ≤ 1 → 65536 ≤ length text → readPlan key bound text ≡ readPlan key bound (take 65536 text)
+long-by : (key : List ℕ) (bound : ℕ) (text : List ℕ) → length key ≤ 1 → 65536 ≤ length text → readPlan key bound text ≡ readPlan key bound (take 65536 text)
 unfolding readPlan bytes
-long-plan key bound text k h =
+long-by key bound text k h =
     front-decides (read key bound) (ahead key bound) (long key bound) (λ p line rest more. same key bound line rest more p) 65536 begun text (omega arith) h
+
+key-short : (sort : Sort) → length (keyFor sort) ≤ 1
+unfolding bytes
+key-short Moves = omega arith
+key-short Steps = omega arith
+
+pub long-plan : (sort : Sort) (j : Job) (text : List ℕ) → 65536 ≤ length text
+    → readPlan (keyFor sort) (boundFor sort j) text ≡ readPlan (keyFor sort) (boundFor sort j) (take 65536 text)
+long-plan sort j text h = long-by (keyFor sort) (boundFor sort j) text (key-short sort) h

@@ -1,4 +1,4 @@
--- A text of 65,536 bytes or more is refused just as its first 65,536 bytes are: right texts are short.
+-- A text of 65,536 bytes or more is answered just as its first 65,536 bytes are: right texts are short.
 -- Assumes nothing.
 use Prim.Native.Nat.{ℕ, _+_, _-_, _*_, _≤_, _<_}
 use mathlib.Core.Path.{_≡_, refl, sym, _∙_, ap}
@@ -13,7 +13,7 @@ use borrow.Author.Tests.{leb-true}
 use Rattle.laws.proofs.Tests.{never, and-right, cond-has}
 use Rattle.text.specs.Bytes.{bytes}
 use Rattle.theorems.proofs.Fronts.{front-decides}
-use Rattle.text.proofs.LineText.{line-short}
+use Rattle.text.proofs.LineText.{mostBytes, line-short}
 use Rattle.job.specs.Job.{countsOf}
 use Rattle.job.specs.Line.{formOf, rowNumbers}
 use Rattle.job.specs.Fault.{fault}
@@ -28,7 +28,7 @@ use Rattle.reader.proofs.ReadLaws.{line-right, line-wrong}
 
 -- how many bytes a right line of this sort has at the most
 abbrev most : Line → ℕ
-most k = length (formOf k .key) + 2 + 6 * formOf k .width
+most k = mostBytes (formOf k .key) (formOf k .width)
 
 row-short : (k : Line) (line r : List ℕ) → rowNumbers k line ≡ some r → length line ≤ most k
 unfolding rowNumbers

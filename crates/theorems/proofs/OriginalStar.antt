@@ -25,10 +25,9 @@ use Rattle.domain.specs.Cost.{classCost}
 use Rattle.domain.specs.Domain.{holdsIn, successorOf, costIn, domainOf}
 use Rattle.compile.specs.Program.{build, programs, programOf}
 use Rattle.theorems.specs.MarkedCases.{starOfWhile}
-use Rattle.theorems.specs.OriginalStar.{originalEnd, originalSteps}
+use Rattle.theorems.specs.OriginalStar.{originalEnd, originalSteps, StarFails}
 
--- the job of marked case 8
-abbrev pub caseEight : Job
+abbrev caseEight : Job
 caseEight = record {
   scalars = record { facts = 2; init = 0; goal = 1 };
   formulas = record { kind = 1; a = 0; b = 0 } ∷ record { kind = 2; a = 0; b = 0 } ∷ record { kind = 2; a = 1; b = 0 } ∷ record { kind = 3; a = 1; b = 0 } ∷ [];
@@ -37,9 +36,9 @@ caseEight = record {
   program = record { kind = 1; a = 0; b = 0; c = 0 } ∷ record { kind = 7; a = 3; b = 0; c = 0 } ∷ record { kind = 8; a = 1; b = 0; c = 0 } ∷ [];
 }
 
-pub case-eight : readJob starOfWhile ≡ read 18 caseEight
+case-read : readJob starOfWhile ≡ read 18 caseEight
 unfolding bytes lines hasKey valueOf byteRead numbers rowNumbers fault taken ended readFrom readJob
-case-eight = refl
+case-read = refl
 
 abbrev D : Domain
 D = domainOf caseEight
@@ -48,20 +47,16 @@ D = domainOf caseEight
 abbrev body : Program
 body = while 3 (move 0)
 
--- "star of (while formula 3 do 0)"
-pub star-of-body : programOf caseEight ≡ star body
+star-of-body : programOf caseEight ≡ star body
 unfolding build programs
 star-of-body = refl
 
 -- into the while, move 0, back to the while's position, which is the star's too, and out through the star
-pub original-star-completes : (is : List ℕ) × (t : ℕ) × Path D (originalSteps (D .moves) body 0) (D .start) 0 is (0 ∷ []) t (originalEnd body 0)
+way-out : Path D (originalSteps (D .moves) body 0) (D .start) 0 (1 ∷ 0 ∷ 3 ∷ 4 ∷ []) (0 ∷ []) 2 (originalEnd body 0)
 unfolding end steps whileSteps fact putFact value values afterEffect applied affected holdsIn successorOf
-original-star-completes = (
-  1 ∷ 0 ∷ 3 ∷ 4 ∷ [],
-  2,
-  P.step (there here) (passes refl)
-      (P.step here (moves-on refl) (P.step (there (there (there here))) idles (P.step (there (there (there (there here)))) idles P.stop))),
-)
+way-out =
+    P.step (there here) (passes refl)
+    (P.step here (moves-on refl) (P.step (there (there (there here))) idles (P.step (there (there (there (there here)))) idles P.stop)))
 
 -- the program's own runs, by the verdict on move 0
 computed : verdict D (star body) (0 ∷ []) ≡ unfinished
@@ -72,6 +67,20 @@ computed = refl
 not-completed : (E : Entries) (es : List ℕ) → Judged D E es unfinished → (t : ℕ) → E .Completed es t → ⊥
 not-completed E es (is-unfinished x f) = f
 
-pub no-run-completes : (t : ℕ) → Run D (D .start) (star body) (0 ∷ []) t nil → ⊥
+no-run : (t : ℕ) → Run D (D .start) (programOf caseEight) (0 ∷ []) t nil → ⊥
 unfolding byRuns
-no-run-completes = not-completed (byRuns D (star body)) (0 ∷ []) (rw computed at (verdict-judged D (star body) (0 ∷ [])))
+no-run = rw star-of-body (not-completed (byRuns D (star body)) (0 ∷ []) (rw computed at (verdict-judged D (star body) (0 ∷ []))))
+
+-- marked case 8: "case 8 would say goal missed"
+pub original-star-fails : StarFails starOfWhile (0 ∷ [])
+original-star-fails = record {
+  lines = 18;
+  job = caseEight;
+  is-read = case-read;
+  body = body;
+  is-star = star-of-body;
+  numbers = 1 ∷ 0 ∷ 3 ∷ 4 ∷ [];
+  last = 2;
+  path = way-out;
+  no-run = no-run;
+}

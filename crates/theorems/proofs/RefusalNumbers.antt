@@ -1,10 +1,10 @@
--- The numbers by which each operation refuses. None is 0, so that 0 from a call from outside means that nothing is refused.
+-- The numbers by which each operation refuses.
 -- Assumes nothing.
 use Prim.Native.Nat.{ℕ, _+_, _≤_}
 use mathlib.Core.Path.{_≡_, refl, subst}
 use mathlib.Core.Bool.{cond}
 use mathlib.Core.List.{List, [], _∷_}
-use mathlib.Core.Logic.{_⊎_, inl, inr}
+use mathlib.Core.Logic.{inl, inr}
 use mathlib.Core.Option.{Option, none, some}
 use native.Mathlib.Omega.{arith}
 use lib.Dec.{eqb, leb}
@@ -28,10 +28,7 @@ use Rattle.offers.specs.declared.offer.Sort.the-variants.{Moves}
 use Rattle.jesmovit.specs.Compiling.{compiling}
 use Rattle.jesmovit.specs.Checking.{checking}
 use Rattle.jesmovit.specs.Judging.{costing, judging}
-
--- one of the numbers from 1 to the last
-abbrev pub UpTo : ℕ → ℕ → Type 0
-UpTo last number = (1 ≤ number) × (number ≤ last)
+use Rattle.theorems.specs.RefusalNumbers.{UpTo, WithoutPlan}
 
 -- whatever refusal it is, its number meets P
 abbrev RefusedBy : {A : Type 0} → (ℕ → Type 0) → Checked A → Type 0
@@ -51,76 +48,72 @@ unfolding fault
 fault-small next c none = omega arith
 fault-small next c (some r) = first-small (checks next c r)
 
-from-ranged : (n : ℕ) (s : Reading) (ls : List (List ℕ)) → Ranged (readFrom n s ls)
+reading-refuses : (n : ℕ) (s : Reading) (ls : List (List ℕ)) → Ranged (readFrom n s ls)
 unfolding readFrom ended
-from-ranged n s [] = cond-has Ranged (isEnd (s .next)) (R.read n (s .job)) (R.refused 1 (n + 1)) (λ z a b e. never (cc)) (λ z a b e. let y : a ≡ 1 = cc in (omega arith, omega arith))
-from-ranged n s (line ∷ ls) =
+reading-refuses n s [] = cond-has Ranged (isEnd (s .next)) (R.read n (s .job)) (R.refused 1 (n + 1)) (λ z a b e. never (cc)) (λ z a b e. let y : a ≡ 1 = cc in (omega arith, omega arith))
+reading-refuses n s (line ∷ ls) =
     let reason = fault (s .next) (countsOf (s .job)) (rowNumbers (s .next) line) in
-    cond-has Ranged (eqb reason 0) _ (R.refused reason (n + 1)) (λ z. from-ranged (n + 1) _ ls)
+    cond-has Ranged (eqb reason 0) _ (R.refused reason (n + 1)) (λ z. reading-refuses (n + 1) _ ls)
     (λ z a b e. let y : reason ≡ a = cc in (omega (arith, eqb-false reason 0 z), omega (arith, fault-small (s .next) (countsOf (s .job)) (rowNumbers (s .next) line))))
 
 -- of reading a job
 pub read-number : (text : List ℕ) (number place : ℕ) → readJob text ≡ R.refused number place → UpTo 3 number
 unfolding readJob
-read-number text = from-ranged 0 begun (lines text)
+read-number text = reading-refuses 0 begun (lines text)
 
--- a stage after others
-then : {A B : Type 0} (P : ℕ → Type 0) (c : Checked A) (f : A → Checked B) → RefusedBy P c → ((a : A) → RefusedBy P (f a)) → RefusedBy P (next c f)
-then P (passed a) f x y = y a
-then P (refused m q) f x y = λ number place e. x number place (cc)
+-- a chain refuses as its parts do
+next-refuses : {A B : Type 0} (P : ℕ → Type 0) (c : Checked A) (f : A → Checked B) → RefusedBy P c → ((a : A) → RefusedBy P (f a)) → RefusedBy P (next c f)
+next-refuses P (passed a) f x y = y a
+next-refuses P (refused m q) f x y = λ number place e. x number place (cc)
 
 -- the stage of reason 6
-by-length : {A : Type 0} (P : ℕ → Type 0) (a : A) (need places : ℕ) → P 6 → RefusedBy P (cond (leb need places) (passed a) (refused 6 need))
-by-length P a need places six =
+length-refuses : {A : Type 0} (P : ℕ → Type 0) (a : A) (need places : ℕ) → P 6 → RefusedBy P (cond (leb need places) (passed a) (refused 6 need))
+length-refuses P a need places six =
     cond-has (RefusedBy P) (leb need places) (passed a) (refused 6 need) (λ z number place e. never (cc)) (λ z number place e. let y : 6 ≡ number = cc in subst P y six)
 
-limits-number : (o : Outcome) → Ranged o → RefusedBy (UpTo 4) (limits o)
-limits-number (R.read n j) r = cond-has (RefusedBy (UpTo 4)) (fits j) (passed j) (refused 4 n) (λ z a b e. never (cc)) (λ z a b e. let y : a ≡ 4 = cc in (omega arith, omega arith))
-limits-number (R.refused m p) r = λ a b e. let y : m ≡ a = cc in let x = r m p refl in (omega (arith, x .0), omega (arith, x .1))
+limits-refuse : (o : Outcome) → Ranged o → RefusedBy (UpTo 4) (limits o)
+limits-refuse (R.read n j) r = cond-has (RefusedBy (UpTo 4)) (fits j) (passed j) (refused 4 n) (λ z a b e. never (cc)) (λ z a b e. let y : a ≡ 4 = cc in (omega arith, omega arith))
+limits-refuse (R.refused m p) r = λ a b e. let y : m ≡ a = cc in let x = r m p refl in (omega (arith, x .0), omega (arith, x .1))
 
 -- of a job text: reasons 1 to 4
 pub job-number : (text : List ℕ) (number place : ℕ) → jobIn text ≡ refused number place → UpTo 4 number
 unfolding jobIn
-job-number text = limits-number (readJob text) (read-number text)
+job-number text = limits-refuse (readJob text) (read-number text)
 
-offered-number : (j : Job) (p : PlanOutcome) → RefusedBy (UpTo 5) (offered j p)
-offered-number j (P.listed es) = λ a b e. never (cc)
-offered-number j (P.refused line) = λ a b e. let y : a ≡ 5 = cc in (omega arith, omega arith)
+offered-refuses : (j : Job) (p : PlanOutcome) → RefusedBy (UpTo 5) (offered j p)
+offered-refuses j (P.listed es) = λ a b e. never (cc)
+offered-refuses j (P.refused line) = λ a b e. let y : a ≡ 5 = cc in (omega arith, omega arith)
 
 -- and of a plan text beside it: 5 too
 pub texts-number : (sort : Sort) (text plan : List ℕ) (number place : ℕ) → offerIn sort text plan ≡ refused number place → UpTo 5 number
 unfolding offerIn
 texts-number sort text plan =
-    then (UpTo 5) (jobIn text) (λ j. offered j (readPlan (keyFor sort) (boundFor sort j) plan))
+    next-refuses (UpTo 5) (jobIn text) (λ j. offered j (readPlan (keyFor sort) (boundFor sort j) plan))
     (λ a b e. let x = job-number text a b e in (x .0, omega (arith, x .1)))
-    (λ j. offered-number j (readPlan (keyFor sort) (boundFor sort j) plan))
-
--- 1 to 4, or 6
-abbrev pub WithoutPlan : ℕ → Type 0
-WithoutPlan number = UpTo 4 number ⊎ (number ≡ 6)
+    (λ j. offered-refuses j (readPlan (keyFor sort) (boundFor sort j) plan))
 
 -- of compiling
 pub compile-number : (text : List ℕ) (places : ℕ) (number place : ℕ) → compiling text places ≡ refused number place → WithoutPlan number
 unfolding compiling
 compile-number text places =
-    then WithoutPlan (jobIn text) _ (λ a b e. inl (job-number text a b e)) (λ j. by-length WithoutPlan j (listNeed j) places (inr refl))
+    next-refuses WithoutPlan (jobIn text) _ (λ a b e. inl (job-number text a b e)) (λ j. length-refuses WithoutPlan j (listNeed j) places (inr refl))
 
 -- of the least cost
 pub cost-number : (text : List ℕ) (places cells : ℕ) (number place : ℕ) → costing text places cells ≡ refused number place → WithoutPlan number
 unfolding costing
 cost-number text places cells =
-    then WithoutPlan (compiling text places) _ (compile-number text places) (λ j. by-length WithoutPlan j (tableNeed j) cells (inr refl))
+    next-refuses WithoutPlan (compiling text places) _ (compile-number text places) (λ j. length-refuses WithoutPlan j (tableNeed j) cells (inr refl))
 
 -- of a check
 pub check-number : (sort : Sort) (text plan : List ℕ) (places : ℕ) (number place : ℕ) → checking sort text plan places ≡ refused number place → UpTo 6 number
 unfolding checking
 check-number sort text plan places =
-    then (UpTo 6) (offerIn sort text plan) _ (λ a b e. let x = texts-number sort text plan a b e in (x .0, omega (arith, x .1)))
-    (λ o. by-length (UpTo 6) o (listNeed (o .job)) places (omega arith, omega arith))
+    next-refuses (UpTo 6) (offerIn sort text plan) _ (λ a b e. let x = texts-number sort text plan a b e in (x .0, omega (arith, x .1)))
+    (λ o. length-refuses (UpTo 6) o (listNeed (o .job)) places (omega arith, omega arith))
 
 -- of the judge
 pub judge-number : (text plan : List ℕ) (places cells : ℕ) (number place : ℕ) → judging text plan places cells ≡ refused number place → UpTo 6 number
 unfolding judging
 judge-number text plan places cells =
-    then (UpTo 6) (checking Moves text plan places) _ (check-number Moves text plan places)
-    (λ o. by-length (UpTo 6) o (tableNeed (o .job)) cells (omega arith, omega arith))
+    next-refuses (UpTo 6) (checking Moves text plan places) _ (check-number Moves text plan places)
+    (λ o. length-refuses (UpTo 6) o (tableNeed (o .job)) cells (omega arith, omega arith))

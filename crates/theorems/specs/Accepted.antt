@@ -11,14 +11,14 @@ use Rattle.offers.specs.Refusals.{Offer, keyFor, boundFor}
 use Rattle.offers.specs.declared.offer.Sort.{Sort}
 use Rattle.theorems.specs.JobText.{jobText}
 
--- reasons 1 to 4 refuse no text of a well-formed job "within the limits"
+-- no reason from 1 to 4 refuses the text of a well-formed job: "At most 256 positions and 1,024 steps."
 pub record AcceptedJob (text : List ℕ) (j : Job) : Type 0 where
   pub right : WellFormed j
   pub positions : positionCount j ≤ 256
   pub steps : stepCount j ≤ 1024
   pub written : text ≡ jobText j
 
--- nor reason 5 the text of at most 4,000 entries that the job has
+-- nor does reason 5 refuse a plan text: "`plan=K`, K from 0 to 4,000, then K lines `m=move`, or `t=step`", of moves or steps that the job has
 pub record AcceptedPlan (sort : Sort) (j : Job) (plan entries : List ℕ) : Type 0 where
   pub few : length entries ≤ 4000
   pub each : (i : ℕ) → i < length entries → getD entries i 0 < boundFor sort j

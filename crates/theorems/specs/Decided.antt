@@ -9,7 +9,9 @@ use Rattle.domain.specs.Domain.{domainOf}
 use Rattle.compile.specs.Program.{programOf}
 use Rattle.compile.specs.CompiledJob.{positionCount, stepCount}
 use Rattle.jesmovit.specs.declared.judging.Judgement.{Judgement}
-use Rattle.jesmovit.specs.declared.judging.Judgement.the-variants.{Least as SaidLeast, Dearer}
+use Rattle.jesmovit.specs.declared.judging.Judgement.the-variants.{Least as SaidLeast, Dearer, Other}
+use Rattle.validate.specs.declared.verdict.Verdict.{Verdict}
+use Rattle.validate.specs.declared.verdict.Verdict.the-variants.{Plan}
 use Rattle.jesmovit.specs.declared.judging.JudgeAnswer.{JudgeAnswer}
 use Rattle.jesmovit.specs.declared.judging.JudgeAnswer.the-variants.{Judged}
 
@@ -28,3 +30,9 @@ pub record Decided (j : Job) (ms : List ℕ) (answer : JudgeAnswer) : Type 0 whe
   pub says : (answer ≡ answering j (SaidLeast own)) ⊎ (answer ≡ answering j (Dearer own low))
   -- "exactly when equal"
   pub exactly : (answer ≡ answering j (SaidLeast own)) ↔ (own ≡ low)
+
+-- the check's verdict that a judgement has in it: "adds least or dearer with both costs; for others it repeats the check's verdict"
+abbrev pub verdictIn : Judgement → Verdict
+verdictIn (SaidLeast cost) = Plan cost
+verdictIn (Dearer cost low) = Plan cost
+verdictIn (Other v) = v

@@ -1,9 +1,16 @@
 -- The star as 003's own compiling table has it: "C(σ*, n, E) = (L · [Cnoop(n, n₂), Cnoop(n₁, n)], L′, n₂)", where the body L starts at n itself.
 use Prim.Native.Nat.{ℕ, suc}
+use mathlib.Core.Path.{_≡_}
 use mathlib.Core.List.{List, [], _∷_, _++_}
+use Rattle.job.specs.Job.{Job}
+use Rattle.job.specs.ReadJob.{read, readJob}
 use Rattle.semantics.specs.Label.{noop}
-use Rattle.semantics.specs.Program.{Program}
+use Rattle.semantics.specs.Program.{Program, nil, star}
+use Rattle.semantics.specs.Transition.{Run}
 use Rattle.semantics.specs.CompilingTable.{Step, arc, end, steps}
+use Rattle.semantics.specs.Path.{Path}
+use Rattle.domain.specs.Domain.{domainOf}
+use Rattle.compile.specs.Program.{programOf}
 
 -- where it ends
 abbrev pub originalEnd : Program → ℕ → ℕ
@@ -12,3 +19,17 @@ originalEnd a n = suc (end a n)
 -- its steps, where the job has M moves
 abbrev pub originalSteps : ℕ → Program → ℕ → List Step
 originalSteps M a n = steps M a n ++ (arc noop n (originalEnd a n) ∷ arc noop (end a n) n ∷ [])
+
+-- a job text whose program is a star, of which these steps allow a list of moves that the program does not complete
+pub record StarFails (text moves : List ℕ) : Type 0 where
+  pub lines : ℕ
+  pub job : Job
+  pub is-read : readJob text ≡ read lines job
+  pub body : Program
+  pub is-star : programOf job ≡ star body
+  -- some path with these moves reaches the final position
+  pub numbers : List ℕ
+  pub last : ℕ
+  pub path : Path (domainOf job) (originalSteps (domainOf job .moves) body 0) (domainOf job .start) 0 numbers moves last (originalEnd body 0)
+  -- no run of the program that makes them leaves nil
+  pub no-run : (t : ℕ) → Run (domainOf job) (domainOf job .start) (programOf job) moves t nil → ⊥
