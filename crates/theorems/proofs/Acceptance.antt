@@ -15,7 +15,6 @@ use Rattle.job.specs.Job.{Job}
 use Rattle.job.specs.ReadJob.{read, readJob}
 use Rattle.job.specs.WellFormed.{WellFormed}
 use Rattle.reader.proofs.ReadLaws.{read-well-formed, read-lines}
-use Rattle.compile.specs.CompiledJob.{stepCount}
 use Rattle.compile.proofs.FitLaws.{few-positions, few-steps}
 use Rattle.plans.specs.PlanText.{listed, readPlan}
 use Rattle.offers.specs.Refusals.{Checked, passed, next, limits, jobIn, Offer, offered, keyFor, boundFor, offerIn, listNeed, tableNeed}
