@@ -9,10 +9,13 @@ use crate::second::reader::{read_job, read_plan};
 type Edge = (&'static str, fn(&Look) -> bool);
 
 /// The limits, in the order in which they are printed.
-pub const EDGES: [Edge; 22] = [
+pub const EDGES: [Edge; 27] = [
     ("0 facts", |look| look.job(|job| job.facts == 0)),
     ("12 facts", |look| look.job(|job| job.facts == MOST_FACTS)),
     ("13 facts", |look| look.refused_line == Some(b"facts=13")),
+    ("greatest init", |look| look.job(|job| job.facts > 0 && job.init == (1 << job.facts) - 1)),
+    ("init too large", |look| look.refused_line.is_some_and(|line| line.starts_with(b"init="))),
+    ("0 formulas", |look| look.refused_line == Some(b"formulas=0")),
     ("255 formulas", |look| look.job(|job| job.formulas.len() == usize::from(MOST_FORMULAS))),
     ("256 formulas", |look| look.refused_line == Some(b"formulas=256")),
     ("0 moves", |look| look.job(|job| job.moves.is_empty())),
@@ -22,7 +25,9 @@ pub const EDGES: [Edge; 22] = [
         look.job(|job| job.moves.iter().any(|action| action.effects.len() == usize::from(MOST_EFFECTS)))
     }),
     ("17 effects", |look| look.refused_line.is_some_and(|line| line.starts_with(b"m=") && line.ends_with(b",17"))),
+    ("class 15", |look| look.job(|job| job.moves.iter().any(|action| action.class == CLASSES - 1))),
     ("any over 0 moves", |look| look.job(|job| job.moves.is_empty() && job.rows.iter().any(|row| row[0] == 2))),
+    ("0 rows", |look| look.refused_line == Some(b"program=0")),
     ("128 rows", |look| look.job(|job| job.rows.len() == usize::from(MOST_ROWS))),
     ("129 rows", |look| look.refused_line == Some(b"program=129")),
     ("256 positions", |look| look.size(|size, _| size.length + 1 == MOST_POSITIONS && size.fits())),
@@ -33,7 +38,10 @@ pub const EDGES: [Edge; 22] = [
     ("1048576 costs", |look| look.size(|size, facts| size.fits() && (size.length + 1) << facts == 1_048_576)),
     ("plan of 4000 moves", |look| look.entries(&look.case.moves, b'm', |job| job.moves.len())),
     ("plan of 4000 steps", |look| look.entries(&look.case.steps, b't', |job| program_size(job).steps as usize)),
-    ("plan=4001", |look| [&look.case.moves, &look.case.steps].iter().any(|text| text.starts_with(b"plan=4001\n"))),
+    ("plan=4001", |look| {
+        let texts = [&look.case.moves, &look.case.steps];
+        look.size(|size, _| size.fits()) && texts.iter().any(|text| text.starts_with(b"plan=4001\n"))
+    }),
 ];
 
 /// A job, and the size of its program.

@@ -20,7 +20,6 @@ fn twelve_facts() {
     worked.checks_steps(&[0, 1], [PLAN, 25]);
     worked.costs([COSTS, 25]);
     worked.judges(&[0, 1], [LEAST, 25, 25]);
-    all_refuse(worked.job.replace("facts=12", "facts=13").as_bytes(), 2, 2);
 }
 
 /// The sample with a program of these rows.

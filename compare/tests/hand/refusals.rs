@@ -33,46 +33,13 @@ fn examples_of_the_table() {
     short.holds(&[], &[]);
 }
 
+/// What `tests/job_texts.table` lacks.
 #[test]
-fn wrong_forms() {
-    changed("facts=2", "facts=02", 1, 2);
-    changed("facts=2", "facts=", 1, 2);
+fn forms_and_fields() {
     changed("facts=2", "facts=65536", 1, 2);
     changed("facts=2", "facts=65535", 2, 2);
     changed("facts=2", "facts=2\r", 1, 2);
-    changed("facts=2", "facts= 2", 1, 2);
-    changed("facts=2", "facts=2,0", 1, 2);
-    changed("facts=2", "fact=2", 1, 2);
-    changed("f=1,0,0", "f=1,0", 1, 5);
-    changed("e=0,1,1\n", "", 1, 11);
-    changed("p=4,0,1,0\n", "p=4,0,1,0\n\n", 1, 19);
-    changed("p=4,0,1,0\n", "p=4,0,1,0", 1, 18);
-    changed("p=4,0,1,0\n", "", 1, 18);
-    all_refuse(b"", 1, 1);
-    all_refuse(b"\n", 1, 1);
-    all_refuse(b"job=1\n", 1, 2);
-}
-
-#[test]
-fn counts_and_fields() {
-    changed("init=0", "init=4", 2, 3);
-    changed("formulas=4", "formulas=0", 2, 4);
-    changed("formulas=4", "formulas=256", 2, 4);
-    changed("moves=2", "moves=65", 2, 9);
-    changed("program=3", "program=0", 2, 15);
-    changed("program=3", "program=129", 2, 15);
-    changed("m=0,3,1", "m=0,3,17", 2, 10);
     changed("m=0,3,1", "m=9,16,17", 2, 10);
-    changed("m=0,3,1", "m=0,16,1", 3, 10);
-    changed("m=0,3,1", "m=4,3,1", 3, 10);
-    changed("e=0,1,1", "e=0,2,1", 3, 11);
-    changed("e=0,1,1", "e=0,1,2", 3, 11);
-    changed("f=1,0,0", "f=6,0,0", 3, 5);
-    changed("f=1,0,0", "f=1,0,1", 3, 5);
-    changed("f=3,1,0", "f=3,3,0", 3, 8);
-    changed("f=2,1,0", "f=2,2,0", 3, 7);
-    changed("p=1,1,0,0", "p=1,2,0,0", 3, 17);
-    changed("p=4,0,1,0", "p=4,0,2,0", 3, 18);
     changed("p=4,0,1,0", "p=9,0,0,0", 3, 18);
 }
 

@@ -6,18 +6,16 @@ use crate::worked::Worked;
 
 const X: u32 = UNREACHED;
 
-/// The sample's lines up to its goal.
-const DOMAIN: &str = "job=1\nfacts=2\ninit=0\nformulas=4\nf=1,0,0\nf=2,0,0\nf=2,1,0\nf=3,1,0\n\
-                      moves=2\nm=0,3,1\ne=0,1,1\nm=2,1,1\ne=0,0,1\ngoal=1\n";
+/// The sample's text; its 18 lines are job, facts, init, formulas, 4 f, moves, m, e, m, e, goal, program, 3 p.
+pub fn sample_text() -> String {
+    include_str!("../../../sample/job.txt").to_string()
+}
 
 /// The sample's text with another program.
 pub fn sample_with(program: &str) -> String {
-    format!("{DOMAIN}{program}")
-}
-
-/// The sample's text; its 18 lines are job, facts, init, formulas, 4 f, moves, m, e, m, e, goal, program, 3 p.
-pub fn sample_text() -> String {
-    sample_with("program=3\np=1,0,0,0\np=1,1,0,0\np=4,0,1,0\n")
+    let text = sample_text();
+    let domain = text.split("program=").next().expect("a text has a first part");
+    format!("{domain}{program}")
 }
 
 /// The sample. Move 0 leads from state 0 to state 2 at 20, move 1 from there to state 3 at 5.
