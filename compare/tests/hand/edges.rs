@@ -3,9 +3,10 @@
 use jesmovit_compare::answer::{Answer, COSTS, LEAST, MISSED, NONE, PLAN, UNFINISHED};
 use jesmovit_compare::comparison::operation::Operation;
 use jesmovit_compare::second::costs::UNREACHED;
+use jesmovit_compare::second::job::Move;
 
 use crate::both::{all_refuse, ask};
-use crate::sample::{sample, sample_with};
+use crate::sample::{sample, sample_with, text_of};
 use crate::worked::Worked;
 
 #[test]
@@ -50,17 +51,20 @@ fn positions() {
 
 #[test]
 fn steps() {
-    let domain = format!("job=1\nfacts=0\ninit=0\nformulas=1\nf=1,0,0\nmoves=64\n{}goal=0\n", "m=0,0,0\n".repeat(64));
-    let anys = "p=2,0,0,0\np=4,0,0,0\np=4,1,1,0\np=4,2,2,0\np=4,3,3,0\n";
+    let text = |rows: &[[u16; 4]]| {
+        let free = Move { pre: 0, class: 0, effects: Vec::new() };
+        text_of(0, &[[1, 0, 0]], vec![free; 64], 0, rows)
+    };
+    let mut rows = vec![[2, 0, 0, 0], [4, 0, 0, 0], [4, 1, 1, 0], [4, 2, 2, 0], [4, 3, 3, 0]];
     let list = (0..16).flat_map(|from| (0..64).flat_map(move |index| [3, from, from + 1, index])).collect();
-    let worked = Worked { job: format!("{domain}program=5\n{anys}"), positions: 17, list, table: vec![0; 17] };
+    let worked = Worked { job: text(&rows), positions: 17, list, table: vec![0; 17] };
     worked.compiles();
     worked.checks_moves(&[63; 16], [PLAN, 0]);
     worked.checks_steps(&(0..16).map(|round| 64 * round + 63).collect::<Vec<u16>>(), [PLAN, 0]);
     worked.costs([COSTS, 0]);
     worked.judges(&[63; 16], [LEAST, 0, 0]);
-    let one_more = format!("{domain}program=7\n{anys}p=1,0,0,0\np=4,4,5,0\n");
-    all_refuse(one_more.as_bytes(), 4, 6 + 64 + 2 + 7);
+    rows.extend([[1, 0, 0, 0], [4, 4, 5, 0]]);
+    all_refuse(text(&rows).as_bytes(), 4, 6 + 64 + 2 + 7);
 }
 
 #[test]

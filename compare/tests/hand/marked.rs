@@ -6,12 +6,13 @@ use jesmovit_compare::generator::writer::plan_text;
 use jesmovit_compare::second::compiler::compile_with;
 use jesmovit_compare::second::domain::Domain;
 use jesmovit_compare::second::fault::Fault;
+use jesmovit_compare::second::job::Move;
 use jesmovit_compare::second::reader::read_job;
 use jesmovit_compare::second::steps::Steps;
 use jesmovit_compare::second::verdict::Verdict;
 
 use crate::both::ask;
-use crate::sample::{nil_at_goal, one_move, sample, sample_with, star_of_or, star_of_while};
+use crate::sample::{nil_at_goal, one_move, sample, sample_with, star_of_or, star_of_while, text_of};
 use crate::worked::Worked;
 
 /// Moves that are a plan of this cost, where the least cost is as given.
@@ -72,8 +73,8 @@ fn case_8_unfinished() {
 
 #[test]
 fn case_9_cleared_and_set() {
-    for effects in ["e=0,0,0\ne=0,0,1\n", "e=0,0,1\ne=0,0,0\n"] {
-        is_plan(&one_move(effects), &[0], 5, 5);
+    for effects in [[[0, 0, 0], [0, 0, 1]], [[0, 0, 1], [0, 0, 0]]] {
+        is_plan(&one_move(&effects), &[0], 5, 5);
     }
 }
 
@@ -114,8 +115,9 @@ fn judged(job: &str, moves: &[u16]) -> [u64; 3] {
 #[test]
 fn conditions_are_judged_in_the_old_state() {
     // The first effect sets fact 0, the second sets fact 1 where fact 0 holds.
-    let job = "job=1\nfacts=2\ninit=0\nformulas=3\nf=1,0,0\nf=2,0,0\nf=2,1,0\nmoves=1\nm=0,0,2\ne=0,0,1\ne=1,1,1\ngoal=2\nprogram=1\np=1,0,0,0\n";
-    assert_eq!(judged(job, &[0]), [MISSED, 0, 0]);
+    let action = Move { pre: 0, class: 0, effects: vec![[0, 0, 1], [1, 1, 1]] };
+    let job = text_of(2, &[[1, 0, 0], [2, 0, 0], [2, 1, 0]], vec![action], 2, &[[1, 0, 0, 0]]);
+    assert_eq!(judged(&job, &[0]), [MISSED, 0, 0]);
 }
 
 #[test]

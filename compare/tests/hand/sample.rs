@@ -1,6 +1,8 @@
 //! The sample of document 01 and jobs made from it, worked out by hand.
 
+use jesmovit_compare::generator::writer::job_text;
 use jesmovit_compare::second::costs::UNREACHED;
+use jesmovit_compare::second::job::{Job, Move};
 
 use crate::worked::Worked;
 
@@ -72,12 +74,17 @@ pub fn star_of_while() -> Worked {
     }
 }
 
+/// The text of a job from init 0.
+pub fn text_of(facts: u16, formulas: &[[u16; 3]], moves: Vec<Move>, goal: u16, rows: &[[u16; 4]]) -> String {
+    let job = Job { facts, init: 0, formulas: formulas.to_vec(), moves, goal, rows: rows.to_vec() };
+    String::from_utf8(job_text(&job)).expect("a job text is ASCII")
+}
+
 /// One fact, false at first and true at the goal, and one move of class 1 with these effects, which is the program.
-pub fn one_move(effects: &str) -> Worked {
+pub fn one_move(effects: &[[u16; 3]]) -> Worked {
+    let action = Move { pre: 0, class: 1, effects: effects.to_vec() };
     Worked {
-        job: format!(
-            "job=1\nfacts=1\ninit=0\nformulas=2\nf=1,0,0\nf=2,0,0\nmoves=1\nm=0,1,2\n{effects}goal=1\nprogram=1\np=1,0,0,0\n"
-        ),
+        job: text_of(1, &[[1, 0, 0], [2, 0, 0]], vec![action], 1, &[[1, 0, 0, 0]]),
         positions: 2,
         list: vec![3, 0, 1, 0],
         table: vec![0, X, X, 5],

@@ -38,12 +38,12 @@ unfolding judging
 judging-passes text plan places cells o = stage-iff (λ (x : Offer). tableNeed (x .job)) cells o (checking Moves text plan places)
 
 -- what the judge answers of an offer that passes
-pub record Told (o : Offer) (old new : List ℕ) (answer : JudgeAnswer) : Type 0 where
+pub record Answered (o : Offer) (old new : List ℕ) (answer : JudgeAnswer) : Type 0 where
   pub judgement : Judgement
   pub is : answer ≡ Judged (positionCount (o .job)) (stepCount (o .job)) judgement
   pub found : Found (o .job) (o .entries) judgement old new
 
-pub judge-told : (old new : List ℕ) (k : Checked Offer) (a : JudgeAnswer) → JudgeAnswers old new k a → (o : Offer) → k ≡ passed o → Told o old new a
-judge-told old new k a (judges {o = q} {g} x t) o e =
-    let z : q ≡ o = cc in subst (λ (y : Offer). Told y old new a) z (record { judgement = g; is = refl; found = (x, t) })
-judge-told old new k a (not-judged t) o e = never (cc)
+pub judge-answered : (old new : List ℕ) (k : Checked Offer) (a : JudgeAnswer) → JudgeAnswers old new k a → (o : Offer) → k ≡ passed o → Answered o old new a
+judge-answered old new k a (judges {o = q} {g} x t) o e =
+    let z : q ≡ o = cc in subst (λ (y : Offer). Answered y old new a) z (record { judgement = g; is = refl; found = (x, t) })
+judge-answered old new k a (not-judged t) o e = never (cc)

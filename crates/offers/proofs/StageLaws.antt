@@ -14,14 +14,14 @@ module _ {A : Type 0} (need : A → ℕ) (places : ℕ) (a : A) where
   abbrev stage : A → Checked A
   stage x = cond (leb (need x) places) (passed x) (refused 6 (need x))
 
-  long : (x : A) (b : Bool) → leb (need x) places ≡ b → cond b (passed x) (refused 6 (need x)) ≡ passed a → (passed x ≡ passed a) × (need a ≤ places)
-  long x true f e = let z : x ≡ a = cc in (e, subst (λ (y : A). need y ≤ places) z (leb-true (need x) places f))
-  long x false f e = never (cc)
+  long-enough : (x : A) (b : Bool) → leb (need x) places ≡ b → cond b (passed x) (refused 6 (need x)) ≡ passed a → (passed x ≡ passed a) × (need a ≤ places)
+  long-enough x true f e = let z : x ≡ a = cc in (e, subst (λ (y : A). need y ≤ places) z (leb-true (need x) places f))
+  long-enough x false f e = never (cc)
 
-  forth : (c : Checked A) → next c stage ≡ passed a → (c ≡ passed a) × (need a ≤ places)
-  forth (passed x) e = long x (leb (need x) places) refl e
-  forth (refused number place) e = never (cc)
+  passes : (c : Checked A) → next c stage ≡ passed a → (c ≡ passed a) × (need a ≤ places)
+  passes (passed x) e = long-enough x (leb (need x) places) refl e
+  passes (refused number place) e = never (cc)
 
   -- it passes a job, or a job and its plan, just where all reasons before it do and the list or table is long enough
   pub stage-iff : (c : Checked A) → (next c (λ x. cond (leb (need x) places) (passed x) (refused 6 (need x))) ≡ passed a) ↔ ((c ≡ passed a) × (need a ≤ places))
-  stage-iff c = (forth c, λ h. ap (λ (d : Checked A). next d stage) (h .0) ∙ rw (le-leb (need a) places (h .1)))
+  stage-iff c = (passes c, λ h. ap (λ (d : Checked A). next d stage) (h .0) ∙ rw (le-leb (need a) places (h .1)))

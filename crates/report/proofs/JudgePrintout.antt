@@ -11,7 +11,7 @@ use Rattle.offers.specs.declared.offer.Sort.the-variants.{Moves}
 use Rattle.jesmovit.specs.Compiling.{listAfter}
 use Rattle.jesmovit.specs.Judging.{judging, JudgeAnswers, judges, not-judged, Judges}
 use Rattle.jesmovit.specs.declared.judging.JudgeAnswer.{JudgeAnswer}
-use Rattle.jesmovit.proofs.PassedLaws.{checking-passes, judging-passes, judge-told}
+use Rattle.jesmovit.proofs.PassedLaws.{checking-passes, judging-passes, judge-answered}
 use Rattle.report.specs.Printout.{compiledLines, judgementLines, refusedLine, judgePrintout, Printed}
 use Rattle.report.proofs.CompiledPrintout.{prints-each-step}
 
@@ -26,7 +26,7 @@ module _ (text plan list table : List ℕ) (answer : JudgeAnswer) (list-after ta
   -- where nothing is refused
   pub judge-prints : (o : Offer) → judging text plan (length list) (length table) ≡ passed o → Printed o (judgePrintout answer list-after)
   judge-prints o e =
-      let t = judge-told table table-after _ answer (promised .answers) o e in
+      let t = judge-answered table table-after _ answer (promised .answers) o e in
       let c = judging-passes text plan (length list) (length table) o .0 e .0 in
       let l : list-after ≡ listAfter (passed (o .job)) list = promised .holds ∙ ap (λ (k : Checked Offer). listAfter (jobsOf k) list) e in
       record {

@@ -52,24 +52,24 @@ module _ (P : ℕ → Type 0) (positive : (number : ℕ) → P number → 1 ≤ 
     otherwise = inr (f number place refl);
   }
 
-first : (last number : ℕ) → UpTo last number → 1 ≤ number
-first last number x = x .0
+up-to-positive : (last number : ℕ) → UpTo last number → 1 ≤ number
+up-to-positive last number x = x .0
 
-first-without : (number : ℕ) → WithoutPlan number → 1 ≤ number
-first-without number (inl x) = x .0
-first-without number (inr e) = omega arith
+without-plan-positive : (number : ℕ) → WithoutPlan number → 1 ≤ number
+without-plan-positive number (inl x) = x .0
+without-plan-positive number (inr e) = omega arith
 
 -- a call whose answers all have the number n
-given : {A : Type 0} {numbers : A → Numbers} {promised : A → Type 0} {P : ℕ → Type 0} {Passes : Type 0} {number : ℕ} {values : List ℕ} (n : ℕ)
+call-number : {A : Type 0} {numbers : A → Numbers} {promised : A → Type 0} {P : ℕ → Type 0} {Passes : Type 0} {number : ℕ} {values : List ℕ} (n : ℕ)
     → Gives numbers promised number values → ((a : A) → promised a → numbers a .number ≡ n) → CallNumber P Passes n → CallNumber P Passes number
-given {P} {Passes} n g f x = subst (CallNumber P Passes) (sym (g .number-is ∙ f (g .answer) (g .holds))) x
+call-number {P} {Passes} n g f x = subst (CallNumber P Passes) (sym (g .number-is ∙ f (g .answer) (g .holds))) x
 
 -- of reading
 pub read-call-number : (text : List ℕ) {number : ℕ} {values : List ℕ} → Gives readNumbers (λ a. a ≡ readAnswer (readJob text)) number values
     → CallNumber (UpTo 3) ((n : ℕ) × (j : Job) × (readJob text ≡ R.read n j)) number
 read-call-number text g =
-    given (readNumber (readJob text)) g (λ a e. ap (λ x. readNumbers x .number) e ∙ same (readJob text))
-    (outcome-number (UpTo 3) (first 3) (readJob text) (read-number text))
+    call-number (readNumber (readJob text)) g (λ a e. ap (λ x. readNumbers x .number) e ∙ same (readJob text))
+    (outcome-number (UpTo 3) (up-to-positive 3) (readJob text) (read-number text))
   where
     same : (o : Outcome) → readNumbers (readAnswer o) .number ≡ readNumber o
     same (R.read n j) = refl
@@ -79,8 +79,8 @@ read-call-number text g =
 pub compile-call-number : (text list after : List ℕ) {number : ℕ} {values : List ℕ} → Gives compileNumbers (λ a. Compiles text list a after) number values
     → CallNumber WithoutPlan ((j : Job) × (compiling text (length list) ≡ passed j)) number
 compile-call-number text list after g =
-    given (numberOf (compiling text (length list))) g (λ a x. ap (λ y. compileNumbers y .number) (x .answers) ∙ same (compiling text (length list)))
-    (checked-number WithoutPlan first-without (compiling text (length list)) (compile-number text (length list)))
+    call-number (numberOf (compiling text (length list))) g (λ a x. ap (λ y. compileNumbers y .number) (x .answers) ∙ same (compiling text (length list)))
+    (checked-number WithoutPlan without-plan-positive (compiling text (length list)) (compile-number text (length list)))
   where
     same : (c : Checked Job) → compileNumbers (compileAnswer c) .number ≡ numberOf c
     same (passed j) = refl
@@ -95,8 +95,8 @@ pub check-call-number : (sort : Sort) (text plan list after : List ℕ) {number 
     → Gives checkNumbers (λ a. Checks sort text plan list a after) number values
     → CallNumber (UpTo 6) ((o : Offer) × (checking sort text plan (length list) ≡ passed o)) number
 check-call-number sort text plan list after g =
-    given (numberOf (checking sort text plan (length list))) g (λ a x. check-same sort _ a (x .answers))
-    (checked-number (UpTo 6) (first 6) (checking sort text plan (length list)) (check-number sort text plan (length list)))
+    call-number (numberOf (checking sort text plan (length list))) g (λ a x. check-same sort _ a (x .answers))
+    (checked-number (UpTo 6) (up-to-positive 6) (checking sort text plan (length list)) (check-number sort text plan (length list)))
 
 -- of the least cost
 cost-same : (old new : List ℕ) (c : Checked Job) (a : LeastAnswer) → CostAnswers old new c a → leastNumbers a .number ≡ numberOf c
@@ -107,8 +107,8 @@ cost-same old new c a (not-costed t) = refl
 pub cost-call-number : (text list table l t : List ℕ) {number : ℕ} {values : List ℕ} → Gives leastNumbers (λ a. CostsLeast text list table a l t) number values
     → CallNumber WithoutPlan ((j : Job) × (costing text (length list) (length table) ≡ passed j)) number
 cost-call-number text list table l t g =
-    given (numberOf (costing text (length list) (length table))) g (λ a x. cost-same table t _ a (x .answers))
-    (checked-number WithoutPlan first-without (costing text (length list) (length table)) (cost-number text (length list) (length table)))
+    call-number (numberOf (costing text (length list) (length table))) g (λ a x. cost-same table t _ a (x .answers))
+    (checked-number WithoutPlan without-plan-positive (costing text (length list) (length table)) (cost-number text (length list) (length table)))
 
 -- of the judge
 judge-same : (old new : List ℕ) (c : Checked Offer) (a : JudgeAnswer) → JudgeAnswers old new c a → judgeNumbers a .number ≡ numberOf c
@@ -119,5 +119,5 @@ pub judge-call-number : (text plan list table l t : List ℕ) {number : ℕ} {va
     → Gives judgeNumbers (λ a. Judges text plan list table a l t) number values
     → CallNumber (UpTo 6) ((o : Offer) × (judging text plan (length list) (length table) ≡ passed o)) number
 judge-call-number text plan list table l t g =
-    given (numberOf (judging text plan (length list) (length table))) g (λ a x. judge-same table t _ a (x .answers))
-    (checked-number (UpTo 6) (first 6) (judging text plan (length list) (length table)) (judge-number text plan (length list) (length table)))
+    call-number (numberOf (judging text plan (length list) (length table))) g (λ a x. judge-same table t _ a (x .answers))
+    (checked-number (UpTo 6) (up-to-positive 6) (judging text plan (length list) (length table)) (judge-number text plan (length list) (length table)))

@@ -23,7 +23,7 @@ use Rattle.offers.specs.declared.offer.Sort.the-variants.{Moves}
 use Rattle.jesmovit.specs.Checking.{Checks}
 use Rattle.jesmovit.specs.Judging.{judgementOf, Judges}
 use Rattle.jesmovit.specs.declared.checking.CheckAnswer.the-variants.{Said}
-use Rattle.jesmovit.proofs.PassedLaws.{Told, judge-told}
+use Rattle.jesmovit.proofs.PassedLaws.{Answered, judge-answered}
 use Rattle.jesmovit.specs.declared.judging.Judgement.{Judgement}
 use Rattle.jesmovit.specs.declared.judging.Judgement.the-variants.{Least, Dearer, Other}
 use Rattle.jesmovit.specs.declared.judging.JudgeAnswer.{JudgeAnswer}
@@ -65,18 +65,18 @@ repeated j ms none (Other v) x = refl
 module _ (text plan list table : List ℕ) (o : Offer) (accepted : Accepted Moves text plan o) (long : listNeed (o .job) ≤ length list)
     (large : tableNeed (o .job) ≤ length table) (answer : JudgeAnswer) (list-after table-after : List ℕ)
     (promised : Judges text plan list table answer list-after table-after) where
-  told : Told o table table-after answer
-  told = judge-told table table-after _ answer (promised .answers) o (judging-iff text plan (length list) o (length table) .1 (accepted, long, large))
+  answered : Answered o table table-after answer
+  answered = judge-answered table table-after _ answer (promised .answers) o (judging-iff text plan (length list) o (length table) .1 (accepted, long, large))
 
   pub judge-decides : Allowed (domainOf (o .job)) (programOf (o .job)) (o .entries) → Decided (o .job) (o .entries) answer
   judge-decides allowed =
-      subst (Decided (o .job) (o .entries)) (sym (told .is)) (decided (o .job) (o .entries) allowed (told .judgement) (told .found .0))
+      subst (Decided (o .job) (o .entries)) (sym (answered .is)) (decided (o .job) (o .entries) allowed (answered .judgement) (answered .found .0))
 
   -- "for others it repeats the check's verdict"
   pub judge-repeats : (Allowed (domainOf (o .job)) (programOf (o .job)) (o .entries) → ⊥)
       → (v : Verdict) × (answer ≡ answering (o .job) (Other v)) × Checks Moves text plan list (Said v) list-after
   judge-repeats none =
-      let e = repeated (o .job) (o .entries) none (told .judgement) (told .found .0) in
-      let f : answer ≡ answering (o .job) (Other (verdictIn (told .judgement))) = told .is ∙ ap (answering (o .job)) e in
+      let e = repeated (o .job) (o .entries) none (answered .judgement) (answered .found .0) in
+      let f : answer ≡ answering (o .job) (Other (verdictIn (answered .judgement))) = answered .is ∙ ap (answering (o .job)) e in
       let p = subst (λ (a : JudgeAnswer). Judges text plan list table a list-after table-after) f promised in
-      (verdictIn (told .judgement), f, judged-is-checked text plan list table _ _ list-after table-after (Other (verdictIn (told .judgement))) p)
+      (verdictIn (answered .judgement), f, judged-is-checked text plan list table _ _ list-after table-after (Other (verdictIn (answered .judgement))) p)

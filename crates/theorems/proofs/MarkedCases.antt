@@ -83,24 +83,24 @@ abbrev judgement : Table → Offer → Option Judgement
 judgement T o = finds (domainOf (o .job)) (programOf (o .job)) T (verdict (domainOf (o .job)) (programOf (o .job)) (o .entries))
 
 -- the sizes and the judgement
-record Found : Type 0 where
+record Computed : Type 0 where
   positions : ℕ
   steps : ℕ
   says : Option Judgement
 
-abbrev foundOf : Table → Offer → Found
-foundOf T o = record { positions = positionCount (o .job); steps = stepCount (o .job); says = judgement T o }
+abbrev computedOf : Table → Offer → Computed
+computedOf T o = record { positions = positionCount (o .job); steps = stepCount (o .job); says = judgement T o }
 
 -- the same from the texts, or the refusal
-unfoldable judged : Case → Table → Checked Found
-judged c T = next (judging (c .job) (c .plan) 4096 12288) (λ o. passed (foundOf T o))
+unfoldable judged : Case → Table → Checked Computed
+judged c T = next (judging (c .job) (c .plan) 4096 12288) (λ o. passed (computedOf T o))
 
-unfoldable judgements : List Case → List Table → List (Checked Found)
+unfoldable judgements : List Case → List Table → List (Checked Computed)
 judgements [] Ts = []
 judgements (c ∷ cs) [] = []
 judgements (c ∷ cs) (T ∷ Ts) = judged c T ∷ judgements cs Ts
 
-abbrev said : Case → Checked Found
+abbrev said : Case → Checked Computed
 said c = passed (record { positions = c .positions; steps = c .steps; says = some (c .says) })
 
 computed : judgements marked tables ≡ map said marked
@@ -118,16 +118,16 @@ judged-right : (c : Case) (T : Table) → judged c T ≡ said c → Right c
 unfolding judged
 judged-right c T e = by (judging (c .job) (c .plan) 4096 12288) refl e
   where
-    by : (k : Checked Offer) → judging (c .job) (c .plan) 4096 12288 ≡ k → next k (λ o. passed (foundOf T o)) ≡ said c → Right c
+    by : (k : Checked Offer) → judging (c .job) (c .plan) 4096 12288 ≡ k → next k (λ o. passed (computedOf T o)) ≡ said c → Right c
     by (passed o) f g =
-        let z : foundOf T o ≡ record { positions = c .positions; steps = c .steps; says = some (c .says) } = cc in
+        let z : computedOf T o ≡ record { positions = c .positions; steps = c .steps; says = some (c .says) } = cc in
         let j = verdict-judged (domainOf (o .job)) (programOf (o .job)) (o .entries) in
         record {
           offer = o;
           passes = f;
-          positions = ap (λ (x : Found). x .positions) z;
-          steps = ap (λ (x : Found). x .steps) z;
-          finds = finds-right (domainOf (o .job)) (programOf (o .job)) T (o .entries) _ (c .says) j (ap (λ (x : Found). x .says) z);
+          positions = ap (λ (x : Computed). x .positions) z;
+          steps = ap (λ (x : Computed). x .steps) z;
+          finds = finds-right (domainOf (o .job)) (programOf (o .job)) T (o .entries) _ (c .says) j (ap (λ (x : Computed). x .says) z);
         }
     by (refused number place) f g = never (cc)
 
