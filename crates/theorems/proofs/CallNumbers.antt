@@ -3,7 +3,7 @@
 use Prim.Native.Nat.{ℕ, _≤_}
 use mathlib.Core.Path.{_≡_, refl, sym, _∙_, ap, subst}
 use mathlib.Core.List.{List}
-use mathlib.Core.Logic.{inl, inr}
+use mathlib.Core.Logic.{_⊎_, inl, inr}
 use native.Mathlib.Omega.{arith}
 use lib.ListN.{length}
 use Rattle.laws.proofs.Tests.{never}
@@ -36,21 +36,20 @@ readNumber (R.refused number place) = number
 
 -- numbers of refusals that are not 0
 module _ (P : ℕ → Type 0) (positive : (number : ℕ) → P number → 1 ≤ number) where
+  -- what passes has the number 0, and what does not has one of these
+  either-number : {Passes : Type 0} (n : ℕ) → (Passes × (n ≡ 0)) ⊎ (P n × (Passes → ⊥)) → CallNumber P Passes n
+  either-number n (inl (p, e)) = record { zero-iff = (λ z. p, λ q. e); otherwise = inl e }
+  either-number n (inr (r, f)) = record { zero-iff = (λ z. absurd (omega (arith, positive n r)), λ q. absurd (f q)); otherwise = inr r }
+
   checked-number : {A : Type 0} (c : Checked A) → ((number place : ℕ) → c ≡ refused number place → P number)
       → CallNumber P ((a : A) × (c ≡ passed a)) (numberOf c)
-  checked-number (passed a) f = record { zero-iff = (λ e. (a, refl), λ x. refl); otherwise = inl refl }
-  checked-number (refused number place) f = record {
-    zero-iff = (λ e. absurd (omega (arith, positive number (f number place refl))), λ x. let y = x .1 in never (cc));
-    otherwise = inr (f number place refl);
-  }
+  checked-number (passed a) f = either-number 0 (inl ((a, refl), refl))
+  checked-number (refused number place) f = either-number number (inr (f number place refl, λ x. let y = x .1 in never (cc)))
 
   outcome-number : (o : Outcome) → ((number place : ℕ) → o ≡ R.refused number place → P number)
       → CallNumber P ((n : ℕ) × (j : Job) × (o ≡ R.read n j)) (readNumber o)
-  outcome-number (R.read n j) f = record { zero-iff = (λ e. (n, j, refl), λ x. refl); otherwise = inl refl }
-  outcome-number (R.refused number place) f = record {
-    zero-iff = (λ e. absurd (omega (arith, positive number (f number place refl))), λ x. let y = x .2 in never (cc));
-    otherwise = inr (f number place refl);
-  }
+  outcome-number (R.read n j) f = either-number 0 (inl ((n, j, refl), refl))
+  outcome-number (R.refused number place) f = either-number number (inr (f number place refl, λ x. let y = x .2 in never (cc)))
 
 up-to-positive : (last number : ℕ) → UpTo last number → 1 ≤ number
 up-to-positive last number x = x .0
