@@ -14,7 +14,7 @@ use Rattle.semantics.specs.CompilingTable.{Step}
 use Rattle.compile.specs.Program.{rowProgram}
 use Rattle.compile.specs.Construct.{programIn, Earlier}
 use Rattle.compile.specs.Size.{size, positionWeights, stepWeights}
-use Rattle.compile.specs.Laid.{Wrote, Room}
+use Rattle.compile.specs.Laid.{Wrote, Enough}
 use Rattle.compile.specs.declared.rows.Construct.{Construct}
 use Rattle.compile.specs.declared.steps.Cursor.{Cursor}
 use Rattle.compile.proofs.Shapes.{Leaf, Branch, Loop}
@@ -36,17 +36,17 @@ module _ (h : Head) (l : List ℕ) where
 
   -- what a call for row i asks; it holds of the call that is being made
   abbrev pub Fit : ℕ → Cursor → ℕ → Type 0
-  Fit i from places = (length l ≡ allRows * 4) × (WellFormed (jobOf h l) × ((i < h .counts .program) × Room M (of i) from places))
+  Fit i from places = (length l ≡ allRows * 4) × (WellFormed (jobOf h l) × ((i < h .counts .program) × Enough M (of i) from places))
 
   pub at-next : (i t : ℕ) {places : ℕ} (from : Cursor) {f : Cursor} → f ≡ next from → (i < t) × Fit i (next from) places → (i < t) × Fit i f places
   at-next i t {places} from e x = subst (λ (c : Cursor). (i < t) × Fit i c places) (sym e) x
 
   module _ {i t places : ℕ} {from : Cursor} (p : (i ≡ t) × Fit i from places) where
-    room : Room M (of i) from places
+    room : Enough M (of i) from places
     room = p .1 .1 .1 .1
 
     -- a call for an earlier row
-    call : {j z : ℕ} {c : Cursor} → j < i → z ≡ places → Room M (of j) c places → (j < t) × Fit j c z
+    call : {j z : ℕ} {c : Cursor} → j < i → z ≡ places → Enough M (of j) c places → (j < t) × Fit j c z
     call {j} {z} {c} g e r = (omega (arith, g, p .0), (p .1 .0, (p .1 .1 .0, (omega (arith, g, p .1 .1 .1 .0), rw e r))))
 
     pub leaf-ok : {x : Label} → Leaf M (of i) x → (from .at + 4 ≤ places) × (from .position < 65535)

@@ -11,7 +11,7 @@ use lib.Seq.{sets}
 use borrow.Author.Tests.{leb-true}
 use Rattle.laws.proofs.Tests.{and-left, and-right}
 use Rattle.job.specs.Job.{Job, rowOf}
-use Rattle.job.specs.Store.{programAt, movesAt, storedMove, jobOf}
+use Rattle.job.specs.Store.{programFrom, movesFrom, storedMove, jobOf}
 use Rattle.job.specs.declared.head.Head.{Head}
 use Rattle.job.proofs.StoreLaws.{rows-length}
 use Rattle.semantics.specs.Program.{Program}
@@ -19,7 +19,7 @@ use Rattle.semantics.specs.CompilingTable.{steps, flat}
 use Rattle.compile.specs.Program.{rowProgram, programOf}
 use Rattle.compile.specs.CompiledJob.{stepsOf, positionCount, stepCount, fits}
 use Rattle.compile.specs.Size.{size, positionWeights, stepWeights, capped}
-use Rattle.compile.specs.Laid.{Wrote, Room}
+use Rattle.compile.specs.Laid.{Wrote, Enough}
 use Rattle.compile.specs.declared.steps.Cursor.{Cursor}
 use Rattle.compile.proofs.SizeLaws.{end-size, steps-size}
 
@@ -39,11 +39,11 @@ module _ (h : Head) (l : List ℕ) where
   M = h .counts .moves
 
   same-moves : length (j .moves) ≡ M
-  same-moves = rows-length storedMove l movesAt M
+  same-moves = rows-length storedMove l movesFrom M
 
   -- the program is the last row
   last-row : programOf j ≡ rowProgram (j .program) (h .counts .program - 1)
-  last-row = ap (λ (n : ℕ). rowProgram (j .program) (n - 1)) (rows-length rowOf l programAt (h .counts .program))
+  last-row = ap (λ (n : ℕ). rowProgram (j .program) (n - 1)) (rows-length rowOf l programFrom (h .counts .program))
 
   step-size : stepCount j ≡ size (stepWeights M) (programOf j)
   step-size = ap (λ (m : ℕ). length (steps m (programOf j) 0)) same-moves ∙ steps-size M (programOf j) 0
@@ -55,8 +55,8 @@ module _ (h : Head) (l : List ℕ) where
   abbrev start : Cursor
   start = record { position = 0; at = 0 }
 
-  pub all-fit : (places : ℕ) → fits j ≡ true → stepCount j * 4 ≤ places → Room M (rowProgram (j .program) (h .counts .program - 1)) start places
-  all-fit places e g = subst (λ (σ : Program). Room M σ start places) last-row (record {
+  pub all-fit : (places : ℕ) → fits j ≡ true → stepCount j * 4 ≤ places → Enough M (rowProgram (j .program) (h .counts .program - 1)) start places
+  all-fit places e g = subst (λ (σ : Program). Enough M σ start places) last-row (record {
     positions = omega (arith, few-positions j e, end-size (programOf j) 0);
     room = omega (arith, g, step-size);
   })

@@ -9,7 +9,7 @@ use Rattle.laws.proofs.Tests.{past}
 use Rattle.laws.proofs.Growing.{grown-front, grown-at}
 use Rattle.job.specs.Job.{Row, rowOf}
 use Rattle.job.specs.Fields.{rowFields, Within}
-use Rattle.job.specs.Store.{programAt, rowAt, jobOf}
+use Rattle.job.specs.Store.{programFrom, rowAt, jobOf}
 use Rattle.job.specs.WellFormed.{WellFormed, beforeRow}
 use Rattle.job.specs.declared.head.Head.{Head}
 use Rattle.job.proofs.StoreLaws.{rows-length, rows-at}
@@ -27,11 +27,11 @@ row-earlier rows i h k l = grown-front build nil rows i h k l
 
 pub program-rows : (h : Head) (l : List ℕ) → WellFormed (jobOf h l) → (0 < h .counts .program) × (h .counts .program ≤ 128)
 program-rows h l w =
-    let e = rows-length rowOf l programAt (h .counts .program) in
+    let e = rows-length rowOf l programFrom (h .counts .program) in
     (omega (arith, e, w .last), omega (arith, e, w .program))
 
 -- row i of a job, whose numbers are these
-module _ (h : Head) (l : List ℕ) (i kind a b c : ℕ) (w : WellFormed (jobOf h l)) (within : i < h .counts .program) (row : kind ∷ a ∷ b ∷ c ∷ [] ≡ rowAt l (programAt + i)) where
+module _ (h : Head) (l : List ℕ) (i kind a b c : ℕ) (w : WellFormed (jobOf h l)) (within : i < h .counts .program) (row : kind ∷ a ∷ b ∷ c ∷ [] ≡ rowAt l (programFrom + i)) where
   abbrev rows : List Row
   rows = jobOf h l .program
 
@@ -39,10 +39,10 @@ module _ (h : Head) (l : List ℕ) (i kind a b c : ℕ) (w : WellFormed (jobOf h
   of = rowProgram rows
 
   i-low : i < length rows
-  i-low = omega (arith, within, rows-length rowOf l programAt (h .counts .program))
+  i-low = omega (arith, within, rows-length rowOf l programFrom (h .counts .program))
 
   numbers : getD rows i (rowOf []) ≡ rowOf (kind ∷ a ∷ b ∷ c ∷ [])
-  numbers = rows-at rowOf l programAt (rowOf []) (h .counts .program) i within ∙ ap rowOf (sym row)
+  numbers = rows-at rowOf l programFrom (rowOf []) (h .counts .program) i within ∙ ap rowOf (sym row)
 
   built : of i ≡ build (programs (take i rows)) (rowOf (kind ∷ a ∷ b ∷ c ∷ []))
   built = row-built rows i i-low ∙ ap (build (programs (take i rows))) numbers

@@ -20,6 +20,6 @@ pub record Wrote (moves : ℕ) (σ : Program) (old : List ℕ) (from : Cursor) (
   pub ends : to .position ≡ end σ (from .position)
 
 -- there are positions and places left for all of them
-pub record Room (moves : ℕ) (σ : Program) (from : Cursor) (places : ℕ) : Type 0 where
+pub record Enough (moves : ℕ) (σ : Program) (from : Cursor) (places : ℕ) : Type 0 where
   pub positions : from .position + size positionWeights σ ≤ 255
   pub room : from .at + size (stepWeights moves) σ * 4 ≤ places

@@ -23,13 +23,13 @@ pub enum Construct {
 }
 
 // Row i of the job's program, whose numbers are kind, a, b and c.
-pub fn construct_at(head: Head, table: &[u16], i: u16) -> Construct
-    requires { ⌜ length (now table) ≡ allRows * 4 ⌝ }
-    requires { ⌜ WellFormed (jobOf head (now table)) ⌝ }
+pub fn construct_at(head: Head, rows: &[u16], i: u16) -> Construct
+    requires { ⌜ length (now rows) ≡ allRows * 4 ⌝ }
+    requires { ⌜ WellFormed (jobOf head (now rows)) ⌝ }
     requires { ⌜ i < head .counts .program ⌝ }
-    ensures { λ r. ⌜ (rowProgram (jobOf head (now (table .entry)) .program) i ≡ programIn (rowProgram (jobOf head (now (table .entry)) .program)) r) × Earlier i r ⌝ }
+    ensures { λ r. ⌜ (rowProgram (jobOf head (now (rows .entry)) .program) i ≡ programIn (rowProgram (jobOf head (now (rows .entry)) .program)) r) × Earlier i r ⌝ }
 {
-    let row = job::rows::row_at(table, PROGRAM + i);
+    let row = job::rows::row_at(rows, PROGRAM + i);
     let kind = row.a;
     match kind {
         0 => Construct::Nil,

@@ -57,16 +57,16 @@ fn construct_size(construct: Construct, sizes: &[u16], w: Weights) -> u16
 }
 
 // The size of the job's program, which is its last row.
-fn program_size(head: Head, table: &[u16], w: Weights) -> u16
-    requires { ⌜ length (now table) ≡ allRows * 4 ⌝ }
-    requires { ⌜ WellFormed (jobOf head (now table)) ⌝ }
-    ensures { λ r. ⌜ r ≡ cap (size w (programOf (jobOf head (now (table .entry))))) ⌝ }
+fn program_size(head: Head, rows: &[u16], w: Weights) -> u16
+    requires { ⌜ length (now rows) ≡ allRows * 4 ⌝ }
+    requires { ⌜ WellFormed (jobOf head (now rows)) ⌝ }
+    ensures { λ r. ⌜ r ≡ cap (size w (programOf (jobOf head (now (rows .entry))))) ⌝ }
 {
     let n = head.counts.program;
     let mut sizes = [0u16; 128];
     let mut i: u16 = 0;
     while i < n {
-        let construct = crate::rows::construct_at(head, table, i);
+        let construct = crate::rows::construct_at(head, rows, i);
         let s = construct_size(construct, &sizes, w);
         let k = i as usize;
         sizes[k] = s;
@@ -82,10 +82,10 @@ pub struct Sizes {
 }
 
 // The sizes of the compiled job; beyond the limits they are only known to be so.
-pub fn measure(head: Head, table: &[u16]) -> Sizes
-    requires { ⌜ length (now table) ≡ allRows * 4 ⌝ }
-    requires { ⌜ WellFormed (jobOf head (now table)) ⌝ }
-    ensures { λ r. ⌜ (r .positions ≡ min (positionCount (jobOf head (now (table .entry)))) 1026) × (r .steps ≡ cap (stepCount (jobOf head (now (table .entry))))) ⌝ }
+pub fn measure(head: Head, rows: &[u16]) -> Sizes
+    requires { ⌜ length (now rows) ≡ allRows * 4 ⌝ }
+    requires { ⌜ WellFormed (jobOf head (now rows)) ⌝ }
+    ensures { λ r. ⌜ (r .positions ≡ min (positionCount (jobOf head (now (rows .entry)))) 1026) × (r .steps ≡ cap (stepCount (jobOf head (now (rows .entry))))) ⌝ }
 {
     let positions = Weights {
         any: 1,
@@ -98,7 +98,7 @@ pub fn measure(head: Head, table: &[u16]) -> Sizes
         repeat: 3,
     };
     Sizes {
-        positions: program_size(head, table, positions) + 1,
-        steps: program_size(head, table, steps),
+        positions: program_size(head, rows, positions) + 1,
+        steps: program_size(head, rows, steps),
     }
 }

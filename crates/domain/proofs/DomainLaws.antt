@@ -11,7 +11,7 @@ use Rattle.job.specs.StateCount.{stateCount}
 use Rattle.job.specs.Job.{Job, Move}
 use Rattle.job.specs.WellFormed.{WellFormed}
 use Rattle.semantics.specs.Domain.{Bounded}
-use Rattle.domain.specs.World.{affected}
+use Rattle.domain.specs.State.{affected}
 use Rattle.domain.specs.Cost.{mostCost}
 use Rattle.domain.specs.Domain.{moveAt, effectsOf, holdsIn, successorOf, costIn, domainOf}
 use Rattle.domain.proofs.CostLaws.{cost-within}

@@ -10,7 +10,7 @@ use lib.Dec.{eqb}
 use borrow.Author.Tests.{eqb-true, eqb-false, eq-eqb, ne-eqb}
 use Rattle.laws.proofs.Tests.{cond-has}
 use Rattle.job.specs.StateCount.{stateCount}
-use Rattle.domain.specs.World.{fact, putFact}
+use Rattle.domain.specs.State.{fact, putFact}
 
 pub power-positive : (i : ℕ) → 0 < 2 ^ i
 power-positive i = one-le-pow i 2 (omega arith)

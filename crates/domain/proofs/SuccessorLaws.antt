@@ -10,15 +10,15 @@ use lib.Dec.{ltb}
 use lib.ListN.{length, getD}
 use borrow.Author.Tests.{lt-ltb, le-ltb}
 use Rattle.job.specs.Job.{Job, Move}
-use Rattle.job.specs.Store.{movesAt, rowAt, storedMove, jobOf}
+use Rattle.job.specs.Store.{movesFrom, rowAt, storedMove, jobOf}
 use Rattle.job.specs.declared.head.Head.{Head}
 use Rattle.job.proofs.StoreLaws.{rows-length}
-use Rattle.domain.specs.World.{values, applied, affected}
+use Rattle.domain.specs.State.{values, applied, affected}
 use Rattle.domain.specs.Domain.{effectsOf, holdsIn, successorOf, Tells}
 use Rattle.domain.proofs.EffectLaws.{applied-same}
 use Rattle.domain.proofs.StoreLaws.{move-row}
 
-module _ (h : Head) (l : List ℕ) (m w : ℕ) (vs : List Bool) (t : Tells (jobOf h l) w vs) {q : List ℕ} (g : m < h .counts .moves) (e : q ≡ rowAt l (movesAt + m)) where
+module _ (h : Head) (l : List ℕ) (m w : ℕ) (vs : List Bool) (t : Tells (jobOf h l) w vs) {q : List ℕ} (g : m < h .counts .moves) (e : q ≡ rowAt l (movesFrom + m)) where
   abbrev j : Job
   j = jobOf h l
 
@@ -26,7 +26,7 @@ module _ (h : Head) (l : List ℕ) (m w : ℕ) (vs : List Bool) (t : Tells (jobO
   x = storedMove q
 
   known : ltb m (length (j .moves)) ≡ true
-  known = lt-ltb m (length (j .moves)) (omega (arith, rows-length storedMove l movesAt (h .counts .moves)))
+  known = lt-ltb m (length (j .moves)) (omega (arith, rows-length storedMove l movesFrom (h .counts .moves)))
 
   pub successor-some : (y z : ℕ) → getD vs (x .pre) false ≡ true → y ≡ applied vs 0 (effectsOf j x) w → z ≡ applied vs 1 (effectsOf j x) y → some z ≡ successorOf j m w
   unfolding successorOf holdsIn affected
@@ -43,4 +43,4 @@ module _ (h : Head) (l : List ℕ) (m w : ℕ) (vs : List Bool) (t : Tells (jobO
 -- past the last move there is none
 pub successor-past : (h : Head) (l : List ℕ) (m w : ℕ) → h .counts .moves ≤ m → none ≡ successorOf (jobOf h l) m w
 unfolding successorOf
-successor-past h l m w g = rw (le-ltb m (length (jobOf h l .moves)) (omega (arith, rows-length storedMove l movesAt (h .counts .moves))))
+successor-past h l m w g = rw (le-ltb m (length (jobOf h l .moves)) (omega (arith, rows-length storedMove l movesFrom (h .counts .moves))))

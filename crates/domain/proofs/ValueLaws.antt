@@ -10,7 +10,7 @@ use lib.ListN.{length, getD, take, set, replicate, length-append, List·getD-app
 use lib.Seq.{take-all, length-take-le, getD-set-same, getD-set-other, getD-at}
 use Rattle.laws.proofs.Growing.{grown-length}
 use Rattle.job.specs.Job.{Formula, formulaOf}
-use Rattle.domain.specs.World.{value, values}
+use Rattle.domain.specs.State.{value, values}
 use Rattle.laws.proofs.Folds.{fold-more}
 
 -- two lists of values that tell the same

@@ -9,7 +9,7 @@ use lib.ListN.{length, getD, take, drop}
 use Rattle.job.specs.StateCount.{stateCount}
 use Rattle.job.specs.Job.{Job, Move, Effect, moveOf, effectOf}
 use Rattle.semantics.specs.Domain.{Domain}
-use Rattle.domain.specs.World.{values, affected}
+use Rattle.domain.specs.State.{values, affected}
 use Rattle.domain.specs.Cost.{classCost}
 
 abbrev pub moveAt : Job → ℕ → Move

@@ -1,4 +1,4 @@
-pub mod World
+pub mod State
 pub mod Cost
 pub mod Domain
 pub mod Successor

@@ -6,7 +6,7 @@ ghost use lib.ListN.{length, take, drop};
 ghost use Rattle.job.specs.StateCount.{stateCount};
 ghost use Rattle.job.specs.Store.{allRows, jobOf};
 ghost use Rattle.job.specs.WellFormed.{WellFormed};
-ghost use Rattle.domain.specs.World.{afterEffect, applied};
+ghost use Rattle.domain.specs.State.{afterEffect, applied};
 ghost use Rattle.domain.specs.Domain.{effectAt};
 use job::head::Head;
 use job::rows::EFFECTS;
@@ -19,14 +19,14 @@ fn bit(b: bool) -> u16
 }
 
 // The state after effect k, where it holds by the formulas' values and gives its fact the value v.
-fn apply_effect(head: Head, table: &[u16], values: &[bool], v: u16, k: u16, state: u16) -> u16
-    requires { ⌜ length (now table) ≡ allRows * 4 ⌝ }
-    requires { ⌜ WellFormed (jobOf head (now table)) ⌝ }
+fn apply_effect(head: Head, rows: &[u16], values: &[bool], v: u16, k: u16, state: u16) -> u16
+    requires { ⌜ length (now rows) ≡ allRows * 4 ⌝ }
+    requires { ⌜ WellFormed (jobOf head (now rows)) ⌝ }
     requires { ⌜ (k < head .counts .effects) × (state < stateCount (head .counts .facts)) ⌝ }
-    ensures { λ r. ⌜ r ≡ afterEffect (now (values .entry)) v state (effectAt (jobOf head (now (table .entry))) k) ⌝ }
+    ensures { λ r. ⌜ r ≡ afterEffect (now (values .entry)) v state (effectAt (jobOf head (now (rows .entry))) k) ⌝ }
 {
     // condition, fact, value
-    let row = job::rows::row_at(table, EFFECTS + k);
+    let row = job::rows::row_at(rows, EFFECTS + k);
     let on = crate::formulas::value_at(values, row.a);
     let times = bit(on) * bit(row.c == v);
     crate::facts::put_fact(times, state, row.b, v)
@@ -35,22 +35,22 @@ fn apply_effect(head: Head, table: &[u16], values: &[bool], v: u16, k: u16, stat
 // The state after so many effects from number `first` on, of which those are made that hold by the formulas' values and give their fact the value v.
 pub fn apply_effects(
     head: Head,
-    table: &[u16],
+    rows: &[u16],
     values: &[bool],
     v: u16,
     first: u16,
     count: u16,
     state: u16,
 ) -> u16
-    requires { ⌜ length (now table) ≡ allRows * 4 ⌝ }
-    requires { ⌜ WellFormed (jobOf head (now table)) ⌝ }
+    requires { ⌜ length (now rows) ≡ allRows * 4 ⌝ }
+    requires { ⌜ WellFormed (jobOf head (now rows)) ⌝ }
     requires { ⌜ (first + count ≤ head .counts .effects) × (state < stateCount (head .counts .facts)) ⌝ }
-    ensures { λ r. ⌜ r ≡ applied (now (values .entry)) v (take count (drop first (jobOf head (now (table .entry)) .effects))) state ⌝ }
+    ensures { λ r. ⌜ r ≡ applied (now (values .entry)) v (take count (drop first (jobOf head (now (rows .entry)) .effects))) state ⌝ }
 {
     let mut reached = state;
     let mut k: u16 = 0;
     while k < count {
-        reached = apply_effect(head, table, values, v, first + k, reached);
+        reached = apply_effect(head, rows, values, v, first + k, reached);
         k += 1;
     }
     reached

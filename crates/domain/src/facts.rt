@@ -3,7 +3,7 @@ ghost use mathlib.Core.Path.{_≡_};
 ghost use mathlib.Core.Bool.{cond};
 ghost use Prim.Native.Nat.{_^_, _≤_, _<_};
 ghost use lib.Dec.{eqb};
-ghost use Rattle.domain.specs.World.{fact as factIn, putFact};
+ghost use Rattle.domain.specs.State.{fact as factIn, putFact};
 
 // Whether fact i is true in world w.
 pub fn fact(w: u16, i: u16) -> bool

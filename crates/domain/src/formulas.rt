@@ -5,7 +5,7 @@ ghost use Prim.Native.Nat.{_*_, _<_};
 ghost use lib.ListN.{length, getD};
 ghost use Rattle.job.specs.Store.{allRows, jobOf};
 ghost use Rattle.job.specs.WellFormed.{WellFormed};
-ghost use Rattle.domain.specs.World.{value as valueIn};
+ghost use Rattle.domain.specs.State.{value as valueIn};
 ghost use Rattle.domain.specs.Domain.{Tells};
 use job::head::Head;
 
@@ -36,17 +36,17 @@ fn value(state: u16, values: &[bool], kind: u16, a: u16, b: u16) -> bool
 }
 
 // The values of all formulas of a job in a state.
-pub fn formula_values(head: Head, table: &[u16], state: u16) -> [bool; 255]
-    requires { ⌜ length (now table) ≡ allRows * 4 ⌝ }
-    requires { ⌜ WellFormed (jobOf head (now table)) ⌝ }
-    ensures { λ r. ⌜ Tells (jobOf head (now (table .entry))) state r ⌝ }
+pub fn formula_values(head: Head, rows: &[u16], state: u16) -> [bool; 255]
+    requires { ⌜ length (now rows) ≡ allRows * 4 ⌝ }
+    requires { ⌜ WellFormed (jobOf head (now rows)) ⌝ }
+    ensures { λ r. ⌜ Tells (jobOf head (now (rows .entry))) state r ⌝ }
 {
     let n = head.counts.formulas;
     let mut values = [false; 255];
     let mut k: u16 = 0;
     while k < n {
         // kind, a, b
-        let row = job::rows::row_at(table, k);
+        let row = job::rows::row_at(rows, k);
         let v = value(state, &values, row.a, row.b, row.c);
         let i = k as usize;
         values[i] = v;

@@ -34,31 +34,31 @@ const COSTS: [u16; 16] = [
 ];
 
 // The state after move m, by the formulas' values in the state before: "Effects that hold clear first, then set".
-pub fn successor(head: Head, table: &[u16], values: &[bool], m: u16, state: u16) -> Successor
-    requires { ⌜ length (now table) ≡ allRows * 4 ⌝ }
-    requires { ⌜ WellFormed (jobOf head (now table)) ⌝ }
-    requires { ⌜ Tells (jobOf head (now table)) state (now values) ⌝ }
+pub fn successor(head: Head, rows: &[u16], values: &[bool], m: u16, state: u16) -> Successor
+    requires { ⌜ length (now rows) ≡ allRows * 4 ⌝ }
+    requires { ⌜ WellFormed (jobOf head (now rows)) ⌝ }
+    requires { ⌜ Tells (jobOf head (now rows)) state (now values) ⌝ }
     requires { ⌜ (m < head .counts .moves) × (state < stateCount (head .counts .facts)) ⌝ }
-    ensures { λ r. ⌜ successorIn r ≡ domainOf (jobOf head (now (table .entry))) .successor m state ⌝ }
+    ensures { λ r. ⌜ successorIn r ≡ domainOf (jobOf head (now (rows .entry))) .successor m state ⌝ }
 {
     // precondition, class, count of effects, first effect
-    let row = job::rows::row_at(table, MOVES + m);
+    let row = job::rows::row_at(rows, MOVES + m);
     if crate::formulas::value_at(values, row.a) {
-        let cleared = apply_effects(head, table, values, 0, row.d, row.c, state);
-        return Successor::To(apply_effects(head, table, values, 1, row.d, row.c, cleared));
+        let cleared = apply_effects(head, rows, values, 0, row.d, row.c, state);
+        return Successor::To(apply_effects(head, rows, values, 1, row.d, row.c, cleared));
     }
     Successor::Inapplicable
 }
 
 // What move m costs in a state.
-pub fn cost(head: Head, table: &[u16], m: u16, state: u16) -> u16
-    requires { ⌜ length (now table) ≡ allRows * 4 ⌝ }
-    requires { ⌜ WellFormed (jobOf head (now table)) ⌝ }
+pub fn cost(head: Head, rows: &[u16], m: u16, state: u16) -> u16
+    requires { ⌜ length (now rows) ≡ allRows * 4 ⌝ }
+    requires { ⌜ WellFormed (jobOf head (now rows)) ⌝ }
     requires { ⌜ m < head .counts .moves ⌝ }
-    ensures { λ r. ⌜ (r ≡ domainOf (jobOf head (now (table .entry))) .cost m state) × (r ≤ mostCost) ⌝ }
+    ensures { λ r. ⌜ (r ≡ domainOf (jobOf head (now (rows .entry))) .cost m state) × (r ≤ mostCost) ⌝ }
 {
     // precondition, class, count of effects, first effect
-    let row = job::rows::row_at(table, MOVES + m);
+    let row = job::rows::row_at(rows, MOVES + m);
     let class = row.b as usize;
     COSTS[class]
 }

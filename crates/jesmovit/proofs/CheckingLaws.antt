@@ -18,12 +18,12 @@ use Rattle.semantics.specs.CompilingTable.{flat}
 use Rattle.compile.specs.CompiledJob.{stepsOf, positionCount, stepCount, fits}
 use Rattle.compile.specs.declared.sizes.Sizes.{Sizes}
 use Rattle.plans.specs.PlanText.{mostEntries}
-use Rattle.validate.specs.Ready.{Ready, Entries}
+use Rattle.validate.specs.Ready.{Ready, EntriesBelow}
 use Rattle.validate.specs.Verdict.{verdictOf}
 use Rattle.validate.specs.declared.verdict.Verdict.{Verdict}
 use Rattle.plans.proofs.PlanTold.{plan-told}
 use Rattle.offers.specs.Refusals.{Checked, passed, refused, next, Offer, jobsOf, keyFor, boundFor, offerIn, listNeed, listLong}
-use Rattle.offers.specs.Offer.{offerOf, Fitting, refusalOf}
+use Rattle.offers.specs.Offer.{offerOf, Fitting, offerRefusal}
 use Rattle.offers.specs.declared.offer.Sort.{Sort}
 use Rattle.offers.specs.declared.offer.Offered.{Offered}
 use Rattle.offers.proofs.LoadLaws.{passed-right}
@@ -51,26 +51,26 @@ module _ (sort : Sort) (text plan list : List ℕ) where
       → {v : Verdict} → Says sort o (verdictOf v) → Checks sort text plan list (CheckAnswer.Said v) after
   check-done {o} e f x = done (passed o) e (says x) f
 
-  module _ (table entries : List ℕ) (a : Offered) (e : offerOf a table entries ≡ offerIn sort text plan) where
+  module _ (rows entries : List ℕ) (a : Offered) (e : offerOf a rows entries ≡ offerIn sort text plan) where
     lists : (c : Checked Offer) → c ≡ offerIn sort text plan → next c (λ o. listLong (length list) (o .job) o) ≡ c₀
     unfolding checking
     lists c f = ap (λ (x : Checked Offer). next x (λ o. listLong (length list) (o .job) o)) f
 
     -- what loading refuses
-    pub checking-refused : {q r : Refusal} → a ≡ Offered.Refused q → r ≡ refusalOf a → refused (r .number) (r .place) ≡ checking sort text plan (length list)
+    pub checking-refused : {q r : Refusal} → a ≡ Offered.Refused q → r ≡ offerRefusal a → refused (r .number) (r .place) ≡ checking sort text plan (length list)
     checking-refused {q} {r} g f =
         lists (refused (r .number) (r .place))
-        (ap (λ (x : Refusal). refused (x .number) (x .place)) (f ∙ ap refusalOf g) ∙ ap (λ (x : Offered). offerOf x table entries) (sym g) ∙ e)
+        (ap (λ (x : Refusal). refused (x .number) (x .place)) (f ∙ ap offerRefusal g) ∙ ap (λ (x : Offered). offerOf x rows entries) (sym g) ∙ e)
 
-    module _ (h : Head) (s : Sizes) (n : ℕ) (g : a ≡ Offered.Ready h s n) (m : Fitting a table) where
+    module _ (h : Head) (s : Sizes) (n : ℕ) (g : a ≡ Offered.Ready h s n) (m : Fitting a rows) where
       abbrev j : Job
-      j = jobOf h table
+      j = jobOf h rows
 
       abbrev o : Offer
-      o = record { job = jobOf h table; entries = take n entries }
+      o = record { job = jobOf h rows; entries = take n entries }
 
       passes : passed o ≡ offerIn sort text plan
-      passes = ap (λ (x : Offered). offerOf x table entries) (sym g) ∙ e
+      passes = ap (λ (x : Offered). offerOf x rows entries) (sym g) ∙ e
 
       fitting : (s .positions ≡ positionCount j) × (s .steps ≡ stepCount j) × (n ≤ mostEntries)
       fitting = rw g at m
@@ -81,7 +81,7 @@ module _ (sort : Sort) (text plan list : List ℕ) where
       pub offer-room : n ≤ mostEntries
       offer-room = fitting .2
 
-      pub offer-right : WellFormed (jobOf h table) × (fits (jobOf h table) ≡ true)
+      pub offer-right : WellFormed (jobOf h rows) × (fits (jobOf h rows) ≡ true)
       offer-right = passed-right text j (offer-taken sort text plan o (sym passes) .0)
 
       listed : (b : Bool) → leb (listNeed j) (length list) ≡ b → cond b (passed o) (refused 6 (listNeed j)) ≡ c₀
@@ -94,15 +94,15 @@ module _ (sort : Sort) (text plan list : List ℕ) where
           ∙ listed false (lt-leb (listNeed j) (length list) (omega (arith, sized .1)))
 
       module _ (l : s .steps * 4 ≤ length list) where
-        pub check-ready : WellFormed (jobOf h table) × ((fits (jobOf h table) ≡ true) × (stepCount (jobOf h table) * 4 ≤ length list))
-        check-ready = list-ready h table s sized offer-right list l
+        pub check-ready : WellFormed (jobOf h rows) × ((fits (jobOf h rows) ≡ true) × (stepCount (jobOf h rows) * 4 ≤ length list))
+        check-ready = list-ready h rows s sized offer-right list l
 
-        pub check-handed : {after : List ℕ} → after ≡ sets list 0 (flat (stepsOf (jobOf h table))) → length table ≡ allRows * 4
-            → Ready h table (take (s .steps * 4 - 0) after) (s .positions) × Entries (take (n - 0) entries) (boundFor sort (jobOf h table))
+        pub check-handed : {after : List ℕ} → after ≡ sets list 0 (flat (stepsOf (jobOf h rows))) → length rows ≡ allRows * 4
+            → Ready h rows (take (s .steps * 4 - 0) after) (s .positions) × EntriesBelow (take (n - 0) entries) (boundFor sort (jobOf h rows))
         check-handed f size =
             let r = plan-told (keyFor sort) (boundFor sort j) plan (take n entries) (offer-taken sort text plan o (sym passes) .1) in
-            (front-ready h table s sized offer-right list l f size, rw (part-front n entries) (record { few = r .0; below = r .1 }))
+            (front-ready h rows s sized offer-right list l f size, rw (part-front n entries) (record { few = r .0; below = r .1 }))
 
-        pub checking-passed : (passed (record { job = jobOf h table; entries = take (n - 0) entries }) ≡ checking sort text plan (length list))
-            × (s .positions ≡ positionCount (jobOf h table)) × (s .steps ≡ stepCount (jobOf h table))
+        pub checking-passed : (passed (record { job = jobOf h rows; entries = take (n - 0) entries }) ≡ checking sort text plan (length list))
+            × (s .positions ≡ positionCount (jobOf h rows)) × (s .steps ≡ stepCount (jobOf h rows))
         checking-passed = (rw (part-front n entries) (listed true (le-leb (listNeed j) (length list) (omega (arith, sized .1)))), sized .0, sized .1)

@@ -19,7 +19,7 @@ use Rattle.compile.specs.CompiledJob.{stepsOf, positionCount, stepCount, fits}
 use Rattle.compile.specs.declared.sizes.Sizes.{Sizes}
 use Rattle.validate.specs.Ready.{Ready}
 use Rattle.offers.specs.Refusals.{Checked, passed, refused, next, jobIn, listNeed, listLong}
-use Rattle.offers.specs.Load.{checkedOf, Measured, refusalOf}
+use Rattle.offers.specs.Load.{checkedOf, Measured, loadRefusal}
 use Rattle.offers.specs.declared.load.Loaded.{Loaded}
 use Rattle.offers.proofs.LoadLaws.{passed-right, loaded-refused, loaded-passed, loaded-sized}
 use Rattle.jesmovit.specs.Compiling.{compiling, compileAnswer, listAfter}
@@ -41,23 +41,23 @@ module _ (text list : List ℕ) where
       → {after : List ℕ} → after ≡ sets list 0 (flat (stepsOf j)) → Post text list (CompileAnswer.Compiled positions steps) after
   compile-done j e f = let x = done (passed j) (e .0) in (rw (e .1, e .2) (x .0), f ∙ x .1)
 
-module _ (text list table : List ℕ) (a : Loaded) (e : checkedOf a table ≡ jobIn text) where
+module _ (text list rows : List ℕ) (a : Loaded) (e : checkedOf a rows ≡ jobIn text) where
   -- what loading refuses
-  pub compiling-refused : {q r : Refusal} → a ≡ Loaded.Refused q → r ≡ refusalOf a → refused (r .number) (r .place) ≡ compiling text (length list)
+  pub compiling-refused : {q r : Refusal} → a ≡ Loaded.Refused q → r ≡ loadRefusal a → refused (r .number) (r .place) ≡ compiling text (length list)
   unfolding compiling
-  compiling-refused g f = ap (λ (x : Checked Job). next x (λ j. listLong (length list) j j)) (loaded-refused text table a e g f)
+  compiling-refused g f = ap (λ (x : Checked Job). next x (λ j. listLong (length list) j j)) (loaded-refused text rows a e g f)
 
-  module _ (h : Head) (s : Sizes) (g : a ≡ Loaded.Ready h s) (m : Measured a table) where
+  module _ (h : Head) (s : Sizes) (g : a ≡ Loaded.Ready h s) (m : Measured a rows) where
     abbrev j : Job
-    j = jobOf h table
+    j = jobOf h rows
 
     passes : passed j ≡ jobIn text
-    passes = loaded-passed text table a e h s g
+    passes = loaded-passed text rows a e h s g
 
     sized : (s .positions ≡ positionCount j) × (s .steps ≡ stepCount j)
-    sized = loaded-sized text table a e h s g m
+    sized = loaded-sized text rows a e h s g m
 
-    pub load-right : WellFormed (jobOf h table) × (fits (jobOf h table) ≡ true)
+    pub load-right : WellFormed (jobOf h rows) × (fits (jobOf h rows) ≡ true)
     load-right = passed-right text j (sym passes)
 
     lists : (b : Bool) → leb (listNeed j) (length list) ≡ b → cond b (passed j) (refused 6 (listNeed j)) ≡ compiling text (length list)
@@ -71,13 +71,13 @@ module _ (text list table : List ℕ) (a : Loaded) (e : checkedOf a table ≡ jo
         ∙ lists false (lt-leb (listNeed j) (length list) (omega (arith, sized .1)))
 
     module _ (l : s .steps * 4 ≤ length list) where
-      pub compile-ready : WellFormed (jobOf h table) × ((fits (jobOf h table) ≡ true) × (stepCount (jobOf h table) * 4 ≤ length list))
-      compile-ready = list-ready h table s sized load-right list l
+      pub compile-ready : WellFormed (jobOf h rows) × ((fits (jobOf h rows) ≡ true) × (stepCount (jobOf h rows) * 4 ≤ length list))
+      compile-ready = list-ready h rows s sized load-right list l
 
-      pub compiled-ready : {after : List ℕ} → after ≡ sets list 0 (flat (stepsOf (jobOf h table))) → length table ≡ allRows * 4
-          → Ready h table (take (s .steps * 4 - 0) after) (s .positions)
-      compiled-ready f size = front-ready h table s sized load-right list l f size
+      pub compiled-ready : {after : List ℕ} → after ≡ sets list 0 (flat (stepsOf (jobOf h rows))) → length rows ≡ allRows * 4
+          → Ready h rows (take (s .steps * 4 - 0) after) (s .positions)
+      compiled-ready f size = front-ready h rows s sized load-right list l f size
 
-      pub compiling-passed : (passed (jobOf h table) ≡ compiling text (length list))
-          × (s .positions ≡ positionCount (jobOf h table)) × (s .steps ≡ stepCount (jobOf h table))
+      pub compiling-passed : (passed (jobOf h rows) ≡ compiling text (length list))
+          × (s .positions ≡ positionCount (jobOf h rows)) × (s .steps ≡ stepCount (jobOf h rows))
       compiling-passed = (lists true (le-leb (listNeed j) (length list) (omega (arith, sized .1))), sized .0, sized .1)

@@ -15,7 +15,7 @@ use Rattle.semantics.specs.CompilingTable.{Step, flat}
 use Rattle.semantics.proofs.FlatLaws.{flat-length, flat-steps}
 use Rattle.compile.specs.CompiledJob.{stepsOf, positionCount, stepCount, fits}
 use Rattle.compile.specs.declared.sizes.Sizes.{Sizes}
-use Rattle.validate.specs.Links.{stepsOn}
+use Rattle.validate.specs.Adjacency.{stepsOn}
 use Rattle.validate.specs.Ready.{Ready}
 
 -- a part from place 0 on

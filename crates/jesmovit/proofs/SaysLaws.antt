@@ -15,7 +15,7 @@ use Rattle.semantics.proofs.StepVerdictLaws.{step-verdict-judged}
 use Rattle.domain.specs.Domain.{domainOf}
 use Rattle.compile.specs.Program.{programOf}
 use Rattle.compile.specs.CompiledJob.{stepsOf, positionCount}
-use Rattle.validate.specs.Ready.{Ready, Entries}
+use Rattle.validate.specs.Ready.{Ready, EntriesBelow}
 use Rattle.validate.proofs.ReadyLaws.{final-below}
 use Rattle.offers.specs.Refusals.{boundFor}
 use Rattle.offers.specs.declared.offer.Sort.{Sort}
@@ -23,22 +23,22 @@ use Rattle.offers.specs.declared.offer.Sort.the-variants.{Moves, Steps}
 use Rattle.offers.proofs.OfferLaws.{moves-of}
 use Rattle.jesmovit.specs.Checking.{Says}
 
-module _ (h : Head) (table plan : List ℕ) where
+module _ (h : Head) (rows plan : List ℕ) where
   abbrev j : Job
-  j = jobOf h table
+  j = jobOf h rows
 
   module _ {sort : Sort} (e : sort ≡ Moves) where
-    pub move-entries : Entries plan (boundFor sort (jobOf h table)) → Entries plan (h .counts .moves)
-    move-entries x = subst (λ (b : ℕ). Entries plan b) (ap (λ (s : Sort). boundFor s j) e ∙ moves-of h table) x
+    pub move-entries : EntriesBelow plan (boundFor sort (jobOf h rows)) → EntriesBelow plan (h .counts .moves)
+    move-entries x = subst (λ (b : ℕ). EntriesBelow plan b) (ap (λ (s : Sort). boundFor s j) e ∙ moves-of h rows) x
 
-    pub says-moves : {list : List ℕ} {positions : ℕ} → Ready h table list positions → {v : Verdict} → v ≡ verdictBy 256 (domainOf (jobOf h table)) (programOf (jobOf h table)) plan
-        → Says sort (record { job = jobOf h table; entries = plan }) v
+    pub says-moves : {list : List ℕ} {positions : ℕ} → Ready h rows list positions → {v : Verdict} → v ≡ verdictBy 256 (domainOf (jobOf h rows)) (programOf (jobOf h rows)) plan
+        → Says sort (record { job = jobOf h rows; entries = plan }) v
     says-moves r f = rw (e, f) (verdict-by-judged (domainOf j) (programOf j) 256 (final-below r) plan)
 
   module _ {sort : Sort} (e : sort ≡ Steps) where
-    pub step-entries : Entries plan (boundFor sort (jobOf h table)) → Entries plan (length (stepsOf (jobOf h table)))
-    step-entries x = subst (λ (b : ℕ). Entries plan b) (ap (λ (s : Sort). boundFor s j) e) x
+    pub step-entries : EntriesBelow plan (boundFor sort (jobOf h rows)) → EntriesBelow plan (length (stepsOf (jobOf h rows)))
+    step-entries x = subst (λ (b : ℕ). EntriesBelow plan b) (ap (λ (s : Sort). boundFor s j) e) x
 
-    pub says-steps : {list : List ℕ} {positions : ℕ} → Ready h table list positions → {v : Verdict} → v ≡ stepVerdict (domainOf (jobOf h table)) (stepsOf (jobOf h table)) (positions - 1) plan
-        → Says sort (record { job = jobOf h table; entries = plan }) v
+    pub says-steps : {list : List ℕ} {positions : ℕ} → Ready h rows list positions → {v : Verdict} → v ≡ stepVerdict (domainOf (jobOf h rows)) (stepsOf (jobOf h rows)) (positions - 1) plan
+        → Says sort (record { job = jobOf h rows; entries = plan }) v
     says-steps r f = rw (e, f, r .positions) (step-verdict-judged (domainOf j) (stepsOf j) (positionCount j - 1) plan)

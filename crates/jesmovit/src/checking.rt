@@ -1,6 +1,6 @@
 // Plan texts checked against job texts.
 ghost use Rattle.job.specs.Store.{jobOf};
-ghost use Rattle.validate.specs.Ready.{Ready, Entries};
+ghost use Rattle.validate.specs.Ready.{Ready, EntriesBelow};
 ghost use Rattle.validate.specs.Verdict.{verdictOf};
 ghost use Rattle.offers.specs.Refusals.{boundFor};
 ghost use Rattle.jesmovit.specs.Checking.{Says, Checks};
@@ -22,27 +22,27 @@ pub enum CheckAnswer {
 fn verdict(
     sort: Sort,
     head: Head,
-    table: &[u16],
+    rows: &[u16],
     list: &[u16],
     positions: u16,
     plan: &[u16],
 ) -> Verdict
-    requires { ⌜ Ready head (now table) (now list) positions ⌝ }
-    requires { ⌜ Entries (now plan) (boundFor sort (jobOf head (now table))) ⌝ }
-    ensures { λ r. ⌜ Says sort (record { job = jobOf head (now (table .entry)); entries = now (plan .entry) }) (verdictOf r) ⌝ }
+    requires { ⌜ Ready head (now rows) (now list) positions ⌝ }
+    requires { ⌜ EntriesBelow (now plan) (boundFor sort (jobOf head (now rows))) ⌝ }
+    ensures { λ r. ⌜ Says sort (record { job = jobOf head (now (rows .entry)); entries = now (plan .entry) }) (verdictOf r) ⌝ }
 {
     match sort {
-        Sort::Moves => validate::moves::check_moves(head, table, list, positions, plan),
-        Sort::Steps => validate::steps::check_steps(head, table, list, positions, plan),
+        Sort::Moves => validate::moves::check_moves(head, rows, list, positions, plan),
+        Sort::Steps => validate::steps::check_steps(head, rows, list, positions, plan),
     }
 }
 
 fn check(sort: Sort, text: &[u8], plan: &[u8], list: &mut [u16]) -> CheckAnswer
     ensures { λ r. ⌜ Checks sort (now (text .entry)) (now (plan .entry)) (now (list .entry)) r (now (list .exit)) ⌝ }
 {
-    let mut table = [0u16; TABLE];
+    let mut rows = [0u16; TABLE];
     let mut entries = [0u16; ENTRIES];
-    let offered = offers::offer::offer(sort, text, plan, &mut table, &mut entries);
+    let offered = offers::offer::offer(sort, text, plan, &mut rows, &mut entries);
     let Offered::Ready(head, sizes, n) = offered else {
         let r = offers::offer::refusal(offered);
         return CheckAnswer::Refused(r);
@@ -52,11 +52,11 @@ fn check(sort: Sort, text: &[u8], plan: &[u8], list: &mut [u16]) -> CheckAnswer
         let short = offers::room::too_short(need);
         return CheckAnswer::Refused(short);
     }
-    compile::program::compile(head, &table, list);
+    compile::program::compile(head, &rows, list);
     let v = verdict(
         sort,
         head,
-        &table,
+        &rows,
         &list[0..need],
         sizes.positions,
         &entries[0..n],

@@ -16,8 +16,8 @@ pub enum CompileAnswer {
 pub fn compile(text: &[u8], list: &mut [u16]) -> CompileAnswer
     ensures { λ r. ⌜ (r ≡ compileAnswer (compiling (now (text .entry)) (length (now (list .entry))))) × (now (list .exit) ≡ listAfter (compiling (now (text .entry)) (length (now (list .entry)))) (now (list .entry))) ⌝ }
 {
-    let mut table = [0u16; TABLE];
-    let loaded = offers::load::load(text, &mut table);
+    let mut rows = [0u16; TABLE];
+    let loaded = offers::load::load(text, &mut rows);
     let Loaded::Ready(head, sizes) = loaded else {
         let r = offers::load::refusal(loaded);
         return CompileAnswer::Refused(r);
@@ -27,6 +27,6 @@ pub fn compile(text: &[u8], list: &mut [u16]) -> CompileAnswer
         let short = offers::room::too_short(need);
         return CompileAnswer::Refused(short);
     }
-    compile::program::compile(head, &table, list);
+    compile::program::compile(head, &rows, list);
     CompileAnswer::Compiled(sizes.positions, sizes.steps)
 }

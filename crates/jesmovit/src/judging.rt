@@ -4,7 +4,7 @@ ghost use Prim.Native.Nat.{_*_, _≤_};
 ghost use lib.ListN.{length};
 ghost use Rattle.job.specs.StateCount.{stateCount};
 ghost use Rattle.job.specs.Store.{jobOf};
-ghost use Rattle.validate.specs.Ready.{Ready, Entries};
+ghost use Rattle.validate.specs.Ready.{Ready, EntriesBelow};
 ghost use Rattle.jesmovit.specs.Judging.{CostsLeast, compared, Found, Judges};
 use job::head::Head;
 use job::head::Refusal;
@@ -84,7 +84,7 @@ fn judge_entries(
     plan: &[u16],
 ) -> Judgement
     requires { ⌜ Ready head (now rows) (now list) positions ⌝ }
-    requires { ⌜ Entries (now plan) (head .counts .moves) ⌝ }
+    requires { ⌜ EntriesBelow (now plan) (head .counts .moves) ⌝ }
     requires { ⌜ stateCount (head .counts .facts) * positions ≤ length (now table) ⌝ }
     ensures { λ r. ⌜ Found (jobOf head (now (rows .entry))) (now (plan .entry)) r (now (table .entry)) (now (table .exit)) ⌝ }
 {

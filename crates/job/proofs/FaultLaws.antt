@@ -8,10 +8,10 @@ use Rattle.job.specs.Fault.{fault}
 use Rattle.job.specs.Store.{listOf, numbersOf}
 use Rattle.job.specs.declared.head.Counts.{Counts}
 use Rattle.job.specs.declared.line.Line.{Line}
-use Rattle.job.specs.declared.line.Numbers.{Numbers}
+use Rattle.job.specs.declared.line.LineNumbers.{LineNumbers}
 
 -- the reason that refuses a well-formed line, and one of wrong form
-module _ (next : Line) (c : Counts) (r : Numbers) where
+module _ (next : Line) (c : Counts) (r : LineNumbers) where
   pub fault-of : (k : Line) → next ≡ k → r .formed ≡ true → fault next c (numbersOf next r) ≡ fault k c (some (listOf k r))
   fault-of k e h = rw (e, h)
 

@@ -25,10 +25,10 @@ within-true c (f ∷ fs) (x ∷ xs) e =
     (ltb-true x (bound c f) (and-left (ltb x (bound c f)) (within c fs xs) e), within-true c fs xs (and-right (ltb x (bound c f)) (within c fs xs) e))
 
 -- a kind whose fields hold something is in the table
-pub kind-listed : (c : Counts) (table : List (List Field)) (kind x : ℕ) (xs : List ℕ) → Within c (getD table kind []) (x ∷ xs) → kind < length table
-kind-listed c table kind x xs w = elim (decLt kind (length table)) [
+pub kind-listed : (c : Counts) (kinds : List (List Field)) (kind x : ℕ) (xs : List ℕ) → Within c (getD kinds kind []) (x ∷ xs) → kind < length kinds
+kind-listed c kinds kind x xs w = elim (decLt kind (length kinds)) [
   | yes h ↦ h
-  | no h ↦ (let g : length table ≤ kind = omega arith in absurd (rw (List·getD-eq-default table [] {n = kind} g) at w))
+  | no h ↦ (let g : length kinds ≤ kind = omega arith in absurd (rw (List·getD-eq-default kinds [] {n = kind} g) at w))
 ]
 
 -- a move's effects are among all of them

@@ -16,39 +16,39 @@ use Rattle.job.specs.declared.line.Line.the-variants.{Job, Facts, Init, 
 -- a text that is being read: the line that comes next, how many rows of its sort are due and how many effects of the last move, and the job so far
 pub record Reading : Type 0 where
   pub next : Line
-  pub rows : ℕ
+  pub due : ℕ
   pub effects : ℕ
   pub job : J.Job
 
 abbrev pub on : Line → ℕ → ℕ → J.Job → Reading
-on next rows effects job = record { next = next; rows = rows; effects = effects; job = job }
+on next due effects job = record { next = next; due = due; effects = effects; job = job }
 
 -- "formulas=N, then N lines"
 abbrev pub afterFormulas : ℕ → Line
-afterFormulas rows = cond (eqb rows 0) Moves Formula
+afterFormulas due = cond (eqb due 0) Moves Formula
 
 -- "Each is a line m=.. followed by its E lines"
 abbrev pub afterMoves : ℕ → ℕ → Line
-afterMoves rows effects = cond (eqb effects 0) (cond (eqb rows 0) Goal Move) Effect
+afterMoves due effects = cond (eqb effects 0) (cond (eqb due 0) Goal Move) Effect
 
 -- "program=P, then P lines"
 abbrev pub afterRows : ℕ → Line
-afterRows rows = cond (eqb rows 0) End Row
+afterRows due = cond (eqb due 0) End Row
 
 -- the numbers of a right line taken in
 abbrev pub takenAt : Line → Reading → List ℕ → Reading
-takenAt Job s r = on Facts (s .rows) (s .effects) (s .job)
-takenAt Facts s r = on Init (s .rows) (s .effects) (withScalars (s .job) (getD r 0 0) (s .job .scalars .init) (s .job .scalars .goal))
-takenAt Init s r = on Formulas (s .rows) (s .effects) (withScalars (s .job) (s .job .scalars .facts) (getD r 0 0) (s .job .scalars .goal))
+takenAt Job s r = on Facts (s .due) (s .effects) (s .job)
+takenAt Facts s r = on Init (s .due) (s .effects) (withScalars (s .job) (getD r 0 0) (s .job .scalars .init) (s .job .scalars .goal))
+takenAt Init s r = on Formulas (s .due) (s .effects) (withScalars (s .job) (s .job .scalars .facts) (getD r 0 0) (s .job .scalars .goal))
 takenAt Formulas s r = on Formula (getD r 0 0) (s .effects) (s .job)
-takenAt Formula s r = on (afterFormulas (s .rows - 1)) (s .rows - 1) (s .effects) (addFormula (s .job) (formulaOf r))
+takenAt Formula s r = on (afterFormulas (s .due - 1)) (s .due - 1) (s .effects) (addFormula (s .job) (formulaOf r))
 takenAt Moves s r = on (afterMoves (getD r 0 0) 0) (getD r 0 0) 0 (s .job)
 takenAt Move s r =
-    on (afterMoves (s .rows - 1) (getD r 2 0)) (s .rows - 1) (getD r 2 0) (addMove (s .job) (moveOf (length (s .job .effects)) r))
-takenAt Effect s r = on (afterMoves (s .rows) (s .effects - 1)) (s .rows) (s .effects - 1) (addEffect (s .job) (effectOf r))
-takenAt Goal s r = on Program (s .rows) (s .effects) (withScalars (s .job) (s .job .scalars .facts) (s .job .scalars .init) (getD r 0 0))
+    on (afterMoves (s .due - 1) (getD r 2 0)) (s .due - 1) (getD r 2 0) (addMove (s .job) (moveOf (length (s .job .effects)) r))
+takenAt Effect s r = on (afterMoves (s .due) (s .effects - 1)) (s .due) (s .effects - 1) (addEffect (s .job) (effectOf r))
+takenAt Goal s r = on Program (s .due) (s .effects) (withScalars (s .job) (s .job .scalars .facts) (s .job .scalars .init) (getD r 0 0))
 takenAt Program s r = on Row (getD r 0 0) (s .effects) (s .job)
-takenAt Row s r = on (afterRows (s .rows - 1)) (s .rows - 1) (s .effects) (addRow (s .job) (rowOf r))
+takenAt Row s r = on (afterRows (s .due - 1)) (s .due - 1) (s .effects) (addRow (s .job) (rowOf r))
 takenAt End s r = s
 
 unfoldable pub taken : Reading → List ℕ → Reading

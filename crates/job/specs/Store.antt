@@ -8,20 +8,20 @@ use Rattle.job.specs.Job.{Job, Move, formulaOf, moveOf, effectOf, rowOf}
 use Rattle.job.specs.Line.{formOf}
 use Rattle.job.specs.declared.head.Head.{Head}
 use Rattle.job.specs.declared.line.Line.{Line}
-use Rattle.job.specs.declared.line.Numbers.{Numbers}
+use Rattle.job.specs.declared.line.LineNumbers.{LineNumbers}
 
 -- where the rows of each sort begin, and how many rows there are in all
-abbrev pub formulasAt : ℕ
-formulasAt = 0
+abbrev pub formulasFrom : ℕ
+formulasFrom = 0
 
-abbrev pub movesAt : ℕ
-movesAt = 255
+abbrev pub movesFrom : ℕ
+movesFrom = 255
 
-abbrev pub effectsAt : ℕ
-effectsAt = 319
+abbrev pub effectsFrom : ℕ
+effectsFrom = 319
 
-abbrev pub programAt : ℕ
-programAt = 1343
+abbrev pub programFrom : ℕ
+programFrom = 1343
 
 abbrev pub allRows : ℕ
 allRows = 1471
@@ -42,15 +42,15 @@ storedMove r = moveOf (getD r 3 0) r
 abbrev pub jobOf : Head → List ℕ → Job
 jobOf h l = record {
   scalars = record { facts = h .counts .facts; init = h .init; goal = h .goal };
-  formulas = rowsFrom formulaOf l formulasAt (h .counts .formulas);
-  moves = rowsFrom storedMove l movesAt (h .counts .moves);
-  effects = rowsFrom effectOf l effectsAt (h .counts .effects);
-  program = rowsFrom rowOf l programAt (h .counts .program);
+  formulas = rowsFrom formulaOf l formulasFrom (h .counts .formulas);
+  moves = rowsFrom storedMove l movesFrom (h .counts .moves);
+  effects = rowsFrom effectOf l effectsFrom (h .counts .effects);
+  program = rowsFrom rowOf l programFrom (h .counts .program);
 }
 
 -- a line's numbers, as many as its sort has
-abbrev pub listOf : Line → Numbers → List ℕ
+abbrev pub listOf : Line → LineNumbers → List ℕ
 listOf next r = take (formOf next .width) (r .a ∷ r .b ∷ r .c ∷ r .d ∷ [])
 
-abbrev pub numbersOf : Line → Numbers → Option (List ℕ)
+abbrev pub numbersOf : Line → LineNumbers → Option (List ℕ)
 numbersOf next r = cond (r .formed) (some (listOf next r)) none

@@ -8,7 +8,7 @@ ghost use Rattle.job.specs.StateCount.{stateCount};
 ghost use Rattle.job.specs.Store.{numbersOf};
 use crate::head::Counts;
 use crate::line::Line;
-use crate::line::Numbers;
+use crate::line::LineNumbers;
 
 // 0 where a line is right, else the reason.
 fn unless(right: bool, reason: u8) -> u8
@@ -26,7 +26,7 @@ fn one_to(most: u16, n: u16) -> bool
     n <= most
 }
 
-fn move_reason(row: Numbers, formulas: u16) -> u8
+fn move_reason(row: LineNumbers, formulas: u16) -> u8
     ensures { λ r. ⌜ r ≡ cond (leb (row .c) 16) (cond (ltb (row .a) formulas && leb (row .b) 15) 0 3) 2 ⌝ }
 {
     if 16 < row.c {
@@ -38,7 +38,7 @@ fn move_reason(row: Numbers, formulas: u16) -> u8
     3
 }
 
-fn effect_right(row: Numbers, facts: u16, formulas: u16) -> bool
+fn effect_right(row: LineNumbers, facts: u16, formulas: u16) -> bool
     ensures { λ r. ⌜ r ≡ (ltb (row .a) formulas && (ltb (row .b) facts && leb (row .c) 1)) ⌝ }
 {
     if row.a < formulas {
@@ -58,7 +58,7 @@ fn init_right(init: u16, facts: u16) -> bool
 }
 
 // The reason that refuses a line of the sort that comes next, or 0.
-pub fn reason(next: Line, row: Numbers, counts: Counts) -> u8
+pub fn reason(next: Line, row: LineNumbers, counts: Counts) -> u8
     requires { ⌜ counts .facts ≤ 12 ⌝ }
     ensures { λ r. ⌜ r ≡ fault next counts (numbersOf next row) ⌝ }
 {

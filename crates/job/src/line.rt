@@ -17,7 +17,7 @@ pub enum Line {
 }
 
 // The numbers of a line, as many as its sort has, where it is well formed.
-pub struct Numbers {
+pub struct LineNumbers {
     pub formed: bool,
     pub a: u16,
     pub b: u16,

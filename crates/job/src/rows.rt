@@ -17,15 +17,15 @@ pub const PROGRAM: u16 = 1343;
 pub const TABLE: usize = 5884;
 
 // Row i of the table, written anew.
-pub fn put_row(table: &mut [u16], i: u16, a: u16, b: u16, c: u16, d: u16)
-    requires { ⌜ (i < allRows) × (length (now table) ≡ allRows * 4) ⌝ }
-    ensures { λ _. ⌜ now (table .exit) ≡ sets (now (table .entry)) (i * 4) (a ∷ b ∷ c ∷ d ∷ []) ⌝ }
+pub fn put_row(rows: &mut [u16], i: u16, a: u16, b: u16, c: u16, d: u16)
+    requires { ⌜ (i < allRows) × (length (now rows) ≡ allRows * 4) ⌝ }
+    ensures { λ _. ⌜ now (rows .exit) ≡ sets (now (rows .entry)) (i * 4) (a ∷ b ∷ c ∷ d ∷ []) ⌝ }
 {
     let at = (i as usize) * 4;
-    table[at] = a;
-    table[at + 1] = b;
-    table[at + 2] = c;
-    table[at + 3] = d;
+    rows[at] = a;
+    rows[at + 1] = b;
+    rows[at + 2] = c;
+    rows[at + 3] = d;
 }
 
 // The numbers of a row as they stand in its line, unused ones 0; a move's last one is the number of its first effect.
@@ -37,15 +37,15 @@ pub struct Quad {
 }
 
 // Row i of the table.
-pub fn row_at(table: &[u16], i: u16) -> Quad
-    requires { ⌜ (i < allRows) × (length (now table) ≡ allRows * 4) ⌝ }
-    ensures { λ r. ⌜ r .a ∷ r .b ∷ r .c ∷ r .d ∷ [] ≡ rowAt (now (table .entry)) i ⌝ }
+pub fn row_at(rows: &[u16], i: u16) -> Quad
+    requires { ⌜ (i < allRows) × (length (now rows) ≡ allRows * 4) ⌝ }
+    ensures { λ r. ⌜ r .a ∷ r .b ∷ r .c ∷ r .d ∷ [] ≡ rowAt (now (rows .entry)) i ⌝ }
 {
     let at = (i as usize) * 4;
     Quad {
-        a: table[at],
-        b: table[at + 1],
-        c: table[at + 2],
-        d: table[at + 3],
+        a: rows[at],
+        b: rows[at + 1],
+        c: rows[at + 2],
+        d: rows[at + 3],
     }
 }

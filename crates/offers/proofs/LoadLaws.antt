@@ -21,7 +21,7 @@ use Rattle.compile.specs.CompiledJob.{positionCount, stepCount, fits}
 use Rattle.compile.specs.Size.{capped}
 use Rattle.compile.specs.declared.sizes.Sizes.{Sizes}
 use Rattle.offers.specs.Refusals.{passed, refused, limits, jobIn}
-use Rattle.offers.specs.Load.{checkedOf, Measured, refusalOf}
+use Rattle.offers.specs.Load.{checkedOf, Measured, loadRefusal}
 use Rattle.offers.specs.declared.load.Loaded.{Loaded}
 
 -- fitting, as two comparisons
@@ -38,20 +38,20 @@ module _ (j : Job) where
   unfolding fits
   fit g h = rw (le-leb (positionCount j) 256 g, le-leb (stepCount j) 1024 h)
 
-module _ (text table : List ℕ) where
+module _ (text rows : List ℕ) where
   -- what reading refuses
-  pub load-refused : {a : Answer} {q r : Refusal} → a ≡ Answer.Refused q → r ≡ S.refusalOf a → outcomeOf a table ≡ readJob text
-      → checkedOf (Loaded.Refused r) table ≡ jobIn text
+  pub load-refused : {a : Answer} {q r : Refusal} → a ≡ Answer.Refused q → r ≡ S.readRefusal a → outcomeOf a rows ≡ readJob text
+      → checkedOf (Loaded.Refused r) rows ≡ jobIn text
   unfolding jobIn
   load-refused {a} {q} {r} g f e =
-      ap (λ (x : Refusal). refused (x .number) (x .place)) (f ∙ ap S.refusalOf g) ∙ ap limits (ap (λ (x : Answer). outcomeOf x table) (sym g) ∙ e)
+      ap (λ (x : Refusal). refused (x .number) (x .place)) (f ∙ ap S.readRefusal g) ∙ ap limits (ap (λ (x : Answer). outcomeOf x rows) (sym g) ∙ e)
 
-  module _ {a : Answer} (n : ℕ) (h : Head) (g : a ≡ Answer.Read n h) (e : outcomeOf a table ≡ readJob text) where
+  module _ {a : Answer} (n : ℕ) (h : Head) (g : a ≡ Answer.Read n h) (e : outcomeOf a rows ≡ readJob text) where
     abbrev j : Job
-    j = jobOf h table
+    j = jobOf h rows
 
     reads : readJob text ≡ R.read n j
-    reads = sym e ∙ ap (λ (x : Answer). outcomeOf x table) g
+    reads = sym e ∙ ap (λ (x : Answer). outcomeOf x rows) g
 
     pub load-well-formed : WellFormed j
     load-well-formed = read-well-formed text n j reads
@@ -92,13 +92,13 @@ module _ (text : List ℕ) (j : Job) where
   passed-right e = let r = passed-read e in (read-well-formed text (r .0) j (r .1), r .2)
 
 -- what a caller of loading knows
-module _ (text table : List ℕ) (a : Loaded) (e : checkedOf a table ≡ jobIn text) where
-  pub loaded-refused : {q r : Refusal} → a ≡ Loaded.Refused q → r ≡ refusalOf a → refused (r .number) (r .place) ≡ jobIn text
-  loaded-refused g f = ap (λ (x : Refusal). refused (x .number) (x .place)) (f ∙ ap refusalOf g) ∙ ap (λ (x : Loaded). checkedOf x table) (sym g) ∙ e
+module _ (text rows : List ℕ) (a : Loaded) (e : checkedOf a rows ≡ jobIn text) where
+  pub loaded-refused : {q r : Refusal} → a ≡ Loaded.Refused q → r ≡ loadRefusal a → refused (r .number) (r .place) ≡ jobIn text
+  loaded-refused g f = ap (λ (x : Refusal). refused (x .number) (x .place)) (f ∙ ap loadRefusal g) ∙ ap (λ (x : Loaded). checkedOf x rows) (sym g) ∙ e
 
   module _ (h : Head) (s : Sizes) (g : a ≡ Loaded.Ready h s) where
-    pub loaded-passed : passed (jobOf h table) ≡ jobIn text
-    loaded-passed = ap (λ (x : Loaded). checkedOf x table) (sym g) ∙ e
+    pub loaded-passed : passed (jobOf h rows) ≡ jobIn text
+    loaded-passed = ap (λ (x : Loaded). checkedOf x rows) (sym g) ∙ e
 
-    pub loaded-sized : Measured a table → (s .positions ≡ positionCount (jobOf h table)) × (s .steps ≡ stepCount (jobOf h table))
+    pub loaded-sized : Measured a rows → (s .positions ≡ positionCount (jobOf h rows)) × (s .steps ≡ stepCount (jobOf h rows))
     loaded-sized m = rw g at m

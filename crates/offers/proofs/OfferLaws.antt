@@ -14,7 +14,7 @@ use Rattle.job.proofs.StoreLaws.{counts-of}
 use Rattle.compile.specs.CompiledJob.{positionCount, stepCount}
 use Rattle.compile.specs.declared.sizes.Sizes.{Sizes}
 use Rattle.plans.specs.PlanText as P
-use Rattle.plans.specs.PlanText.{PlanOutcome, mostEntries, readPlan, planOf, countOf}
+use Rattle.plans.specs.PlanText.{PlanOutcome, mostEntries, readPlan, planOf, entryCount}
 use Rattle.plans.specs.declared.plan_text.PlanAnswer.{PlanAnswer}
 use Rattle.offers.specs.Refusals.{Checked, passed, refused, next, jobIn, Offer, offered, keyFor, boundFor, offerIn}
 use Rattle.offers.specs.Load as L
@@ -28,44 +28,44 @@ use Rattle.offers.proofs.LoadLaws.{loaded-refused, loaded-passed, loade
 
 -- the post of loading both
 abbrev Post : Sort → List ℕ → List ℕ → Offered → List ℕ → List ℕ → Type 0
-Post sort text plan answer table entries = (offerOf answer table entries ≡ offerIn sort text plan) × Fitting answer table
+Post sort text plan answer rows entries = (offerOf answer rows entries ≡ offerIn sort text plan) × Fitting answer rows
 
 -- the job's own counts
-pub moves-of : (h : Head) (table : List ℕ) → length (jobOf h table .moves) ≡ h .counts .moves
-moves-of h table = ap (λ (c : Counts). c .moves) (counts-of h table)
+pub moves-of : (h : Head) (rows : List ℕ) → length (jobOf h rows .moves) ≡ h .counts .moves
+moves-of h rows = ap (λ (c : Counts). c .moves) (counts-of h rows)
 
-bound-of : (sort : Sort) (h : Head) (table : List ℕ) (steps : ℕ) → steps ≡ stepCount (jobOf h table) → countFor sort (h .counts .moves) steps ≡ boundFor sort (jobOf h table)
-bound-of Moves h table steps e = sym (moves-of h table)
-bound-of Steps h table steps e = e
+bound-of : (sort : Sort) (h : Head) (rows : List ℕ) (steps : ℕ) → steps ≡ stepCount (jobOf h rows) → countFor sort (h .counts .moves) steps ≡ boundFor sort (jobOf h rows)
+bound-of Moves h rows steps e = sym (moves-of h rows)
+bound-of Steps h rows steps e = e
 
-module _ (sort : Sort) (text plan table entries : List ℕ) (a : Loaded) (e : checkedOf a table ≡ jobIn text) where
+module _ (sort : Sort) (text plan rows entries : List ℕ) (a : Loaded) (e : checkedOf a rows ≡ jobIn text) where
   with-plan : (c : Checked Job) → c ≡ jobIn text → next c (λ j. offered j (readPlan (keyFor sort) (boundFor sort j) plan)) ≡ offerIn sort text plan
   unfolding offerIn
   with-plan c f = ap (λ (x : Checked Job). next x (λ j. offered j (readPlan (keyFor sort) (boundFor sort j) plan))) f
 
-  pub offer-refused : {q r : Refusal} → a ≡ Loaded.Refused q → r ≡ L.refusalOf a → Post sort text plan (Offered.Refused r) table entries
-  offer-refused {q} {r} g f = (with-plan (refused (r .number) (r .place)) (loaded-refused text table a e g f), tt)
+  pub offer-refused : {q r : Refusal} → a ≡ Loaded.Refused q → r ≡ L.loadRefusal a → Post sort text plan (Offered.Refused r) rows entries
+  offer-refused {q} {r} g f = (with-plan (refused (r .number) (r .place)) (loaded-refused text rows a e g f), tt)
 
-  module _ (h : Head) (s : Sizes) (g : a ≡ Loaded.Ready h s) (m : Measured a table) where
+  module _ (h : Head) (s : Sizes) (g : a ≡ Loaded.Ready h s) (m : Measured a rows) where
     abbrev j : Job
-    j = jobOf h table
+    j = jobOf h rows
 
     sized : (s .positions ≡ positionCount j) × (s .steps ≡ stepCount j)
-    sized = loaded-sized text table a e h s g m
+    sized = loaded-sized text rows a e h s g m
 
-    module _ (p : PlanAnswer) (read : (planOf p entries ≡ readPlan (keyFor sort) (countFor sort (h .counts .moves) (s .steps)) plan) × (countOf p ≤ mostEntries)) where
+    module _ (p : PlanAnswer) (read : (planOf p entries ≡ readPlan (keyFor sort) (countFor sort (h .counts .moves) (s .steps)) plan) × (entryCount p ≤ mostEntries)) where
       offers : (o : PlanOutcome) → planOf p entries ≡ o → offered j o ≡ offerIn sort text plan
       offers o f =
-          ap (offered j) (sym f ∙ read .0 ∙ ap (λ (b : ℕ). readPlan (keyFor sort) b plan) (bound-of sort h table (s .steps) (sized .1)))
-          ∙ with-plan (passed j) (loaded-passed text table a e h s g)
+          ap (offered j) (sym f ∙ read .0 ∙ ap (λ (b : ℕ). readPlan (keyFor sort) b plan) (bound-of sort h rows (s .steps) (sized .1)))
+          ∙ with-plan (passed j) (loaded-passed text rows a e h s g)
 
-      pub offer-plan-refused : {line : ℕ} {r : Refusal} → p ≡ PlanAnswer.Refused line → r ≡ planRefusal p → Post sort text plan (Offered.Refused r) table entries
+      pub offer-plan-refused : {line : ℕ} {r : Refusal} → p ≡ PlanAnswer.Refused line → r ≡ planRefusal p → Post sort text plan (Offered.Refused r) rows entries
       offer-plan-refused {line} {r} k f = (
         ap (λ (x : Refusal). refused (x .number) (x .place)) (f ∙ ap planRefusal k) ∙ offers _ (ap (λ (x : PlanAnswer). planOf x entries) k),
         tt,
       )
 
-      pub offer-ready : {n : ℕ} → p ≡ PlanAnswer.Read n → Post sort text plan (Offered.Ready h s n) table entries
+      pub offer-ready : {n : ℕ} → p ≡ PlanAnswer.Read n → Post sort text plan (Offered.Ready h s n) rows entries
       offer-ready {n} k = (offers _ (ap (λ (x : PlanAnswer). planOf x entries) k), (sized .0, sized .1, rw k at (read .1)))
 
 -- what is offered was read from both texts

@@ -12,15 +12,15 @@ use Rattle.offers.specs.declared.load.Loaded.{Loaded}
 use Rattle.offers.specs.declared.load.Loaded.the-variants.{Ready, Refused}
 
 abbrev pub checkedOf : Loaded → List ℕ → Checked Job
-checkedOf (Ready head sizes) table = C.passed (jobOf head table)
-checkedOf (Refused r) table = C.refused (r .number) (r .place)
+checkedOf (Ready head sizes) rows = C.passed (jobOf head rows)
+checkedOf (Refused r) rows = C.refused (r .number) (r .place)
 
 -- the sizes that come with a job are its own
 abbrev pub Measured : Loaded → List ℕ → Type 0
-Measured (Ready head sizes) table = (sizes .positions ≡ positionCount (jobOf head table)) × (sizes .steps ≡ stepCount (jobOf head table))
-Measured (Refused r) table = Unit {0}
+Measured (Ready head sizes) rows = (sizes .positions ≡ positionCount (jobOf head rows)) × (sizes .steps ≡ stepCount (jobOf head rows))
+Measured (Refused r) rows = Unit {0}
 
 -- the refusal that an answer is
-abbrev pub refusalOf : Loaded → Refusal
-refusalOf (Ready head sizes) = record { number = 0; place = 0 }
-refusalOf (Refused r) = r
+abbrev pub loadRefusal : Loaded → Refusal
+loadRefusal (Ready head sizes) = record { number = 0; place = 0 }
+loadRefusal (Refused r) = r

@@ -16,8 +16,8 @@ use Rattle.offers.specs.declared.offer.Offered.{Offered}
 use Rattle.offers.specs.declared.offer.Offered.the-variants.{Ready, Refused}
 
 abbrev pub offerOf : Offered → List ℕ → List ℕ → Checked Offer
-offerOf (Ready head sizes n) table entries = C.passed (record { job = jobOf head table; entries = take n entries })
-offerOf (Refused r) table entries = C.refused (r .number) (r .place)
+offerOf (Ready head sizes n) rows entries = C.passed (record { job = jobOf head rows; entries = take n entries })
+offerOf (Refused r) rows entries = C.refused (r .number) (r .place)
 
 -- how many entries of a sort there are, of so many moves and steps
 abbrev pub countFor : Sort → ℕ → ℕ → ℕ
@@ -26,14 +26,14 @@ countFor Steps moves steps = steps
 
 -- the sizes that come with a job are its own, and its entries have room
 abbrev pub Fitting : Offered → List ℕ → Type 0
-Fitting (Ready head sizes n) table =
-    (sizes .positions ≡ positionCount (jobOf head table)) × (sizes .steps ≡ stepCount (jobOf head table)) × (n ≤ mostEntries)
-Fitting (Refused r) table = Unit {0}
+Fitting (Ready head sizes n) rows =
+    (sizes .positions ≡ positionCount (jobOf head rows)) × (sizes .steps ≡ stepCount (jobOf head rows)) × (n ≤ mostEntries)
+Fitting (Refused r) rows = Unit {0}
 
 -- the refusal that an answer is
-abbrev pub refusalOf : Offered → Refusal
-refusalOf (Ready head sizes n) = record { number = 0; place = 0 }
-refusalOf (Refused r) = r
+abbrev pub offerRefusal : Offered → Refusal
+offerRefusal (Ready head sizes n) = record { number = 0; place = 0 }
+offerRefusal (Refused r) = r
 
 -- the same of a plan's reader: 5, at its line
 abbrev pub planRefusal : PlanAnswer → Refusal

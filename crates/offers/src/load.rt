@@ -4,7 +4,7 @@ ghost use Prim.Native.Nat.{_*_};
 ghost use lib.ListN.{length};
 ghost use Rattle.job.specs.Store.{allRows};
 ghost use Rattle.offers.specs.Refusals.{jobIn};
-ghost use Rattle.offers.specs.Load.{checkedOf, Measured, refusalOf};
+ghost use Rattle.offers.specs.Load.{checkedOf, Measured, loadRefusal};
 use compile::sizes::Sizes;
 use job::head::Head;
 use job::head::Refusal;
@@ -18,7 +18,7 @@ pub enum Loaded {
 
 // The refusal that an answer is; number 0 where it is none.
 pub fn refusal(a: Loaded) -> Refusal
-    ensures { λ r. ⌜ r ≡ refusalOf a ⌝ }
+    ensures { λ r. ⌜ r ≡ loadRefusal a ⌝ }
 {
     match a {
         Loaded::Ready(_, _) => Refusal {
@@ -30,16 +30,16 @@ pub fn refusal(a: Loaded) -> Refusal
 }
 
 // Reasons 1 to 4.
-pub fn load(text: &[u8], table: &mut [u16]) -> Loaded
-    requires { ⌜ length (now table) ≡ allRows * 4 ⌝ }
-    ensures { λ r. ⌜ (checkedOf r (now (table .exit)) ≡ jobIn (now (text .entry))) × Measured r (now (table .exit)) ⌝ }
+pub fn load(text: &[u8], rows: &mut [u16]) -> Loaded
+    requires { ⌜ length (now rows) ≡ allRows * 4 ⌝ }
+    ensures { λ r. ⌜ (checkedOf r (now (rows .exit)) ≡ jobIn (now (text .entry))) × Measured r (now (rows .exit)) ⌝ }
 {
-    let answer = reader::reading::read_job(text, table);
+    let answer = reader::reading::read_job(text, rows);
     let Answer::Read(lines, head) = answer else {
         let r = reader::reading::refusal(answer);
         return Loaded::Refused(r);
     };
-    let sizes = compile::sizes::measure(head, table);
+    let sizes = compile::sizes::measure(head, rows);
     let large = Refusal {
         number: 4,
         place: lines,

@@ -3,9 +3,9 @@ ghost use mathlib.Core.Path.{_≡_};
 ghost use Prim.Native.Nat.{_*_, _≤_};
 ghost use lib.ListN.{length};
 ghost use Rattle.job.specs.Store.{allRows};
-ghost use Rattle.plans.specs.PlanText.{mostEntries, readPlan, planOf, countOf};
+ghost use Rattle.plans.specs.PlanText.{mostEntries, readPlan, planOf, entryCount};
 ghost use Rattle.offers.specs.Refusals.{keyFor, offerIn};
-ghost use Rattle.offers.specs.Offer.{offerOf, Fitting, countFor, refusalOf, planRefusal};
+ghost use Rattle.offers.specs.Offer.{offerOf, Fitting, countFor, offerRefusal, planRefusal};
 use crate::load::Loaded;
 use compile::sizes::Sizes;
 use job::head::Head;
@@ -26,7 +26,7 @@ pub enum Offered {
 
 // The refusal that an answer is; number 0 where it is none.
 pub fn refusal(a: Offered) -> Refusal
-    ensures { λ r. ⌜ r ≡ refusalOf a ⌝ }
+    ensures { λ r. ⌜ r ≡ offerRefusal a ⌝ }
 {
     match a {
         Offered::Ready(_, _, _) => Refusal {
@@ -55,7 +55,7 @@ fn plan_refusal(a: PlanAnswer) -> Refusal
 // The entries of a plan for a job with so many moves and steps.
 fn read_plan(sort: Sort, plan: &[u8], moves: u16, steps: u16, entries: &mut [u16]) -> PlanAnswer
     requires { ⌜ length (now entries) ≡ mostEntries ⌝ }
-    ensures { λ r. ⌜ (planOf r (now (entries .exit)) ≡ readPlan (keyFor sort) (countFor sort moves steps) (now (plan .entry))) × (countOf r ≤ mostEntries) ⌝ }
+    ensures { λ r. ⌜ (planOf r (now (entries .exit)) ≡ readPlan (keyFor sort) (countFor sort moves steps) (now (plan .entry))) × (entryCount r ≤ mostEntries) ⌝ }
 {
     match sort {
         Sort::Moves => plans::plan_text::read_plan(plan, b"m", moves, entries),
@@ -64,17 +64,11 @@ fn read_plan(sort: Sort, plan: &[u8], moves: u16, steps: u16, entries: &mut [u16
 }
 
 // Reasons 1 to 5.
-pub fn offer(
-    sort: Sort,
-    text: &[u8],
-    plan: &[u8],
-    table: &mut [u16],
-    entries: &mut [u16],
-) -> Offered
-    requires { ⌜ (length (now table) ≡ allRows * 4) × (length (now entries) ≡ mostEntries) ⌝ }
-    ensures { λ r. ⌜ (offerOf r (now (table .exit)) (now (entries .exit)) ≡ offerIn sort (now (text .entry)) (now (plan .entry))) × Fitting r (now (table .exit)) ⌝ }
+pub fn offer(sort: Sort, text: &[u8], plan: &[u8], rows: &mut [u16], entries: &mut [u16]) -> Offered
+    requires { ⌜ (length (now rows) ≡ allRows * 4) × (length (now entries) ≡ mostEntries) ⌝ }
+    ensures { λ r. ⌜ (offerOf r (now (rows .exit)) (now (entries .exit)) ≡ offerIn sort (now (text .entry)) (now (plan .entry))) × Fitting r (now (rows .exit)) ⌝ }
 {
-    let loaded = crate::load::load(text, table);
+    let loaded = crate::load::load(text, rows);
     let Loaded::Ready(head, sizes) = loaded else {
         let r = crate::load::refusal(loaded);
         return Offered::Refused(r);

@@ -11,8 +11,8 @@ use Rattle.text.specs.Numbers.{numbers}
 use Rattle.text.specs.Written.{lineText}
 use Rattle.plans.specs.declared.plan_text.PlanAnswer.{PlanAnswer}
 use Rattle.plans.specs.declared.plan_text.PlanAnswer.the-variants.{Read, Refused}
-use Rattle.plans.specs.declared.plan_text.Entry.{Entry}
-use Rattle.plans.specs.declared.plan_text.Entry.the-variants.{Number, Wrong}
+use Rattle.plans.specs.declared.plan_text.PlanEntry.{PlanEntry}
+use Rattle.plans.specs.declared.plan_text.PlanEntry.the-variants.{Number, Wrong}
 
 -- the entries of a plan, or the line at which its text is refused
 pub data PlanOutcome : Type 0 where
@@ -67,10 +67,10 @@ abbrev pub planOf : PlanAnswer → List ℕ → PlanOutcome
 planOf (Read n) entries = listed (take n entries)
 planOf (Refused line) entries = refused line
 
-abbrev pub countOf : PlanAnswer → ℕ
-countOf (Read n) = n
-countOf (Refused line) = 0
+abbrev pub entryCount : PlanAnswer → ℕ
+entryCount (Read n) = n
+entryCount (Refused line) = 0
 
-abbrev pub entryOf : Entry → Option ℕ
+abbrev pub entryOf : PlanEntry → Option ℕ
 entryOf (Number v) = some v
 entryOf Wrong = none

@@ -4,7 +4,7 @@ ghost use mathlib.Core.List.{[]};
 ghost use Prim.Native.Nat.{_≤_};
 ghost use lib.ListN.{length, drop};
 ghost use Rattle.text.specs.Lines.{lines};
-ghost use Rattle.plans.specs.PlanText.{countOf, entryIn, entryOf, mostEntries, planOf, readEntries, readPlan};
+ghost use Rattle.plans.specs.PlanText.{entryCount, entryIn, entryOf, mostEntries, planOf, readEntries, readPlan};
 
 // How many entries a plan has; or the line at which its text is refused.
 pub enum PlanAnswer {
@@ -13,7 +13,7 @@ pub enum PlanAnswer {
 }
 
 // The number of a line, where it is right.
-pub enum Entry {
+pub enum PlanEntry {
     Number(u16),
     Wrong,
 }
@@ -22,7 +22,7 @@ pub enum Entry {
 pub const ENTRIES: usize = 4000;
 
 // The one number of a line with this key, where it is below a limit.
-fn read_entry(line: &[u8], key: &[u8], limit: u16) -> Entry
+fn read_entry(line: &[u8], key: &[u8], limit: u16) -> PlanEntry
     ensures { λ r. ⌜ entryOf r ≡ entryIn (now (key .entry)) limit (now (line .entry)) ⌝ }
 {
     let mut n = [0u16; 1];
@@ -30,11 +30,11 @@ fn read_entry(line: &[u8], key: &[u8], limit: u16) -> Entry
     if text::numbers::read_numbers(value, &mut n) {
         let v = n[0];
         if v < limit {
-            return Entry::Number(v);
+            return PlanEntry::Number(v);
         }
-        return Entry::Wrong;
+        return PlanEntry::Wrong;
     }
-    Entry::Wrong
+    PlanEntry::Wrong
 }
 
 // The lines from a place on, after the first line, which says how many there are.
@@ -47,7 +47,7 @@ fn read_entries(
     entries: &mut [u16],
 ) -> PlanAnswer
     requires { ⌜ (count ≤ mostEntries) × (length (now entries) ≡ mostEntries) ⌝ }
-    ensures { λ r. ⌜ (planOf r (now (entries .exit)) ≡ readEntries (now (key .entry)) bound [] count (lines (drop start (now (text .entry))))) × (countOf r ≤ mostEntries) ⌝ }
+    ensures { λ r. ⌜ (planOf r (now (entries .exit)) ≡ readEntries (now (key .entry)) bound [] count (lines (drop start (now (text .entry))))) × (entryCount r ≤ mostEntries) ⌝ }
 {
     let mut at = start;
     let mut n: usize = 0;
@@ -57,7 +57,7 @@ fn read_entries(
         }
         let e = text::lines::line_end(text, at);
         let found = read_entry(&text[at..e], key, bound);
-        let Entry::Number(v) = found else {
+        let PlanEntry::Number(v) = found else {
             return PlanAnswer::Refused(n + 2);
         };
         entries[n] = v;
@@ -73,11 +73,11 @@ fn read_entries(
 // Reads any bytes as a plan text whose entries come under this key and are below the bound. On a refusal nothing is said of the entries.
 pub fn read_plan(text: &[u8], key: &[u8], bound: u16, entries: &mut [u16]) -> PlanAnswer
     requires { ⌜ length (now entries) ≡ mostEntries ⌝ }
-    ensures { λ r. ⌜ (planOf r (now (entries .exit)) ≡ readPlan (now (key .entry)) bound (now (text .entry))) × (countOf r ≤ mostEntries) ⌝ }
+    ensures { λ r. ⌜ (planOf r (now (entries .exit)) ≡ readPlan (now (key .entry)) bound (now (text .entry))) × (entryCount r ≤ mostEntries) ⌝ }
 {
     let e = text::lines::line_end(text, 0);
     let first = read_entry(&text[0..e], b"plan", 4001);
-    let Entry::Number(count) = first else {
+    let PlanEntry::Number(count) = first else {
         return PlanAnswer::Refused(1);
     };
     read_entries(text, e, key, bound, count as usize, entries)

@@ -73,7 +73,7 @@ module _ (s : Reading) (r : List ℕ) where
   abbrev c : Counts
   c = countsOf j
 
-  fits-at : (k : Line) → Right k c r → Room k (s .rows) (s .effects) c → Fits (s .effects) j → Fits (takenAt k s r .effects) (takenAt k s r .job)
+  fits-at : (k : Line) → Right k c r → Room k (s .due) (s .effects) c → Fits (s .effects) j → Fits (takenAt k s r .effects) (takenAt k s r .job)
   fits-at Job x h f = f
   fits-at Facts x h f =
       let j′ : J.Job = takenAt Facts s r .job in
@@ -103,7 +103,7 @@ module _ (s : Reading) (r : List ℕ) where
       record { formula = f .formula; move = f .move; tiled = tiled-none (j .moves) _ a b; effect = f .effect; row = f .row }
   fits-at Move x h f =
       let m : J.Move = moveOf (length (j .effects)) r in
-      let e : length (j .effects) + s .effects ≡ length (j .effects) = omega (arith, h .due .1) in
+      let e : length (j .effects) + s .effects ≡ length (j .effects) = omega (arith, h .owed .1) in
       let d : length (j .program) ≡ 0 = omega (arith, h .program) in
       record {
         formula = f .formula;
@@ -118,7 +118,7 @@ module _ (s : Reading) (r : List ℕ) where
         row = no-row (J.addMove j m) d;
       }
   fits-at Effect x h f =
-      let e : length (j .effects) + s .effects ≡ length (j .effects ++ (effectOf r ∷ [])) + (s .effects - 1) = omega (arith, h .due, length-append (j .effects) (effectOf r ∷ [])) in
+      let e : length (j .effects) + s .effects ≡ length (j .effects ++ (effectOf r ∷ [])) + (s .effects - 1) = omega (arith, h .owed, length-append (j .effects) (effectOf r ∷ [])) in
       let d : length (j .program) ≡ 0 = omega (arith, h .program) in
       let q = x .fields in
       let q′ = and-right (ltb (getD r 0 0) (c .formulas)) (ltb (getD r 1 0) (c .facts) && leb (getD r 2 0) 1) q in
@@ -151,37 +151,37 @@ module _ (s : Reading) (r : List ℕ) where
   settled-at Facts x f = tt
   settled-at Init x f = ltb-true _ _ (x .range)
   settled-at Formulas x f = f
-  settled-at Formula x f = cond-has (λ k. Settled k (J.addFormula j (formulaOf r))) (eqb (s .rows - 1) 0) Moves Formula (λ z. f) (λ z. f)
+  settled-at Formula x f = cond-has (λ k. Settled k (J.addFormula j (formulaOf r))) (eqb (s .due - 1) 0) Moves Formula (λ z. f) (λ z. f)
   settled-at Moves x f = moves-has (λ k. Settled k j) (getD r 0 0) 0 (λ y z. f) (λ y z. f) (λ z. f)
   settled-at Move x f =
-      moves-has (λ k. Settled k (takenAt Move s r .job)) (s .rows - 1) (getD r 2 0) (λ y z. f) (λ y z. f) (λ z. f)
+      moves-has (λ k. Settled k (takenAt Move s r .job)) (s .due - 1) (getD r 2 0) (λ y z. f) (λ y z. f) (λ z. f)
   settled-at Effect x f =
-      moves-has (λ k. Settled k (takenAt Effect s r .job)) (s .rows) (s .effects - 1) (λ y z. f) (λ y z. f) (λ z. f)
+      moves-has (λ k. Settled k (takenAt Effect s r .job)) (s .due) (s .effects - 1) (λ y z. f) (λ y z. f) (λ z. f)
   settled-at Goal x f = (f, ltb-true _ _ (x .fields))
   settled-at Program x f = f
   settled-at Row x f =
       let l = length-append (j .program) (rowOf r ∷ []) in
-      cond-has (λ k. Settled k (J.addRow j (rowOf r))) (eqb (s .rows - 1) 0) End Row (λ z. (f .0, f .1, omega (arith, l))) (λ z. f)
+      cond-has (λ k. Settled k (J.addRow j (rowOf r))) (eqb (s .due - 1) 0) End Row (λ z. (f .0, f .1, omega (arith, l))) (λ z. f)
   settled-at End x f = never (x .form)
 
 -- a state of reading whose rows are right
 pub record Kept (s : Reading) : Type 0 where
   pub room : RoomOf s
-  pub rows : Fits (s .effects) (s .job)
+  pub fit : Fits (s .effects) (s .job)
   pub settled : Settled (s .next) (s .job)
 
 pub taken-kept : (s : Reading) (r : List ℕ) → Right (s .next) (countsOf (s .job)) r → Kept s → Kept (taken s r)
 unfolding taken
 taken-kept s r x k = record {
   room = unfold taken in taken-room s r x (k .room);
-  rows = fits-at s r (s .next) x (k .room) (k .rows);
+  fit = fits-at s r (s .next) x (k .room) (k .fit);
   settled = settled-at s r (s .next) x (k .settled);
 }
 
 pub begun-kept : Kept begun
 begun-kept = record {
-  room = record { facts = omega arith; formulas = omega arith; moves = omega arith; effects-room = omega arith; program = omega arith; due = tt };
-  rows = record {
+  room = record { facts = omega arith; formulas = omega arith; moves = omega arith; effects-room = omega arith; program = omega arith; owed = tt };
+  fit = record {
     formula = λ i h. absurd (omega arith);
     move = λ i h. absurd (omega arith);
     tiled = omega arith;
@@ -194,21 +194,21 @@ begun-kept = record {
 -- at the end all is settled
 pub end-well-formed : (s : Reading) → Kept s → s .next ≡ End → WellFormed (s .job)
 end-well-formed s k e =
-    let h : Room End (s .rows) (s .effects) (countsOf (s .job)) = rw e at (k .room) in
+    let h : Room End (s .due) (s .effects) (countsOf (s .job)) = rw e at (k .room) in
     let t : Settled End (s .job) = rw e at (k .settled) in
-    let d : length (s .job .effects) + s .effects ≡ length (s .job .effects) = omega (arith, h .due) in
+    let d : length (s .job .effects) + s .effects ≡ length (s .job .effects) = omega (arith, h .owed) in
     record {
       facts = h .facts;
       init = t .0;
       goal = t .1;
       formulas = omega (arith, h .formulas);
-      formula = k .rows .formula;
+      formula = k .fit .formula;
       moves = omega (arith, h .moves);
-      move = k .rows .move;
-      tiled = subst (Tiled 0 (s .job .moves)) d (k .rows .tiled);
+      move = k .fit .move;
+      tiled = subst (Tiled 0 (s .job .moves)) d (k .fit .tiled);
       effects = omega (arith, h .effects-room);
-      effect = k .rows .effect;
+      effect = k .fit .effect;
       program = omega (arith, h .program);
       last = t .2;
-      row = k .rows .row;
+      row = k .fit .row;
     }

@@ -13,7 +13,7 @@ use Rattle.job.specs.Line.{formOf}
 use Rattle.job.specs.Store.{listOf, numbersOf}
 use Rattle.job.specs.declared.line.Line.{Line}
 use Rattle.job.specs.declared.line.Line.the-variants.{Job, Facts, Init, Formulas, Formula, Moves, Move, Effect, Goal, Program, Row, End}
-use Rattle.job.specs.declared.line.Numbers.{Numbers}
+use Rattle.job.specs.declared.line.LineNumbers.{LineNumbers}
 
 -- at most four numbers
 pub width-within : (next : Line) → formOf next .width ≤ 4
@@ -45,7 +45,7 @@ filled-front (a ∷ b ∷ c ∷ d ∷ []) rest w e h = rw (← e)
 filled-front (a ∷ b ∷ c ∷ d ∷ x ∷ out) rest w e h = absurd (omega arith)
 
 -- the numbers of a line, as the fill answered
-module _ (next : Line) (r : Numbers) (out : List ℕ) where
+module _ (next : Line) (r : LineNumbers) (out : List ℕ) where
   pub numbers-answered : (formed : Bool) → r .formed ≡ formed → listOf next r ≡ out → numbersOf next r ≡ answered formed out
   numbers-answered true e h = rw e (ap some h)
   numbers-answered false e h = rw e

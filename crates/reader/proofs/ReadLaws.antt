@@ -21,7 +21,7 @@ use Rattle.job.specs.Store.{jobOf, listOf, numbersOf}
 use Rattle.job.specs.WellFormed.{WellFormed}
 use Rattle.job.specs.declared.line.Line.{Line}
 use Rattle.job.specs.declared.line.Line.the-variants.{Job, Facts, Init, Formulas, Formula, Moves, Move, Effect, Goal, Program, Row, End}
-use Rattle.job.specs.declared.line.Numbers.{Numbers}
+use Rattle.job.specs.declared.line.LineNumbers.{LineNumbers}
 use Rattle.job.proofs.FaultLaws.{right-formed}
 use Rattle.job.proofs.StoreLaws.{counts-of}
 use Rattle.reader.specs.Reading.{readingOf}
@@ -58,21 +58,21 @@ unfolding readFrom
 read-ended text i n s h e = e ∙ rw (lines-past text i h)
 
 -- the numbers of a line as the code has them
-module _ (s : State) (table line : List ℕ) (r : Numbers) (numbers-read : numbersOf (s .next) r ≡ rowNumbers (s .next) line) where
-  pub reason-of : fault (s .next) (s .head .counts) (numbersOf (s .next) r) ≡ reason (readingOf s table) line
-  reason-of = rw (counts-of (s .head) table, numbers-read)
+module _ (s : State) (rows line : List ℕ) (r : LineNumbers) (numbers-read : numbersOf (s .next) r ≡ rowNumbers (s .next) line) where
+  pub reason-of : fault (s .next) (s .head .counts) (numbersOf (s .next) r) ≡ reason (readingOf s rows) line
+  reason-of = rw (counts-of (s .head) rows, numbers-read)
 
   module _ (zero-reason : fault (s .next) (s .head .counts) (numbersOf (s .next) r) ≡ 0) where
     pub row-of : rowNumbers (s .next) line ≡ some (listOf (s .next) r)
     row-of = sym numbers-read ∙ rw (right-formed (s .next) (s .head .counts) r zero-reason)
 
-    pub right-of : Right (s .next) (countsOf (jobOf (s .head) table)) (listOf (s .next) r)
+    pub right-of : Right (s .next) (countsOf (jobOf (s .head) rows)) (listOf (s .next) r)
     right-of =
-        fault-right (s .next) (countsOf (jobOf (s .head) table)) (listOf (s .next) r)
-        (ap (fault (s .next) (countsOf (jobOf (s .head) table))) (sym row-of) ∙ sym reason-of ∙ zero-reason)
+        fault-right (s .next) (countsOf (jobOf (s .head) rows)) (listOf (s .next) r)
+        (ap (fault (s .next) (countsOf (jobOf (s .head) rows))) (sym row-of) ∙ sym reason-of ∙ zero-reason)
 
-pub room-of : (s : State) (table : List ℕ) → Kept (readingOf s table) → Room (s .next) (s .rows) (s .effects) (s .head .counts)
-room-of s table k = rw (counts-of (s .head) table) at (k .room)
+pub room-of : (s : State) (rows : List ℕ) → Kept (readingOf s rows) → Room (s .next) (s .due) (s .effects) (s .head .counts)
+room-of s rows k = rw (counts-of (s .head) rows) at (k .room)
 
 -- the end, where a text is read
 end-is : (k : Line) → isEnd k ≡ true → k ≡ End

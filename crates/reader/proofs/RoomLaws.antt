@@ -12,7 +12,7 @@ use borrow.Author.Tests.{eqb-true, eqb-false, leb-true}
 use Rattle.laws.proofs.Tests.{never, and-left, and-right, cond-has}
 use Rattle.job.specs.Job as J
 use Rattle.job.specs.Job.{countsOf, formulaOf, moveOf, effectOf, rowOf}
-use Rattle.job.specs.Fault.{checks, fault}
+use Rattle.job.specs.Fault.{criteria, fault}
 use Rattle.job.specs.ReadJob.{Reading, afterMoves, takenAt, taken}
 use Rattle.job.specs.declared.head.Counts.{Counts}
 use Rattle.job.specs.declared.line.Line.{Line}
@@ -21,11 +21,11 @@ use Rattle.reader.specs.Room.{Room}
 
 -- a line that no reason refuses
 pub record Right (k : Line) (c : Counts) (r : List ℕ) : Type 0 where
-  pub form : checks k c r .form ≡ true
-  pub range : checks k c r .range ≡ true
-  pub fields : checks k c r .fields ≡ true
+  pub form : criteria k c r .form ≡ true
+  pub range : criteria k c r .range ≡ true
+  pub fields : criteria k c r .fields ≡ true
 
-right-by : (k : Line) (c : Counts) (r : List ℕ) (x y z : Bool) → checks k c r .form ≡ x → checks k c r .range ≡ y → checks k c r .fields ≡ z
+right-by : (k : Line) (c : Counts) (r : List ℕ) (x y z : Bool) → criteria k c r .form ≡ x → criteria k c r .range ≡ y → criteria k c r .fields ≡ z
     → _≡_ {A = ℕ} (cond x (cond y (cond z 0 3) 2) 1) 0 → Right k c r
 right-by k c r true true true e f g h = record { form = e; range = f; fields = g }
 right-by k c r true true false e f g h = absurd (omega arith)
@@ -34,10 +34,10 @@ right-by k c r false y z e f g h = absurd (omega arith)
 
 pub fault-right : (k : Line) (c : Counts) (r : List ℕ) → fault k c (some r) ≡ 0 → Right k c r
 unfolding fault
-fault-right k c r e = right-by k c r (checks k c r .form) (checks k c r .range) (checks k c r .fields) refl refl refl e
+fault-right k c r e = right-by k c r (criteria k c r .form) (criteria k c r .range) (criteria k c r .fields) refl refl refl e
 
 abbrev pub RoomOf : Reading → Type 0
-RoomOf s = Room (s .next) (s .rows) (s .effects) (countsOf (s .job))
+RoomOf s = Room (s .next) (s .due) (s .effects) (countsOf (s .job))
 
 one-to : (n most : ℕ) → (leb 1 n && leb n most) ≡ true → (0 < n) × (n ≤ most)
 one-to n most e = (leb-true 1 n (and-left (leb 1 n) (leb n most) e), leb-true n most (and-right (leb 1 n) (leb n most) e))
@@ -51,22 +51,22 @@ moves-has P m e f g h = cond-has P (eqb e 0) (cond (eqb m 0) Goal Move) Effect
 moves-room : (c : Counts) (m e : ℕ) → c .facts ≤ 12 → c .formulas ≤ 255 → c .moves + m ≤ 64 → c .effects + (e + 16 * m) ≤ 1024 → c .program + 128 ≤ 128
     → Room (afterMoves m e) m e c
 moves-room c m e h f a b p = moves-has (λ k. Room k m e c) m e
-    (λ y z. record { facts = h; formulas = omega arith; moves = omega arith; effects-room = omega arith; program = p; due = y })
-    (λ y z. record { facts = h; formulas = omega arith; moves = a; effects-room = omega arith; program = p; due = (omega (arith, z), y) })
-    (λ z. record { facts = h; formulas = omega arith; moves = a; effects-room = b; program = p; due = omega (arith, z) })
+    (λ y z. record { facts = h; formulas = omega arith; moves = omega arith; effects-room = omega arith; program = p; owed = y })
+    (λ y z. record { facts = h; formulas = omega arith; moves = a; effects-room = omega arith; program = p; owed = (omega (arith, z), y) })
+    (λ z. record { facts = h; formulas = omega arith; moves = a; effects-room = b; program = p; owed = omega (arith, z) })
 
 module _ (s : Reading) (r : List ℕ) where
   abbrev c : Counts
   c = countsOf (s .job)
 
-  room-at : (k : Line) → Right k c r → Room k (s .rows) (s .effects) c → RoomOf (takenAt k s r)
+  room-at : (k : Line) → Right k c r → Room k (s .due) (s .effects) c → RoomOf (takenAt k s r)
   room-at Job x h = record {
     facts = h .facts;
     formulas = h .formulas;
     moves = h .moves;
     effects-room = h .effects-room;
     program = h .program;
-    due = tt;
+    owed = tt;
   }
   room-at Facts x h = record {
     facts = leb-true (getD r 0 0) 12 (x .range);
@@ -74,7 +74,7 @@ module _ (s : Reading) (r : List ℕ) where
     moves = h .moves;
     effects-room = h .effects-room;
     program = h .program;
-    due = tt;
+    owed = tt;
   }
   room-at Init x h = record {
     facts = h .facts;
@@ -82,7 +82,7 @@ module _ (s : Reading) (r : List ℕ) where
     moves = h .moves;
     effects-room = h .effects-room;
     program = h .program;
-    due = tt;
+    owed = tt;
   }
   room-at Formulas x h =
       let n = one-to (getD r 0 0) 255 (x .range) in
@@ -92,26 +92,26 @@ module _ (s : Reading) (r : List ℕ) where
         moves = h .moves;
         effects-room = h .effects-room;
         program = h .program;
-        due = n .0;
+        owed = n .0;
       }
   room-at Formula x h =
       let l = length-append (s .job .formulas) (formulaOf r ∷ []) in
-      cond-has (λ k. Room k (s .rows - 1) (s .effects) (countsOf (J.addFormula (s .job) (formulaOf r)))) (eqb (s .rows - 1) 0) Moves Formula
+      cond-has (λ k. Room k (s .due - 1) (s .effects) (countsOf (J.addFormula (s .job) (formulaOf r)))) (eqb (s .due - 1) 0) Moves Formula
       (λ z. record {
         facts = h .facts;
-        formulas = omega (arith, h .formulas, h .due, l);
+        formulas = omega (arith, h .formulas, h .owed, l);
         moves = h .moves;
         effects-room = h .effects-room;
         program = h .program;
-        due = tt;
+        owed = tt;
       })
       (λ z. record {
         facts = h .facts;
-        formulas = omega (arith, h .formulas, h .due, l);
+        formulas = omega (arith, h .formulas, h .owed, l);
         moves = h .moves;
         effects-room = h .effects-room;
         program = h .program;
-        due = omega (arith, eqb-false (s .rows - 1) 0 z);
+        owed = omega (arith, eqb-false (s .due - 1) 0 z);
       })
   room-at Moves x h =
       let n = leb-true (getD r 0 0) 64 (x .range) in
@@ -119,19 +119,19 @@ module _ (s : Reading) (r : List ℕ) where
   room-at Move x h =
       let l = length-append (s .job .moves) (moveOf (length (s .job .effects)) r ∷ []) in
       let n = leb-true (getD r 2 0) 16 (x .range) in
-      moves-room (countsOf (J.addMove (s .job) (moveOf (length (s .job .effects)) r))) (s .rows - 1) (getD r 2 0) (h .facts)
-      (omega (arith, h .formulas)) (omega (arith, h .moves, h .due .0, l)) (omega (arith, h .effects-room, h .due .0)) (h .program)
+      moves-room (countsOf (J.addMove (s .job) (moveOf (length (s .job .effects)) r))) (s .due - 1) (getD r 2 0) (h .facts)
+      (omega (arith, h .formulas)) (omega (arith, h .moves, h .owed .0, l)) (omega (arith, h .effects-room, h .owed .0)) (h .program)
   room-at Effect x h =
       let l = length-append (s .job .effects) (effectOf r ∷ []) in
-      moves-room (countsOf (J.addEffect (s .job) (effectOf r))) (s .rows) (s .effects - 1) (h .facts)
-      (omega (arith, h .formulas)) (h .moves) (omega (arith, h .effects-room, h .due, l)) (h .program)
+      moves-room (countsOf (J.addEffect (s .job) (effectOf r))) (s .due) (s .effects - 1) (h .facts)
+      (omega (arith, h .formulas)) (h .moves) (omega (arith, h .effects-room, h .owed, l)) (h .program)
   room-at Goal x h = record {
     facts = h .facts;
     formulas = h .formulas;
     moves = h .moves;
     effects-room = h .effects-room;
     program = h .program;
-    due = h .due;
+    owed = h .owed;
   }
   room-at Program x h =
       let n = one-to (getD r 0 0) 128 (x .range) in
@@ -141,26 +141,26 @@ module _ (s : Reading) (r : List ℕ) where
         moves = h .moves;
         effects-room = h .effects-room;
         program = omega (arith, h .program, n .1);
-        due = (n .0, h .due);
+        owed = (n .0, h .owed);
       }
   room-at Row x h =
       let l = length-append (s .job .program) (rowOf r ∷ []) in
-      cond-has (λ k. Room k (s .rows - 1) (s .effects) (countsOf (J.addRow (s .job) (rowOf r)))) (eqb (s .rows - 1) 0) End Row
+      cond-has (λ k. Room k (s .due - 1) (s .effects) (countsOf (J.addRow (s .job) (rowOf r)))) (eqb (s .due - 1) 0) End Row
       (λ z. record {
         facts = h .facts;
         formulas = h .formulas;
         moves = h .moves;
         effects-room = h .effects-room;
-        program = omega (arith, h .program, h .due .0, l);
-        due = h .due .1;
+        program = omega (arith, h .program, h .owed .0, l);
+        owed = h .owed .1;
       })
       (λ z. record {
         facts = h .facts;
         formulas = h .formulas;
         moves = h .moves;
         effects-room = h .effects-room;
-        program = omega (arith, h .program, h .due .0, l);
-        due = (omega (arith, eqb-false (s .rows - 1) 0 z), h .due .1);
+        program = omega (arith, h .program, h .owed .0, l);
+        owed = (omega (arith, eqb-false (s .due - 1) 0 z), h .owed .1);
       })
   room-at End x h = never (x .form)
 

@@ -24,7 +24,7 @@ withNumbers h facts init goal = record {
 }
 
 abbrev pub readingOf : State → List ℕ → Reading
-readingOf s l = on (s .next) (s .rows) (s .effects) (jobOf (s .head) l)
+readingOf s l = on (s .next) (s .due) (s .effects) (jobOf (s .head) l)
 
 -- the paper's number and values for each case of the answer, with the rows that the table holds
 abbrev pub outcomeOf : Answer → List ℕ → Outcome
@@ -32,6 +32,6 @@ outcomeOf (Read n h) l = read n (jobOf h l)
 outcomeOf (Refused r) l = refused (r .number) (r .place)
 
 -- the refusal that an answer is
-abbrev pub refusalOf : Answer → Refusal
-refusalOf (Read n h) = record { number = 0; place = 0 }
-refusalOf (Refused r) = r
+abbrev pub readRefusal : Answer → Refusal
+readRefusal (Read n h) = record { number = 0; place = 0 }
+readRefusal (Refused r) = r

@@ -17,38 +17,38 @@ may formulas moves effects program = record { formulas = formulas; moves = moves
 
 -- by the line that comes next, with so many rows of its sort due and so many effects of the last move
 abbrev pub ahead : Line → ℕ → ℕ → Ahead
-ahead Job rows effects = may 255 64 1024 128
-ahead Facts rows effects = may 255 64 1024 128
-ahead Init rows effects = may 255 64 1024 128
-ahead Formulas rows effects = may 255 64 1024 128
-ahead Formula rows effects = may rows 64 1024 128
-ahead Moves rows effects = may 0 64 1024 128
-ahead Move rows effects = may 0 rows (16 * rows) 128
-ahead Effect rows effects = may 0 rows (effects + 16 * rows) 128
-ahead Goal rows effects = may 0 0 0 128
-ahead Program rows effects = may 0 0 0 128
-ahead Row rows effects = may 0 0 0 rows
-ahead End rows effects = may 0 0 0 0
+ahead Job due effects = may 255 64 1024 128
+ahead Facts due effects = may 255 64 1024 128
+ahead Init due effects = may 255 64 1024 128
+ahead Formulas due effects = may 255 64 1024 128
+ahead Formula due effects = may due 64 1024 128
+ahead Moves due effects = may 0 64 1024 128
+ahead Move due effects = may 0 due (16 * due) 128
+ahead Effect due effects = may 0 due (effects + 16 * due) 128
+ahead Goal due effects = may 0 0 0 128
+ahead Program due effects = may 0 0 0 128
+ahead Row due effects = may 0 0 0 due
+ahead End due effects = may 0 0 0 0
 
 -- a row is due where a row's line comes next, and no effect once the next move or the goal does
 abbrev pub Due : Line → ℕ → ℕ → Type 0
-Due Job rows effects = Unit {0}
-Due Facts rows effects = Unit {0}
-Due Init rows effects = Unit {0}
-Due Formulas rows effects = Unit {0}
-Due Formula rows effects = 0 < rows
-Due Moves rows effects = Unit {0}
-Due Move rows effects = (0 < rows) × (effects ≡ 0)
-Due Effect rows effects = 0 < effects
-Due Goal rows effects = effects ≡ 0
-Due Program rows effects = effects ≡ 0
-Due Row rows effects = (0 < rows) × (effects ≡ 0)
-Due End rows effects = effects ≡ 0
+Due Job due effects = Unit {0}
+Due Facts due effects = Unit {0}
+Due Init due effects = Unit {0}
+Due Formulas due effects = Unit {0}
+Due Formula due effects = 0 < due
+Due Moves due effects = Unit {0}
+Due Move due effects = (0 < due) × (effects ≡ 0)
+Due Effect due effects = 0 < effects
+Due Goal due effects = effects ≡ 0
+Due Program due effects = effects ≡ 0
+Due Row due effects = (0 < due) × (effects ≡ 0)
+Due End due effects = effects ≡ 0
 
-pub record Room (next : Line) (rows effects : ℕ) (c : Counts) : Type 0 where
+pub record Room (next : Line) (due effects : ℕ) (c : Counts) : Type 0 where
   pub facts : c .facts ≤ 12
-  pub formulas : c .formulas + ahead next rows effects .formulas ≤ 255
-  pub moves : c .moves + ahead next rows effects .moves ≤ 64
-  pub effects-room : c .effects + ahead next rows effects .effects ≤ 1024
-  pub program : c .program + ahead next rows effects .program ≤ 128
-  pub due : Due next rows effects
+  pub formulas : c .formulas + ahead next due effects .formulas ≤ 255
+  pub moves : c .moves + ahead next due effects .moves ≤ 64
+  pub effects-room : c .effects + ahead next due effects .effects ≤ 1024
+  pub program : c .program + ahead next due effects .program ≤ 128
+  pub owed : Due next due effects

@@ -4,7 +4,7 @@ ghost use Rattle.text.specs.Lines.{valueOf};
 ghost use Rattle.job.specs.Line.{formOf, rowNumbers};
 ghost use Rattle.job.specs.Store.{numbersOf};
 use job::line::Line;
-use job::line::Numbers;
+use job::line::LineNumbers;
 
 // How many numbers a line has.
 fn width(next: Line) -> usize
@@ -47,14 +47,14 @@ fn value(next: Line, line: &[u8]) -> &[u8]
 }
 
 // A line of the sort that comes next, as numbers.
-pub fn read_line(next: Line, line: &[u8]) -> Numbers
+pub fn read_line(next: Line, line: &[u8]) -> LineNumbers
     ensures { λ r. ⌜ numbersOf next r ≡ rowNumbers next (now (line .entry)) ⌝ }
 {
     let mut n = [0u16; 4];
     let w = width(next);
     let v = value(next, line);
     let formed = text::numbers::read_numbers(v, &mut n[0..w]);
-    Numbers {
+    LineNumbers {
         formed: formed,
         a: n[0],
         b: n[1],

@@ -6,13 +6,13 @@ ghost use lib.ListN.{length};
 ghost use Rattle.job.specs.ReadJob.{afterFormulas, afterMoves, afterRows, begun, taken, takenAt, ended, readJob};
 ghost use Rattle.job.specs.ReadJob.{isEnd as atEnd};
 ghost use Rattle.job.specs.Store.{allRows, listOf};
-ghost use Rattle.reader.specs.Reading.{readingOf, outcomeOf, refusalOf, withNumbers};
+ghost use Rattle.reader.specs.Reading.{readingOf, outcomeOf, readRefusal, withNumbers};
 ghost use Rattle.reader.specs.Room.{Room};
 use job::head::Counts;
 use job::head::Head;
 use job::head::Refusal;
 use job::line::Line;
-use job::line::Numbers;
+use job::line::LineNumbers;
 use job::rows::EFFECTS;
 use job::rows::MOVES;
 use job::rows::PROGRAM;
@@ -20,7 +20,7 @@ use job::rows::PROGRAM;
 // A text that is being read: the line that comes next, the rows of its sort and the effects of the last move that are due, and the head so far.
 pub struct State {
     pub next: Line,
-    pub rows: u16,
+    pub due: u16,
     pub effects: u16,
     pub head: Head,
 }
@@ -43,7 +43,7 @@ fn refused(number: u8, place: usize) -> Answer
 
 // The refusal that an answer is; number 0 where it is none.
 pub fn refusal(a: Answer) -> Refusal
-    ensures { λ r. ⌜ r ≡ refusalOf a ⌝ }
+    ensures { λ r. ⌜ r ≡ readRefusal a ⌝ }
 {
     match a {
         Answer::Read(_, _) => Refusal {
@@ -54,21 +54,17 @@ pub fn refusal(a: Answer) -> Refusal
     }
 }
 
-fn after_formulas(rows: u16) -> Line
-    ensures { λ r. ⌜ r ≡ afterFormulas rows ⌝ }
+fn after_formulas(due: u16) -> Line
+    ensures { λ r. ⌜ r ≡ afterFormulas due ⌝ }
 {
-    if rows == 0 {
-        Line::Moves
-    } else {
-        Line::Formula
-    }
+    if due == 0 { Line::Moves } else { Line::Formula }
 }
 
-fn after_moves(rows: u16, effects: u16) -> Line
-    ensures { λ r. ⌜ r ≡ afterMoves rows effects ⌝ }
+fn after_moves(due: u16, effects: u16) -> Line
+    ensures { λ r. ⌜ r ≡ afterMoves due effects ⌝ }
 {
     if effects == 0 {
-        if rows == 0 {
+        if due == 0 {
             return Line::Goal;
         }
         return Line::Move;
@@ -76,18 +72,18 @@ fn after_moves(rows: u16, effects: u16) -> Line
     Line::Effect
 }
 
-fn after_rows(rows: u16) -> Line
-    ensures { λ r. ⌜ r ≡ afterRows rows ⌝ }
+fn after_rows(due: u16) -> Line
+    ensures { λ r. ⌜ r ≡ afterRows due ⌝ }
 {
-    if rows == 0 { Line::End } else { Line::Row }
+    if due == 0 { Line::End } else { Line::Row }
 }
 
-fn on(next: Line, rows: u16, effects: u16, head: Head) -> State
-    ensures { λ r. ⌜ r ≡ record { next = next; rows = rows; effects = effects; head = head } ⌝ }
+fn on(next: Line, due: u16, effects: u16, head: Head) -> State
+    ensures { λ r. ⌜ r ≡ record { next = next; due = due; effects = effects; head = head } ⌝ }
 {
     State {
         next: next,
-        rows: rows,
+        due: due,
         effects: effects,
         head: head,
     }
@@ -116,104 +112,104 @@ fn with_counts(head: Head, c: Counts) -> Head
 }
 
 // Each line that is a row adds it to the table, behind the earlier rows of its sort.
-fn add_formula(s: State, row: Numbers, table: &mut [u16]) -> State
-    requires { ⌜ Room Line.Formula (s .rows) (s .effects) (s .head .counts) ⌝ }
-    requires { ⌜ length (now table) ≡ allRows * 4 ⌝ }
-    ensures { λ r. ⌜ readingOf r (now (table .exit)) ≡ takenAt Line.Formula (readingOf s (now (table .entry))) (listOf Line.Formula row) ⌝ }
+fn add_formula(s: State, row: LineNumbers, rows: &mut [u16]) -> State
+    requires { ⌜ Room Line.Formula (s .due) (s .effects) (s .head .counts) ⌝ }
+    requires { ⌜ length (now rows) ≡ allRows * 4 ⌝ }
+    ensures { λ r. ⌜ readingOf r (now (rows .exit)) ≡ takenAt Line.Formula (readingOf s (now (rows .entry))) (listOf Line.Formula row) ⌝ }
 {
     let head = s.head;
     let mut c = head.counts;
     let i = c.formulas;
-    job::rows::put_row(table, i, row.a, row.b, row.c, 0);
+    job::rows::put_row(rows, i, row.a, row.b, row.c, 0);
     c.formulas = i + 1;
     let h = with_counts(head, c);
-    let rows = s.rows - 1;
-    on(after_formulas(rows), rows, s.effects, h)
+    let due = s.due - 1;
+    on(after_formulas(due), due, s.effects, h)
 }
 
-fn add_move(s: State, row: Numbers, table: &mut [u16]) -> State
-    requires { ⌜ Room Line.Move (s .rows) (s .effects) (s .head .counts) ⌝ }
-    requires { ⌜ length (now table) ≡ allRows * 4 ⌝ }
-    ensures { λ r. ⌜ readingOf r (now (table .exit)) ≡ takenAt Line.Move (readingOf s (now (table .entry))) (listOf Line.Move row) ⌝ }
+fn add_move(s: State, row: LineNumbers, rows: &mut [u16]) -> State
+    requires { ⌜ Room Line.Move (s .due) (s .effects) (s .head .counts) ⌝ }
+    requires { ⌜ length (now rows) ≡ allRows * 4 ⌝ }
+    ensures { λ r. ⌜ readingOf r (now (rows .exit)) ≡ takenAt Line.Move (readingOf s (now (rows .entry))) (listOf Line.Move row) ⌝ }
 {
     let head = s.head;
     let mut c = head.counts;
     let i = c.moves;
-    job::rows::put_row(table, MOVES + i, row.a, row.b, row.c, c.effects);
+    job::rows::put_row(rows, MOVES + i, row.a, row.b, row.c, c.effects);
     c.moves = i + 1;
     let h = with_counts(head, c);
-    let rows = s.rows - 1;
-    on(after_moves(rows, row.c), rows, row.c, h)
+    let due = s.due - 1;
+    on(after_moves(due, row.c), due, row.c, h)
 }
 
-fn add_effect(s: State, row: Numbers, table: &mut [u16]) -> State
-    requires { ⌜ Room Line.Effect (s .rows) (s .effects) (s .head .counts) ⌝ }
-    requires { ⌜ length (now table) ≡ allRows * 4 ⌝ }
-    ensures { λ r. ⌜ readingOf r (now (table .exit)) ≡ takenAt Line.Effect (readingOf s (now (table .entry))) (listOf Line.Effect row) ⌝ }
+fn add_effect(s: State, row: LineNumbers, rows: &mut [u16]) -> State
+    requires { ⌜ Room Line.Effect (s .due) (s .effects) (s .head .counts) ⌝ }
+    requires { ⌜ length (now rows) ≡ allRows * 4 ⌝ }
+    ensures { λ r. ⌜ readingOf r (now (rows .exit)) ≡ takenAt Line.Effect (readingOf s (now (rows .entry))) (listOf Line.Effect row) ⌝ }
 {
     let head = s.head;
     let mut c = head.counts;
     let i = c.effects;
-    job::rows::put_row(table, EFFECTS + i, row.a, row.b, row.c, 0);
+    job::rows::put_row(rows, EFFECTS + i, row.a, row.b, row.c, 0);
     c.effects = i + 1;
     let h = with_counts(head, c);
     let effects = s.effects - 1;
-    on(after_moves(s.rows, effects), s.rows, effects, h)
+    on(after_moves(s.due, effects), s.due, effects, h)
 }
 
-fn add_row(s: State, row: Numbers, table: &mut [u16]) -> State
-    requires { ⌜ Room Line.Row (s .rows) (s .effects) (s .head .counts) ⌝ }
-    requires { ⌜ length (now table) ≡ allRows * 4 ⌝ }
-    ensures { λ r. ⌜ readingOf r (now (table .exit)) ≡ takenAt Line.Row (readingOf s (now (table .entry))) (listOf Line.Row row) ⌝ }
+fn add_row(s: State, row: LineNumbers, rows: &mut [u16]) -> State
+    requires { ⌜ Room Line.Row (s .due) (s .effects) (s .head .counts) ⌝ }
+    requires { ⌜ length (now rows) ≡ allRows * 4 ⌝ }
+    ensures { λ r. ⌜ readingOf r (now (rows .exit)) ≡ takenAt Line.Row (readingOf s (now (rows .entry))) (listOf Line.Row row) ⌝ }
 {
     let head = s.head;
     let mut c = head.counts;
     let i = c.program;
-    job::rows::put_row(table, PROGRAM + i, row.a, row.b, row.c, row.d);
+    job::rows::put_row(rows, PROGRAM + i, row.a, row.b, row.c, row.d);
     c.program = i + 1;
     let h = with_counts(head, c);
-    let rows = s.rows - 1;
-    on(after_rows(rows), rows, s.effects, h)
+    let due = s.due - 1;
+    on(after_rows(due), due, s.effects, h)
 }
 
 // The numbers of a right line taken in.
-fn take_line(s: State, row: Numbers, table: &mut [u16]) -> State
-    requires { ⌜ Room (s .next) (s .rows) (s .effects) (s .head .counts) ⌝ }
-    requires { ⌜ length (now table) ≡ allRows * 4 ⌝ }
-    ensures { λ r. ⌜ readingOf r (now (table .exit)) ≡ taken (readingOf s (now (table .entry))) (listOf (s .next) row) ⌝ }
+fn take_line(s: State, row: LineNumbers, rows: &mut [u16]) -> State
+    requires { ⌜ Room (s .next) (s .due) (s .effects) (s .head .counts) ⌝ }
+    requires { ⌜ length (now rows) ≡ allRows * 4 ⌝ }
+    ensures { λ r. ⌜ readingOf r (now (rows .exit)) ≡ taken (readingOf s (now (rows .entry))) (listOf (s .next) row) ⌝ }
 {
     let next = s.next;
     let h = s.head;
-    let rows = s.rows;
+    let due = s.due;
     let effects = s.effects;
     let facts = h.counts.facts;
     match next {
-        Line::Job => on(Line::Facts, rows, effects, h),
+        Line::Job => on(Line::Facts, due, effects, h),
         Line::Facts => on(
             Line::Init,
-            rows,
+            due,
             effects,
             with_scalars(h, row.a, h.init, h.goal),
         ),
         Line::Init => on(
             Line::Formulas,
-            rows,
+            due,
             effects,
             with_scalars(h, facts, row.a, h.goal),
         ),
         Line::Formulas => on(Line::Formula, row.a, effects, h),
-        Line::Formula => add_formula(s, row, table),
+        Line::Formula => add_formula(s, row, rows),
         Line::Moves => on(after_moves(row.a, 0), row.a, 0, h),
-        Line::Move => add_move(s, row, table),
-        Line::Effect => add_effect(s, row, table),
+        Line::Move => add_move(s, row, rows),
+        Line::Effect => add_effect(s, row, rows),
         Line::Goal => on(
             Line::Program,
-            rows,
+            due,
             effects,
             with_scalars(h, facts, h.init, row.a),
         ),
         Line::Program => on(Line::Row, row.a, effects, h),
-        Line::Row => add_row(s, row, table),
+        Line::Row => add_row(s, row, rows),
         Line::End => s,
     }
 }
@@ -269,9 +265,9 @@ fn finish(s: State, n: usize) -> Answer
 }
 
 // Reads a text as a job, whose rows go into the table.
-pub fn read_job(text: &[u8], table: &mut [u16]) -> Answer
-    requires { ⌜ length (now table) ≡ allRows * 4 ⌝ }
-    ensures { λ r. ⌜ outcomeOf r (now (table .exit)) ≡ readJob (now (text .entry)) ⌝ }
+pub fn read_job(text: &[u8], rows: &mut [u16]) -> Answer
+    requires { ⌜ length (now rows) ≡ allRows * 4 ⌝ }
+    ensures { λ r. ⌜ outcomeOf r (now (rows .exit)) ≡ readJob (now (text .entry)) ⌝ }
 {
     let mut s = start();
     let mut at = 0;
@@ -287,7 +283,7 @@ pub fn read_job(text: &[u8], table: &mut [u16]) -> Answer
         if reason != 0 {
             return refused(reason, n);
         }
-        s = take_line(s, row, table);
+        s = take_line(s, row, rows);
         at = e;
     }
     finish(s, n)

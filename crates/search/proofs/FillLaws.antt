@@ -23,19 +23,19 @@ use Rattle.validate.specs.Ready.{Ready}
 use Rattle.validate.proofs.ReadyLaws.{init-below, some-position}
 use Rattle.sweep.specs.Cells.{Cleared}
 use Rattle.sweep.specs.Queue.{Queue, SameKeys, Lowered, Chosen}
-use Rattle.sweep.specs.Successors.{Known}
-use Rattle.sweep.specs.Rows.{graphOf, Laid, Keyed, height}
-use Rattle.sweep.specs.Departures.{Sweep, Better}
-use Rattle.search.specs.Filling.{Search, Settled}
+use Rattle.sweep.specs.Successors.{Cached}
+use Rattle.sweep.specs.Scans.{graphOf, Indexed, Keyed, potential}
+use Rattle.sweep.specs.Relaxation.{Sweep, Better}
+use Rattle.search.specs.Filling.{Search, Exhausted}
 use Rattle.sweep.proofs.GraphLaws.{graph-closed, positions-few}
-use Rattle.sweep.proofs.HeightLaws.{order-keeps}
+use Rattle.sweep.proofs.PotentialLaws.{order-keeps}
 
 -- rows swept, perhaps none
 pub record Settling (G : Graph) (n : ℕ) (T queue T′ queue′ : List ℕ) : Type 0 where
   pub runs : Runs G T T′
   pub size : length queue′ ≡ length queue
   pub relaxed : Relaxed G (Keyed queue′) T′
-  pub less : height n T′ queue′ ≤ height n T queue
+  pub less : potential n T′ queue′ ≤ potential n T queue
 
 pub settling-start : {G : Graph} {n : ℕ} {T queue : List ℕ} → Relaxed G (Keyed queue) T → Settling G n T queue T queue
 settling-start R = record { runs = none; size = refl; relaxed = R; less = omega arith }
@@ -44,7 +44,7 @@ pub settling-more : {G : Graph} {n : ℕ} {T queue T′ queue′ T″ queue″ :
 settling-more x y = record { runs = runs-on (x .runs) (y .runs); size = y .size ∙ x .size; relaxed = y .relaxed; less = omega (arith, x .less, y .less) }
 
 -- no row has a key
-pub settling-end : {G : Graph} {m : ℕ} {T queue T′ queue′ : List ℕ} {r n : ℕ} → Settling G m T queue T′ queue′ → Chosen n queue′ r → r ≡ n → n ≡ G .domain .states → Settled G T T′
+pub settling-end : {G : Graph} {m : ℕ} {T queue T′ queue′ : List ℕ} {r n : ℕ} → Settling G m T queue T′ queue′ → Chosen n queue′ r → r ≡ n → n ≡ G .domain .states → Exhausted G T T′
 settling-end x chosen e is = record {
   runs = x .runs;
   relaxed = λ i s p t q c l d claim. x .relaxed i s p t q c l d (omega (arith, claim, chosen .rest e s (omega (arith, d .inside))));
@@ -60,18 +60,18 @@ better-named {n = n} {T′ = T′} {queue′} {queue″} few is x same = record 
   less = omega (arith, x .less, order-keeps n T′ queue′ queue″ few same);
 }
 
-module _ {head : Head} {rows list links : List ℕ} {positions : ℕ} {T queue : List ℕ} (x : Search head rows list links positions T queue) where
-  -- a state's row, where nothing is known yet but the formulas' values
-  pub search-sweep : {values : List Bool} {state : ℕ} {known : List ℕ} → Tells (jobOf head rows) state values → state < stateCount (head .counts .facts)
-      → Known (domainOf (jobOf head rows)) state known → Sweep head rows values positions state T queue known
-  search-sweep told inside known = record {
-    standing = record { size = x .ready .size; job = x .ready .job; told = told; inside = inside; successors = known };
+module _ {head : Head} {rows list adjacency : List ℕ} {positions : ℕ} {T queue : List ℕ} (x : Search head rows list adjacency positions T queue) where
+  -- a state's row, where nothing is cache yet but the formulas' values
+  pub search-sweep : {values : List Bool} {state : ℕ} {cache : List ℕ} → Tells (jobOf head rows) state values → state < stateCount (head .counts .facts)
+      → Cached (domainOf (jobOf head rows)) state cache → Sweep head rows values positions state T queue cache
+  search-sweep told inside cache = record {
+    standing = record { size = x .ready .size; job = x .ready .job; told = told; inside = inside; successors = cache };
     few = x .laid .few;
     room = x .room;
     keys = x .keys;
   }
 
-  pub search-on : {U queue′ : List ℕ} → length U ≡ length T → length queue′ ≡ length queue → Search head rows list links positions U queue′
+  pub search-on : {U queue′ : List ℕ} → length U ≡ length T → length queue′ ≡ length queue → Search head rows list adjacency positions U queue′
   search-on a b = record { ready = x .ready; laid = x .laid; room = omega (arith, x .room); keys = record { size = b ∙ x .keys .size; few = x .keys .few } }
 
 module _ {head : Head} {rows list : List ℕ} {positions : ℕ} (r : Ready head rows list positions) (T : List ℕ) (room : stateCount (head .counts .facts) * positions ≤ length T) where
@@ -103,8 +103,8 @@ module _ {head : Head} {rows list : List ℕ} {positions : ℕ} (r : Ready head 
               )
         ]
 
-    pub search-ready : {links queue : List ℕ} → Laid list links positions → Queue queue (stateCount (head .counts .facts))
-        → Search head rows list links positions (set T₁ (head .init * positions) 0) queue
+    pub search-ready : {adjacency queue : List ℕ} → Indexed list adjacency positions → Queue queue (stateCount (head .counts .facts))
+        → Search head rows list adjacency positions (set T₁ (head .init * positions) 0) queue
     search-ready laid keys = record {
       ready = r;
       laid = laid;
@@ -112,7 +112,7 @@ module _ {head : Head} {rows list : List ℕ} {positions : ℕ} (r : Ready head 
       keys = keys;
     }
 
-    pub settled-fills : {U : List ℕ} → stateCount (head .counts .facts) ≤ 4096 → Settled G (set T₁ (head .init * positions) 0) U
+    pub settled-fills : {U : List ℕ} → stateCount (head .counts .facts) ≤ 4096 → Exhausted G (set T₁ (head .init * positions) 0) U
         → Filled (domainOf (jobOf head rows)) (stepsOf (jobOf head rows)) positions T U
     settled-fills {U} few x =
         let e : head .init * positions ≡ cell positions (head .init) 0 = omega arith in

@@ -12,17 +12,17 @@ use Rattle.semantics.specs.Domain.{Domain}
 use Rattle.semantics.specs.Cells.{Graph, cell, Runs, Relaxed}
 use Rattle.validate.specs.Ready.{Ready}
 use Rattle.sweep.specs.Queue.{Queue}
-use Rattle.sweep.specs.Rows.{Laid}
+use Rattle.sweep.specs.Scans.{Indexed}
 
 -- a job, its steps, and room for its table and keys
-pub record Search (head : Head) (rows list links : List ℕ) (positions : ℕ) (T queue : List ℕ) : Type 0 where
+pub record Search (head : Head) (rows list adjacency : List ℕ) (positions : ℕ) (T queue : List ℕ) : Type 0 where
   pub ready : Ready head rows list positions
-  pub laid : Laid list links positions
+  pub laid : Indexed list adjacency positions
   pub room : stateCount (head .counts .facts) * positions ≤ length T
   pub keys : Queue queue (stateCount (head .counts .facts))
 
 -- nothing is left to follow
-pub record Settled (G : Graph) (T T′ : List ℕ) : Type 0 where
+pub record Exhausted (G : Graph) (T T′ : List ℕ) : Type 0 where
   pub runs : Runs G T T′
   pub relaxed : Relaxed G (λ i l s p z. z < unreached) T′
 

@@ -8,9 +8,9 @@ ghost use Rattle.semantics.specs.Cells.{Relaxed};
 ghost use Rattle.domain.specs.Domain.{domainOf};
 ghost use Rattle.compile.specs.CompiledJob.{stepsOf};
 ghost use Rattle.validate.specs.Ready.{Ready};
-ghost use Rattle.sweep.specs.Rows.{graphOf, Keyed};
-ghost use Rattle.sweep.specs.Departures.{Better};
-ghost use Rattle.search.specs.Filling.{Search, Settled};
+ghost use Rattle.sweep.specs.Scans.{graphOf, Keyed};
+ghost use Rattle.sweep.specs.Relaxation.{Better};
+ghost use Rattle.search.specs.Filling.{Search, Exhausted};
 use job::head::Head;
 use sweep::UNREACHED;
 use sweep::queue::QUEUE;
@@ -22,32 +22,32 @@ fn visit(
     head: Head,
     rows: &[u16],
     list: &[u16],
-    links: &[u16],
+    adjacency: &[u16],
     positions: usize,
     state: u16,
 )
-    requires { ⌜ Search head (now rows) (now list) (now links) positions (now costs) (now queue) ⌝ }
+    requires { ⌜ Search head (now rows) (now list) (now adjacency) positions (now costs) (now queue) ⌝ }
     requires { ⌜ (state < stateCount (head .counts .facts)) × (getD (now queue) state 0 < unreached) ⌝ }
     requires { ⌜ Relaxed (graphOf head (now rows) (now list) positions) (Keyed (now queue)) (now costs) ⌝ }
     ensures { λ _. ⌜ Better (graphOf head (now (rows .entry)) (now (list .entry)) positions) (stateCount (head .counts .facts)) (now (costs .entry)) (now (queue .entry)) (now (costs .exit)) (now (queue .exit)) ⌝ }
 {
     let values = domain::formulas::formula_values(head, rows, state);
-    let mut known = [0u16; 64];
+    let mut cache = [0u16; 64];
     let states = job::states::state_count(head.counts.facts) as usize;
     let s = state as usize;
-    sweep::row::sweep(
+    sweep::state::sweep(
         costs,
         queue,
-        &mut known,
+        &mut cache,
         head,
         rows,
         list,
-        links,
+        adjacency,
         &values,
         positions,
         state,
     );
-    sweep::queue::rename(queue, states, s);
+    sweep::queue::sift_up(queue, states, s);
 }
 
 // Visits rows until none has a key.
@@ -57,12 +57,12 @@ fn settle(
     head: Head,
     rows: &[u16],
     list: &[u16],
-    links: &[u16],
+    adjacency: &[u16],
     positions: usize,
 )
-    requires { ⌜ Search head (now rows) (now list) (now links) positions (now costs) (now queue) ⌝ }
+    requires { ⌜ Search head (now rows) (now list) (now adjacency) positions (now costs) (now queue) ⌝ }
     requires { ⌜ Relaxed (graphOf head (now rows) (now list) positions) (Keyed (now queue)) (now costs) ⌝ }
-    ensures { λ _. ⌜ Settled (graphOf head (now (rows .entry)) (now (list .entry)) positions) (now (costs .entry)) (now (costs .exit)) ⌝ }
+    ensures { λ _. ⌜ Exhausted (graphOf head (now (rows .entry)) (now (list .entry)) positions) (now (costs .entry)) (now (costs .exit)) ⌝ }
 {
     let states = job::states::state_count(head.counts.facts) as usize;
     loop {
@@ -70,7 +70,16 @@ fn settle(
         if s == states {
             return;
         }
-        visit(costs, queue, head, rows, list, links, positions, s as u16);
+        visit(
+            costs,
+            queue,
+            head,
+            rows,
+            list,
+            adjacency,
+            positions,
+            s as u16,
+        );
     }
 }
 
@@ -83,11 +92,11 @@ pub fn fill(costs: &mut [u32], head: Head, rows: &[u16], list: &[u16], positions
     let width = positions as usize;
     let states = job::states::state_count(head.counts.facts) as usize;
     let init = head.init as usize;
-    let links = validate::links::link_steps(list);
+    let adjacency = validate::adjacency::adjacency_of(list);
     let mut queue = [UNREACHED; QUEUE];
     sweep::queue::order(&mut queue, states);
     sweep::queue::lower(&mut queue, states, init, 0);
     sweep::cells::clear(costs, states * width);
     costs[init * width] = 0;
-    settle(costs, &mut queue, head, rows, list, &links, width);
+    settle(costs, &mut queue, head, rows, list, &adjacency, width);
 }

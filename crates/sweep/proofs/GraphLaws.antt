@@ -15,10 +15,10 @@ use Rattle.domain.specs.Cost.{mostCost}
 use Rattle.domain.specs.Domain.{domainOf}
 use Rattle.compile.specs.Program.{programOf}
 use Rattle.compile.proofs.FitLaws.{few-positions}
-use Rattle.validate.specs.Links.{stepsOn, Linked}
+use Rattle.validate.specs.Adjacency.{stepsOn, Adjacency}
 use Rattle.validate.specs.Ready.{Ready}
 use Rattle.validate.proofs.ReadyLaws.{job-bounded, ready-listed}
-use Rattle.sweep.specs.Rows.{graphOf, Laid}
+use Rattle.sweep.specs.Scans.{graphOf, Indexed}
 
 module _ {head : Head} {rows list : List ℕ} {positions : ℕ} (r : Ready head rows list positions) where
   inside : (i p q : ℕ) (l : Label) → StepAt (stepsOn list) i p l q → (p < positions) × (q < positions)
@@ -32,7 +32,7 @@ module _ {head : Head} {rows list : List ℕ} {positions : ℕ} (r : Ready head 
   pub positions-few : positions ≤ 256
   positions-few = omega (arith, r .positions, few-positions (jobOf head rows) (r .fit))
 
-  pub steps-laid : {links : List ℕ} → Linked list (length list / 4) links → Laid list links positions
+  pub steps-laid : {adjacency : List ℕ} → Adjacency list (length list / 4) adjacency → Indexed list adjacency positions
   steps-laid x = record {
     listed = ready-listed r;
     linked = x;

@@ -3,7 +3,7 @@ pub mod QueueLaws
 pub mod SuccessorLaws
 pub mod StepLaws
 pub mod GraphLaws
-pub mod HeightLaws
+pub mod PotentialLaws
 pub mod TargetLaws
-pub mod DepartureLaws
-pub mod RowLaws
+pub mod RelaxationLaws
+pub mod ScanLaws

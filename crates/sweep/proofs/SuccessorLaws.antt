@@ -21,9 +21,9 @@ use Rattle.domain.specs.declared.Successor.the-variants.{To, Inapplicable}
 use Rattle.domain.proofs.DomainLaws.{domain-bounded}
 use Rattle.domain.proofs.FactLaws.{count-within}
 use Rattle.domain.proofs.StoreLaws.{counts-within}
-use Rattle.sweep.specs.Successors.{Kept, nothing, inapplicable, successor, Known, noted}
+use Rattle.sweep.specs.Successors.{Kept, nothing, inapplicable, successor, Cached, noted}
 
-pub known-none : (D : Domain) (s : ℕ) → Known D s (replicate 64 0)
+pub known-none : (D : Domain) (s : ℕ) → Cached D s (replicate 64 0)
 known-none D s = record {
   size = length-replicate {A = ℕ} 64 0;
   kept = λ m h. subst (Kept D s m) (sym (getD-replicate {A = ℕ} 64 m 0 0 h)) nothing;
@@ -45,13 +45,13 @@ module _ {D : Domain} {s : ℕ} where
   noted-kept Inapplicable e = inapplicable (sym e)
 
   -- one more successor noted
-  pub known-more : (known : List ℕ) (m x : ℕ) (after : Successor) → m < 64 → Known D s known → successorIn after ≡ D .successor m s → x ≡ noted after
-      → Known D s (set known m x)
-  known-more known m x after h f is e = record {
-    size = length-set known m x ∙ f .size;
+  pub known-more : (cache : List ℕ) (m x : ℕ) (after : Successor) → m < 64 → Cached D s cache → successorIn after ≡ D .successor m s → x ≡ noted after
+      → Cached D s (set cache m x)
+  known-more cache m x after h f is e = record {
+    size = length-set cache m x ∙ f .size;
     kept = λ n l. elim (ℕ-discrete n m) [
-      | yes z ↦ rw (z, getD-set-same known m x 0 (omega (arith, f .size)), e) (noted-kept after is)
-      | no z ↦ rw (getD-set-other known m n x 0 z) (f .kept n l)
+      | yes z ↦ rw (z, getD-set-same cache m x 0 (omega (arith, f .size)), e) (noted-kept after is)
+      | no z ↦ rw (getD-set-other cache m n x 0 z) (f .kept n l)
     ];
   }
 

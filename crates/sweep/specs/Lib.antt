@@ -2,5 +2,5 @@ pub mod Cells
 pub mod Queue
 pub mod Successors
 pub mod Targets
-pub mod Rows
-pub mod Departures
+pub mod Scans
+pub mod Relaxation

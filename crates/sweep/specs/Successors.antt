@@ -13,9 +13,9 @@ pub data Kept (D : Domain) (s m : ℕ) : ℕ → Type 0 where
   inapplicable : D .successor m s ≡ none → Kept D s m 1
   successor : {t : ℕ} → D .successor m s ≡ some t → Kept D s m (t + 2)
 
-pub record Known (D : Domain) (s : ℕ) (known : List ℕ) : Type 0 where
-  pub size : length known ≡ 64
-  pub kept : (m : ℕ) → m < 64 → Kept D s m (getD known m 0)
+pub record Cached (D : Domain) (s : ℕ) (cache : List ℕ) : Type 0 where
+  pub size : length cache ≡ 64
+  pub kept : (m : ℕ) → m < 64 → Kept D s m (getD cache m 0)
 
 abbrev pub noted : Successor → ℕ
 noted (To t) = t + 2

@@ -13,15 +13,15 @@ use Rattle.semantics.specs.Domain.{Domain}
 use Rattle.semantics.specs.Path.{Does}
 use Rattle.semantics.specs.Plan.{cost}
 use Rattle.domain.specs.Domain.{domainOf, Tells}
-use Rattle.sweep.specs.Successors.{Known}
+use Rattle.sweep.specs.Successors.{Cached}
 
--- a state of a job, with what is worked out in it: the formulas' values and, as far as known, the moves' successors
-pub record Standing (head : Head) (rows : List ℕ) (values : List Bool) (state : ℕ) (known : List ℕ) : Type 0 where
+-- a state of a job, with what is worked out in it: the formulas' values and, as far as cache, the moves' successors
+pub record Standing (head : Head) (rows : List ℕ) (values : List Bool) (state : ℕ) (cache : List ℕ) : Type 0 where
   pub size : length rows ≡ allRows * 4
   pub job : WellFormed (jobOf head rows)
   pub told : Tells (jobOf head rows) state values
   pub inside : state < stateCount (head .counts .facts)
-  pub successors : Known (domainOf (jobOf head rows)) state known
+  pub successors : Cached (domainOf (jobOf head rows)) state cache
 
 -- under l, state w leads to t at cost c, and nowhere else
 pub record Leads (D : Domain) (l : Label) (w t c : ℕ) : Type 0 where

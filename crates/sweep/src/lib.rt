@@ -3,9 +3,9 @@
 // A state's row is its cells, one a position. Its key is above the entry of no cell whose steps have yet to be followed: it is taken back when the row is
 // swept, and comes down again with the cells that other rows' moves lower.
 pub mod cells;
-pub mod departures;
 pub mod queue;
-pub mod row;
+pub mod relaxation;
+pub mod state;
 pub mod steps;
 pub mod successors;
 pub mod targets;

@@ -44,7 +44,7 @@ fn lesser(queue: &[u32], a: u32, b: u32) -> u32
 }
 
 // Has the nodes above state s name states of least key again.
-pub fn rename(queue: &mut [u32], n: usize, s: usize)
+pub fn sift_up(queue: &mut [u32], n: usize, s: usize)
     requires { ⌜ Queue (now queue) n × (s < n) ⌝ }
     ensures { λ _. ⌜ SameKeys (now (queue .entry)) (now (queue .exit)) ⌝ }
 {
@@ -80,7 +80,7 @@ pub fn lower(queue: &mut [u32], n: usize, s: usize, x: u32)
 {
     if x < queue[s] {
         queue[s] = x;
-        rename(queue, n, s);
+        sift_up(queue, n, s);
     }
 }
 

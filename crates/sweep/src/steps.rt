@@ -24,11 +24,11 @@ pub fn step_at(list: &[u16], k: usize) -> Step
 }
 
 // The link to a step that number i has.
-pub fn link_at(links: &[u16], i: usize) -> usize
-    requires { ⌜ i < length (now links) ⌝ }
-    ensures { λ r. ⌜ r ≡ getD (now (links .entry)) i 0 ⌝ }
+pub fn link_at(adjacency: &[u16], i: usize) -> usize
+    requires { ⌜ i < length (now adjacency) ⌝ }
+    ensures { λ r. ⌜ r ≡ getD (now (adjacency .entry)) i 0 ⌝ }
 {
-    links[i] as usize
+    adjacency[i] as usize
 }
 
 // The number of the cell at position p of a state.

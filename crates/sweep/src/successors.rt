@@ -7,7 +7,7 @@ ghost use Rattle.job.specs.Store.{allRows, jobOf};
 ghost use Rattle.job.specs.WellFormed.{WellFormed};
 ghost use Rattle.domain.specs.Domain.{domainOf, Tells};
 ghost use Rattle.domain.specs.Successor.{successorIn};
-ghost use Rattle.sweep.specs.Successors.{Known, noted};
+ghost use Rattle.sweep.specs.Successors.{Cached, noted};
 use domain::Successor;
 use job::head::Head;
 
@@ -22,12 +22,12 @@ fn note(after: Successor) -> u16
     }
 }
 
-// The state after move m, by the formulas' values, as `known` has it, or worked out and then kept there.
+// The state after move m, by the formulas' values, as `cache` has it, or worked out and then kept there.
 pub fn successor(
     head: Head,
     rows: &[u16],
     values: &[bool],
-    known: &mut [u16],
+    cache: &mut [u16],
     m: u16,
     state: u16,
 ) -> Successor
@@ -35,11 +35,11 @@ pub fn successor(
     requires { ⌜ WellFormed (jobOf head (now rows)) ⌝ }
     requires { ⌜ Tells (jobOf head (now rows)) state (now values) ⌝ }
     requires { ⌜ (m < head .counts .moves) × (state < stateCount (head .counts .facts)) ⌝ }
-    requires { ⌜ Known (domainOf (jobOf head (now rows))) state (now known) ⌝ }
-    ensures { λ r. ⌜ (successorIn r ≡ domainOf (jobOf head (now (rows .entry))) .successor m state) × Known (domainOf (jobOf head (now (rows .entry)))) state (now (known .exit)) ⌝ }
+    requires { ⌜ Cached (domainOf (jobOf head (now rows))) state (now cache) ⌝ }
+    ensures { λ r. ⌜ (successorIn r ≡ domainOf (jobOf head (now (rows .entry))) .successor m state) × Cached (domainOf (jobOf head (now (rows .entry)))) state (now (cache .exit)) ⌝ }
 {
     let i = m as usize;
-    let x = known[i];
+    let x = cache[i];
     if 1 < x {
         return Successor::To(x - 2);
     }
@@ -47,6 +47,6 @@ pub fn successor(
         return Successor::Inapplicable;
     }
     let after = domain::moves::successor(head, rows, values, m, state);
-    known[i] = note(after);
+    cache[i] = note(after);
     after
 }

@@ -2,7 +2,7 @@
 ghost use Rattle.job.specs.Store.{jobOf};
 ghost use Rattle.domain.specs.Domain.{domainOf};
 ghost use Rattle.semantics.specs.CompilingTable.{labelIn};
-ghost use Rattle.sweep.specs.Successors.{Known};
+ghost use Rattle.sweep.specs.Successors.{Cached};
 ghost use Rattle.sweep.specs.Targets.{Standing, Reaches};
 use crate::steps::Step;
 use domain::Successor;
@@ -20,12 +20,12 @@ pub fn lead(
     head: Head,
     rows: &[u16],
     values: &[bool],
-    known: &mut [u16],
+    cache: &mut [u16],
     state: u16,
     step: Step,
 ) -> Target
-    requires { ⌜ Standing head (now rows) (now values) state (now known) ⌝ }
-    ensures { λ r. ⌜ Reaches (domainOf (jobOf head (now (rows .entry)))) (labelIn (step .kind) (step .arg)) state (r .made) (r .state) (r .cost) × Known (domainOf (jobOf head (now (rows .entry)))) state (now (known .exit)) ⌝ }
+    requires { ⌜ Standing head (now rows) (now values) state (now cache) ⌝ }
+    ensures { λ r. ⌜ Reaches (domainOf (jobOf head (now (rows .entry)))) (labelIn (step .kind) (step .arg)) state (r .made) (r .state) (r .cost) × Cached (domainOf (jobOf head (now (rows .entry)))) state (now (cache .exit)) ⌝ }
 {
     if step.kind < 3 {
         let on = validate::position_set::is_silent(values, step.kind, step.arg);
@@ -43,7 +43,7 @@ pub fn lead(
             cost: 0,
         };
     }
-    let after = crate::successors::successor(head, rows, values, known, m, state);
+    let after = crate::successors::successor(head, rows, values, cache, m, state);
     let Successor::To(next) = after else {
         return Target {
             made: false,

@@ -10,8 +10,8 @@ use lib.Dec.{leb}
 use lib.ListN.{length, getD, take, drop, set, length-set}
 use lib.Seq.{length-take-le, take-suc-set, take-all}
 use borrow.Author.Tests.{leb-true, lt-ltb, le-ltb, eq-eqb, ne-eqb}
-use Rattle.text.specs.Numbers.{Reading, start, done, broken, isDigit, firstDigit, moreDigits, numberEnd, byteRead, result, numbers}
-use Rattle.text.specs.Progress.{readingOf, countOf, Goes, Steps}
+use Rattle.text.specs.Numbers.{PartialValue, start, done, broken, isDigit, firstDigit, moreDigits, numberEnd, byteRead, result, numbers}
+use Rattle.text.specs.Progress.{partialOf, completeCount, Goes, Steps}
 use Rattle.text.specs.declared.numbers.Progress.{Progress}
 use Rattle.text.specs.declared.numbers.Progress.the-variants.{Start, Digits, Done, Broken}
 use Rattle.laws.proofs.Tests.{and-left, and-right}
@@ -48,22 +48,22 @@ module _ (out : List ℕ) (k n b : ℕ) (h : k ≤ length out) where
   other-end d e = rw (ne-eqb b 44 d, ne-eqb b 10 e)
 
 -- one byte more, by the case of the progress
-module _ (p r : Progress) (b : ℕ) (out : List ℕ) (h : countOf p ≤ length out) where
-  abbrev next : Reading
-  next = byteRead (length out) (readingOf p out) b
+module _ (p r : Progress) (b : ℕ) (out : List ℕ) (h : completeCount p ≤ length out) where
+  abbrev next : PartialValue
+  next = byteRead (length out) (partialOf p out) b
 
   pub step-start : (k : ℕ) → p ≡ Start k → Goes k r (λ l. firstDigit l b) → Steps r out next
   unfolding byteRead
   step-start k e g = record {
     reads = g .reads out ∙ rw e;
-    within = omega (arith, g .within, ap countOf e);
+    within = omega (arith, g .within, ap completeCount e);
   }
 
   pub step-digit : (k n : ℕ) → p ≡ Digits k n → isDigit b ≡ true → Goes k r (λ l. moreDigits l n b) → Steps r out next
   unfolding byteRead
   step-digit k n e d g = record {
     reads = g .reads out ∙ rw (e, d);
-    within = omega (arith, g .within, ap countOf e);
+    within = omega (arith, g .within, ap completeCount e);
   }
 
   pub step-end : (after : List ℕ) (k n : ℕ) → p ≡ Digits k n → isDigit b ≡ false → Steps r after (numberEnd (length out) (take k out) n b) → Steps r after next
@@ -72,24 +72,24 @@ module _ (p r : Progress) (b : ℕ) (out : List ℕ) (h : countOf p ≤ length o
 
 -- nothing follows the line feed, and a broken form stays so
 module _ (p : Progress) (b : ℕ) (out : List ℕ) where
-  pub step-done : p ≡ Done → Steps Broken out (byteRead (length out) (readingOf p out) b)
+  pub step-done : p ≡ Done → Steps Broken out (byteRead (length out) (partialOf p out) b)
   unfolding byteRead
   step-done e = record { reads = rw e; within = omega arith }
 
-  pub step-broken : p ≡ Broken → Steps Broken out (byteRead (length out) (readingOf p out) b)
+  pub step-broken : p ≡ Broken → Steps Broken out (byteRead (length out) (partialOf p out) b)
   unfolding byteRead
   step-broken e = record { reads = rw e; within = omega arith }
 
 -- a value from its start on is what it is from here on
 module _ (value : List ℕ) (want i : ℕ) (p : Progress) (out : List ℕ)
-    (inv : foldl (byteRead want) (start []) value ≡ foldl (byteRead want) (readingOf p out) (drop i value)) where
+    (inv : foldl (byteRead want) (start []) value ≡ foldl (byteRead want) (partialOf p out) (drop i value)) where
   pub read-again : (r : Progress) (after : List ℕ) → i < length value → length out ≡ want
-      → Steps r after (byteRead (length out) (readingOf p out) (getD value i 0))
-      → foldl (byteRead want) (start []) value ≡ foldl (byteRead want) (readingOf r after) (drop (i + 1) value)
+      → Steps r after (byteRead (length out) (partialOf p out) (getD value i 0))
+      → foldl (byteRead want) (start []) value ≡ foldl (byteRead want) (partialOf r after) (drop (i + 1) value)
   read-again r after h e s =
-      inv ∙ fed-at (byteRead want) (readingOf p out) value i 0 h
-      ∙ ap (λ q. foldl (byteRead want) q (drop (i + 1) value)) (sym (s .reads ∙ ap (λ n. byteRead n (readingOf p out) (getD value i 0)) e))
+      inv ∙ fed-at (byteRead want) (partialOf p out) value i 0 h
+      ∙ ap (λ q. foldl (byteRead want) q (drop (i + 1) value)) (sym (s .reads ∙ ap (λ n. byteRead n (partialOf p out) (getD value i 0)) e))
 
-  pub read-all : length value ≤ i → numbers want value ≡ result (readingOf p out)
+  pub read-all : length value ≤ i → numbers want value ≡ result (partialOf p out)
   unfolding numbers
-  read-all h = ap result (inv ∙ fed-past (byteRead want) (readingOf p out) value i h)
+  read-all h = ap result (inv ∙ fed-past (byteRead want) (partialOf p out) value i h)

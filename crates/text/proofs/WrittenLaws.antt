@@ -11,7 +11,7 @@ use lib.Dec.{eqb, ltb, leb}
 use lib.ListN.{length, length-append}
 use borrow.Author.Tests.{eqb-true, eqb-false, ltb-true, lt-ltb, le-ltb, le-leb, eq-eqb, ne-eqb}
 use Rattle.laws.proofs.Tests.{cond-has, and-both}
-use Rattle.text.specs.Numbers.{Reading, start, digits, done, broken, isDigit, firstDigit, moreDigits, numberEnd, byteRead, result, numbers}
+use Rattle.text.specs.Numbers.{PartialValue, start, digits, done, broken, isDigit, firstDigit, moreDigits, numberEnd, byteRead, result, numbers}
 use Rattle.text.specs.Written.{digitsWithin, decimal, written, Small, IsValue}
 use Rattle.text.proofs.NumberLaws.{digit-within}
 
@@ -64,7 +64,7 @@ small-more [] n s h = (h, tt)
 small-more (m ∷ l) n s h = (s .0, small-more l n (s .1) h)
 
 -- the bytes that lead to a reading, and that its numbers are small; nothing is said of a broken form
-abbrev Spelt : ℕ → Reading → List ℕ → Type 0
+abbrev Spelt : ℕ → PartialValue → List ℕ → Type 0
 Spelt want (start l) v = (v ≡ commas l) × Small l
 Spelt want (digits l n) v = (v ≡ commas l ++ decimal n) × Small l × (n ≤ 65535)
 Spelt want (done l) v = (v ≡ written l) × Small l × (length l ≡ want)
@@ -101,14 +101,14 @@ module _ (want : ℕ) (v : List ℕ) (b : ℕ) where
       (λ y. tt))
       (λ e. tt))
 
-  spelt-byte : (s : Reading) → Spelt want s v → Spelt want (byteRead want s b) v+
+  spelt-byte : (s : PartialValue) → Spelt want s v → Spelt want (byteRead want s b) v+
   unfolding byteRead
   spelt-byte (start l) s = spelt-first l s
   spelt-byte (digits l n) s = cond-has (λ q. Spelt want q v+) (isDigit b) (moreDigits l n b) (numberEnd want l n b) (λ e. spelt-more l n e s) (λ e. spelt-end l n s)
   spelt-byte (done l) s = tt
   spelt-byte broken s = tt
 
-spelt-all : (want : ℕ) (w v : List ℕ) (s : Reading) → Spelt want s v → Spelt want (foldl (byteRead want) s w) (v ++ w)
+spelt-all : (want : ℕ) (w v : List ℕ) (s : PartialValue) → Spelt want s v → Spelt want (foldl (byteRead want) s w) (v ++ w)
 spelt-all want [] v s h = rw (append-nil v) h
 spelt-all want (b ∷ w) v s h = rw (← append-assoc v (b ∷ []) w) (spelt-all want w (v ++ (b ∷ [])) (byteRead want s b) (spelt-byte want v b s h))
 
@@ -164,7 +164,7 @@ pub numbers-sound : (want : ℕ) (ns value : List ℕ) → numbers want value �
 unfolding numbers commas
 numbers-sound want ns value e = sound (foldl (byteRead want) (start []) value) (spelt-all want value [] (start []) (refl, tt)) e
   where
-    sound : (s : Reading) → Spelt want s value → result s ≡ some ns → IsValue want ns value
+    sound : (s : PartialValue) → Spelt want s value → result s ≡ some ns → IsValue want ns value
     sound (start l) h e = let z : _≡_ {A = ℕ} 0 1 = cc in absurd (omega arith)
     sound (digits l n) h e = let z : _≡_ {A = ℕ} 0 1 = cc in absurd (omega arith)
     sound (done l) h e = let f : l ≡ ns = cc in record { count = rw (← f) (h .2); small = rw (← f) (h .1); text = rw (← f) (h .0) }

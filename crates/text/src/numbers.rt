@@ -4,7 +4,7 @@ ghost use Prim.Native.Nat.{_≤_, _<_};
 ghost use mathlib.Core.Bool.{true};
 ghost use lib.ListN.{length, take};
 ghost use Rattle.text.specs.Numbers.{isDigit, firstDigit, moreDigits, numberEnd, byteRead, result, numbers};
-ghost use Rattle.text.specs.Progress.{readingOf, countOf, answered, Goes, Steps};
+ghost use Rattle.text.specs.Progress.{partialOf, completeCount, answered, Goes, Steps};
 
 // How far a value was read: before the first digit of number k; within number k, which is n so far; past the line feed; of wrong form.
 pub enum Progress {
@@ -73,8 +73,8 @@ fn number_end(k: usize, n: u16, b: u8, out: &mut [u16]) -> Progress
 
 // One byte more.
 fn read_byte(p: Progress, b: u8, out: &mut [u16]) -> Progress
-    requires { ⌜ countOf p ≤ length (now out) ⌝ }
-    ensures { λ r. ⌜ Steps r (now (out .exit)) (byteRead (length (now (out .entry))) (readingOf p (now (out .entry))) b) ⌝ }
+    requires { ⌜ completeCount p ≤ length (now out) ⌝ }
+    ensures { λ r. ⌜ Steps r (now (out .exit)) (byteRead (length (now (out .entry))) (partialOf p (now (out .entry))) b) ⌝ }
 {
     match p {
         Progress::Start(k) => first_digit(k, b),
@@ -90,7 +90,7 @@ fn read_byte(p: Progress, b: u8, out: &mut [u16]) -> Progress
 }
 
 fn is_done(p: Progress, out: &[u16]) -> bool
-    ensures { λ r. ⌜ answered r (now (out .entry)) ≡ result (readingOf p (now (out .entry))) ⌝ }
+    ensures { λ r. ⌜ answered r (now (out .entry)) ≡ result (partialOf p (now (out .entry))) ⌝ }
 {
     match p {
         Progress::Start(_) => false,

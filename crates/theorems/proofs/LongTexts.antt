@@ -55,12 +55,12 @@ total (k ∷ ks) = most k + total ks
 
 -- how many bytes may still come
 abbrev bytesAhead : Line → ℕ → ℕ → ℕ
-bytesAhead k rows effects =
-    let a = ahead k rows effects in
+bytesAhead k due effects =
+    let a = ahead k due effects in
     total (singles k) + (a .formulas * most Formula + (a .moves * most Move + (a .effects * most Effect + a .program * most Row)))
 
 abbrev aheadOf : Reading → ℕ
-aheadOf s = bytesAhead (s .next) (s .rows) (s .effects)
+aheadOf s = bytesAhead (s .next) (s .due) (s .effects)
 
 -- a reading that goes on after n lines
 record Place : Type 0 where
@@ -77,7 +77,7 @@ module _ (s : Reading) where
 
   -- after a line of the sort k fewer bytes may come, by its length
   abbrev Falls : Line → ℕ → ℕ → Line → Type 0
-  Falls k rows effects next = bytesAhead next rows effects + most k ≤ bytesAhead k (s .rows) (s .effects)
+  Falls k due effects next = bytesAhead next due effects + most k ≤ bytesAhead k (s .due) (s .effects)
 
   moves-fall : (k : Line) (m e : ℕ) → Falls k m e Effect → Falls k m e (afterMoves m e)
   unfolding bytes
@@ -87,20 +87,20 @@ module _ (s : Reading) where
   rows-fall k next m e f g = cond-has (Falls k m e) (eqb m 0) next k (λ z. f) (λ z. g)
 
   -- a line that comes next is among the bytes that may come, and after it, where it is right, they are fewer
-  falls-at : (r : List ℕ) (k : Line) → Room k (s .rows) (s .effects) c
-      → (most k ≤ bytesAhead k (s .rows) (s .effects)) × (Right k c r → Falls k (takenAt k s r .rows) (takenAt k s r .effects) (takenAt k s r .next))
+  falls-at : (r : List ℕ) (k : Line) → Room k (s .due) (s .effects) c
+      → (most k ≤ bytesAhead k (s .due) (s .effects)) × (Right k c r → Falls k (takenAt k s r .due) (takenAt k s r .effects) (takenAt k s r .next))
   unfolding bytes
   falls-at r Job h = omega arith
   falls-at r Facts h = omega arith
   falls-at r Init h = omega arith
   falls-at r Formulas h = (omega arith, λ x. omega (arith, count-within))
-  falls-at r Formula h = (omega arith, λ x. rows-fall Formula Moves (s .rows - 1) (s .effects) (omega arith) (omega arith))
+  falls-at r Formula h = (omega arith, λ x. rows-fall Formula Moves (s .due - 1) (s .effects) (omega arith) (omega arith))
   falls-at r Moves h = (omega arith, λ x. moves-fall Moves (getD r 0 0) 0 (omega (arith, leb-true)))
-  falls-at r Move h = (omega arith, λ x. moves-fall Move (s .rows - 1) (getD r 2 0) (omega (arith, leb-true)))
-  falls-at r Effect h = (omega arith, λ x. moves-fall Effect (s .rows) (s .effects - 1) (omega arith))
+  falls-at r Move h = (omega arith, λ x. moves-fall Move (s .due - 1) (getD r 2 0) (omega (arith, leb-true)))
+  falls-at r Effect h = (omega arith, λ x. moves-fall Effect (s .due) (s .effects - 1) (omega arith))
   falls-at r Goal h = omega arith
   falls-at r Program h = (omega arith, λ x. omega (arith, count-within))
-  falls-at r Row h = (omega arith, λ x. rows-fall Row End (s .rows - 1) (s .effects) (omega arith) (omega arith))
+  falls-at r Row h = (omega arith, λ x. rows-fall Row End (s .due - 1) (s .effects) (omega arith) (omega arith))
   falls-at r End h = (omega arith, λ x. never (x .form))
 
   abbrev reason : Option (List ℕ) → ℕ

@@ -16,7 +16,7 @@ use Rattle.semantics.specs.Judgement.{Judgement}
 use Rattle.semantics.specs.PositionSets.{spread, close, silentIn, isMove, anyMark, firstSet, nextSet, onward, finished, verdictFrom, verdictBy, verdict}
 use Rattle.semantics.specs.StepVerdict.{arrives, made}
 use Rattle.semantics.proofs.CheckLaws.{verdict-judged}
-use Rattle.domain.specs.World.{fact, putFact, value, values, afterEffect, applied, affected}
+use Rattle.domain.specs.State.{fact, putFact, value, values, afterEffect, applied, affected}
 use Rattle.domain.specs.Cost.{classCost}
 use Rattle.domain.specs.Domain.{holdsIn, successorOf, costIn, domainOf}
 use Rattle.compile.specs.Program.{build, programs, programOf}

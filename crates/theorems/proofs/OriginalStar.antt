@@ -20,7 +20,7 @@ use Rattle.semantics.specs.Path.{Path, here, there, idles, passes, moves-on}
 use Rattle.semantics.specs.Verdict.{Entries, Judged, unfinished, byRuns, is-unfinished}
 use Rattle.semantics.specs.PositionSets.{spread, close, silentIn, isMove, anyMark, firstSet, nextSet, onward, finished, verdictFrom, verdictBy, verdict}
 use Rattle.semantics.proofs.CheckLaws.{verdict-judged}
-use Rattle.domain.specs.World.{fact, putFact, value, values, afterEffect, applied, affected}
+use Rattle.domain.specs.State.{fact, putFact, value, values, afterEffect, applied, affected}
 use Rattle.domain.specs.Cost.{classCost}
 use Rattle.domain.specs.Domain.{holdsIn, successorOf, costIn, domainOf}
 use Rattle.compile.specs.Program.{build, programs, programOf}

@@ -13,7 +13,7 @@ use borrow.Author.Tests.{eqb-false}
 use Rattle.laws.proofs.Tests.{never, cond-has}
 use Rattle.job.specs.Job.{Job, countsOf}
 use Rattle.job.specs.Line.{rowNumbers}
-use Rattle.job.specs.Fault.{Checks, checks, firstReason, fault}
+use Rattle.job.specs.Fault.{Criteria, criteria, firstReason, fault}
 use Rattle.job.specs.ReadJob as R
 use Rattle.job.specs.ReadJob.{Reading, Outcome, isEnd, ended, readFrom, begun, readJob}
 use Rattle.job.specs.declared.head.Counts.{Counts}
@@ -38,7 +38,7 @@ RefusedBy P c = (number place : ℕ) → c ≡ refused number place → P number
 abbrev Ranged : Outcome → Type 0
 Ranged o = (number place : ℕ) → o ≡ R.refused number place → UpTo 3 number
 
-first-small : (k : Checks) → firstReason k ≤ 3
+first-small : (k : Criteria) → firstReason k ≤ 3
 first-small k =
     cond-has (λ n. n ≤ 3) (k .form) _ 1
     (λ e. cond-has (λ n. n ≤ 3) (k .range) _ 2 (λ f. cond-has (λ n. n ≤ 3) (k .fields) 0 3 (λ g. omega arith) (λ g. omega arith)) (λ f. omega arith)) (λ e. omega arith)
@@ -46,7 +46,7 @@ first-small k =
 fault-small : (next : Line) (c : Counts) (o : Option (List ℕ)) → fault next c o ≤ 3
 unfolding fault
 fault-small next c none = omega arith
-fault-small next c (some r) = first-small (checks next c r)
+fault-small next c (some r) = first-small (criteria next c r)
 
 reading-refuses : (n : ℕ) (s : Reading) (ls : List (List ℕ)) → Ranged (readFrom n s ls)
 unfolding readFrom ended

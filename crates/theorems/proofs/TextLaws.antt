@@ -20,7 +20,7 @@ use Rattle.job.specs.Job as J
 use Rattle.job.specs.Job.{countsOf}
 use Rattle.job.specs.Line.{formOf, rowNumbers}
 use Rattle.job.specs.Fields.{bound, within, Within, formulaFields, rowFields}
-use Rattle.job.specs.Fault.{checks, fault}
+use Rattle.job.specs.Fault.{criteria, fault}
 use Rattle.job.specs.ReadJob.{Reading, on, read, ended, begun, readFrom, readJob, taken, takenAt, afterFormulas, afterMoves, afterRows}
 use Rattle.theorems.specs.JobText.{lineOf, formulaLine, moveLine, effectLine, rowLine, moveLines, programLines, jobLines, jobText}
 use Rattle.job.specs.WellFormed.{WellFormed, MoveFits, EffectFits, Tiled, beforeFormula, beforeRow}
@@ -63,12 +63,12 @@ kind-text c table t b kind x xs w =
     (true-within c (getD table kind []) (x ∷ xs) w, (omega (arith, kind-listed c table kind x xs w), small-within c b (getD table kind []) (x ∷ xs) w))
 
 -- a line of right numbers is taken in
-module _ (k : Line) (rows effects : ℕ) (j : J.Job) (n a : ℕ) (ns : List ℕ) (rest : List (List ℕ)) where
+module _ (k : Line) (due effects : ℕ) (j : J.Job) (n a : ℕ) (ns : List ℕ) (rest : List (List ℕ)) where
   abbrev s : Reading
-  s = on k rows effects j
+  s = on k due effects j
 
   text-line : length (a ∷ ns) ≡ formOf k .width → Small (a ∷ ns)
-      → checks k (countsOf j) (a ∷ ns) .form ≡ true → checks k (countsOf j) (a ∷ ns) .range ≡ true → checks k (countsOf j) (a ∷ ns) .fields ≡ true
+      → criteria k (countsOf j) (a ∷ ns) .form ≡ true → criteria k (countsOf j) (a ∷ ns) .range ≡ true → criteria k (countsOf j) (a ∷ ns) .fields ≡ true
       → readFrom n s (lineOf k (a ∷ ns) ∷ rest) ≡ readFrom (n + 1) (takenAt k s (a ∷ ns)) rest
   unfolding rowNumbers taken fault
   text-line w t x y z =
@@ -133,7 +133,7 @@ made sc fs ms es ps = record { scalars = sc; formulas = fs; moves = ms; effects 
 row-line : (k : Line) (after : ℕ → Line) (m n : ℕ) (j j′ : J.Job) (a : ℕ) (ns : List ℕ) (rest : List (List ℕ)) → after (suc m) ≡ k
     → takenAt k (on k (suc m) 0 j) (a ∷ ns) ≡ on (after (suc m - 1)) (suc m - 1) 0 j′
     → length (a ∷ ns) ≡ formOf k .width → Small (a ∷ ns)
-    → checks k (countsOf j) (a ∷ ns) .form ≡ true → checks k (countsOf j) (a ∷ ns) .range ≡ true → checks k (countsOf j) (a ∷ ns) .fields ≡ true
+    → criteria k (countsOf j) (a ∷ ns) .form ≡ true → criteria k (countsOf j) (a ∷ ns) .range ≡ true → criteria k (countsOf j) (a ∷ ns) .fields ≡ true
     → readFrom n (on (after (suc m)) (suc m) 0 j) (lineOf k (a ∷ ns) ∷ rest) ≡ readFrom (n + 1) (on (after m) m 0 j′) rest
 row-line k after m n j j′ a ns rest d t w q x y z =
     let e : suc m - 1 ≡ m = omega arith in
@@ -163,15 +163,15 @@ row-step m n j r rest q =
 abbrev EffectText : J.Job → J.Effect → Type 0
 EffectText j e = EffectFits (j .scalars .facts) (length (j .formulas)) e × Small (e .cond ∷ e .fact ∷ e .value ∷ [])
 
-effect-step : (rows m n : ℕ) (j : J.Job) (e : J.Effect) (rest : List (List ℕ)) → EffectText j e
-    → readFrom n (on (afterMoves rows (suc m)) rows (suc m) j) (effectLine e ∷ rest) ≡ readFrom (n + 1) (on (afterMoves rows m) rows m (J.addEffect j e)) rest
-effect-step rows m n j e rest q =
+effect-step : (due m n : ℕ) (j : J.Job) (e : J.Effect) (rest : List (List ℕ)) → EffectText j e
+    → readFrom n (on (afterMoves due (suc m)) due (suc m) j) (effectLine e ∷ rest) ≡ readFrom (n + 1) (on (afterMoves due m) due m (J.addEffect j e)) rest
+effect-step due m n j e rest q =
     let d : suc m - 1 ≡ m = omega arith in
     rw (ne-eqb (suc m) 0 (λ z. omega arith))
-    (text-line Effect rows (suc m) j n (e .cond) (e .fact ∷ e .value ∷ []) rest refl (q .1) refl refl
+    (text-line Effect due (suc m) j n (e .cond) (e .fact ∷ e .value ∷ []) rest refl (q .1) refl refl
     (and-both (ltb (e .cond) (length (j .formulas))) _ (lt-ltb _ _ (q .0 .cond))
     (and-both (ltb (e .fact) (j .scalars .facts)) (leb (e .value) 1) (lt-ltb _ _ (q .0 .fact)) (le-leb _ _ (q .0 .value))))
-    ∙ ap (λ k. readFrom (n + 1) (on (afterMoves rows k) rows k (J.addEffect j e)) rest) d)
+    ∙ ap (λ k. readFrom (n + 1) (on (afterMoves due k) due k (J.addEffect j e)) rest) d)
 
 -- each element of a list, without its place
 abbrev All : {A : Type 0} → (A → Type 0) → List A → Type 0
@@ -197,15 +197,15 @@ all-drop P (suc c) [] h = tt
 all-drop P (suc c) (a ∷ l) h = all-drop P c l (h .1)
 
 -- a move
-move-step : (rows n : ℕ) (j : J.Job) (m : J.Move) (rest : List (List ℕ)) → length (j .formulas) ≤ 255 → MoveFits (length (j .formulas)) m → m .first ≡ length (j .effects)
-    → readFrom n (on Move (suc rows) 0 j) (moveLine m ∷ rest) ≡ readFrom (n + 1) (on (afterMoves rows (m .count)) rows (m .count) (J.addMove j m)) rest
-move-step rows n j m rest h f e =
-    let d : suc rows - 1 ≡ rows = omega arith in
-    text-line Move (suc rows) 0 j n (m .pre) (m .class ∷ m .count ∷ []) rest refl
+move-step : (due n : ℕ) (j : J.Job) (m : J.Move) (rest : List (List ℕ)) → length (j .formulas) ≤ 255 → MoveFits (length (j .formulas)) m → m .first ≡ length (j .effects)
+    → readFrom n (on Move (suc due) 0 j) (moveLine m ∷ rest) ≡ readFrom (n + 1) (on (afterMoves due (m .count)) due (m .count) (J.addMove j m)) rest
+move-step due n j m rest h f e =
+    let d : suc due - 1 ≡ due = omega arith in
+    text-line Move (suc due) 0 j n (m .pre) (m .class ∷ m .count ∷ []) rest refl
     (omega (arith, f .pre), (omega (arith, f .class), (omega (arith, f .count), tt))) refl (le-leb _ _ (f .count))
     (and-both (ltb (m .pre) (length (j .formulas))) (leb (m .class) 15) (lt-ltb _ _ (f .pre)) (le-leb _ _ (f .class)))
     ∙ ap (λ k. readFrom (n + 1) (on (afterMoves k (m .count)) k (m .count) (J.addMove j (J.moveOf (length (j .effects)) (m .pre ∷ m .class ∷ m .count ∷ [])))) rest) d
-    ∙ ap (λ i. readFrom (n + 1) (on (afterMoves rows (m .count)) rows (m .count) (J.addMove j (J.moveOf i (m .pre ∷ m .class ∷ m .count ∷ [])))) rest) (sym e)
+    ∙ ap (λ i. readFrom (n + 1) (on (afterMoves due (m .count)) due (m .count) (J.addMove j (J.moveOf i (m .pre ∷ m .class ∷ m .count ∷ [])))) rest) (sym e)
 
 -- the moves, each with its effects
 module _ (sc : J.Scalars) (fs : List J.Formula) (few : length fs ≤ 255) where

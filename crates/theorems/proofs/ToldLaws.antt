@@ -106,18 +106,18 @@ module _ (j : J.Job) where
   rowPart n = goalPart ++ (lineOf Program (n ∷ []) ∷ map rowLine (j .program))
 
 abbrev toldAt : Line → ℕ → J.Job → List (List ℕ)
-toldAt Job rows j = []
-toldAt Facts rows j = lineOf Job (1 ∷ []) ∷ []
-toldAt Init rows j = lineOf Job (1 ∷ []) ∷ lineOf Facts (j .scalars .facts ∷ []) ∷ []
-toldAt Formulas rows j = scalarLines j
-toldAt Formula rows j = formulaPart j (length (j .formulas) + rows)
-toldAt Moves rows j = formulaPart j (length (j .formulas))
-toldAt Move rows j = movePart j (length (j .moves) + rows)
-toldAt Effect rows j = movePart j (length (j .moves) + rows)
-toldAt Goal rows j = movePart j (length (j .moves))
-toldAt Program rows j = goalPart j
-toldAt Row rows j = rowPart j (length (j .program) + rows)
-toldAt End rows j = rowPart j (length (j .program))
+toldAt Job due j = []
+toldAt Facts due j = lineOf Job (1 ∷ []) ∷ []
+toldAt Init due j = lineOf Job (1 ∷ []) ∷ lineOf Facts (j .scalars .facts ∷ []) ∷ []
+toldAt Formulas due j = scalarLines j
+toldAt Formula due j = formulaPart j (length (j .formulas) + due)
+toldAt Moves due j = formulaPart j (length (j .formulas))
+toldAt Move due j = movePart j (length (j .moves) + due)
+toldAt Effect due j = movePart j (length (j .moves) + due)
+toldAt Goal due j = movePart j (length (j .moves))
+toldAt Program due j = goalPart j
+toldAt Row due j = rowPart j (length (j .program) + due)
+toldAt End due j = rowPart j (length (j .program))
 
 one : (r : List ℕ) → length r ≡ 1 → r ≡ getD r 0 0 ∷ []
 one [] e = absurd (omega arith)
@@ -173,9 +173,9 @@ module _ (s : Reading) (r : List ℕ) where
 
   -- the numbers of the line as the sort of line has them
   abbrev Told : Line → Type 0
-  Told k = toldAt (takenAt k s r .next) (takenAt k s r .rows) (takenAt k s r .job) ≡ toldAt k (s .rows) j ++ (lineOf k r ∷ [])
+  Told k = toldAt (takenAt k s r .next) (takenAt k s r .due) (takenAt k s r .job) ≡ toldAt k (s .due) j ++ (lineOf k r ∷ [])
 
-  told-at : (k : Line) → length r ≡ formOf k .width → Right k c r → Room k (s .rows) (s .effects) c → Fits (s .effects) j → Open (j .moves) (s .effects) → Told k
+  told-at : (k : Line) → length r ≡ formOf k .width → Right k c r → Room k (s .due) (s .effects) c → Fits (s .effects) j → Open (j .moves) (s .effects) → Told k
   told-at Job w x h f o = let e : getD r 0 0 ≡ 1 = eqb-true _ _ (x .form) in rw (one r w, e)
   told-at Facts w x h f o = ap (λ q. lineOf Job (1 ∷ []) ∷ lineOf Facts q ∷ []) (sym (one r w))
   told-at Init w x h f o = ap (λ q. lineOf Job (1 ∷ []) ∷ lineOf Facts (j .scalars .facts ∷ []) ∷ lineOf Init q ∷ []) (sym (one r w))
@@ -186,10 +186,10 @@ module _ (s : Reading) (r : List ℕ) where
   told-at Formula w x h f o =
       let j′ : J.Job = J.addFormula j (formulaOf r) in
       let l = length-append (j .formulas) (formulaOf r ∷ []) in
-      let told : (n : ℕ) → n ≡ length (j .formulas) + s .rows → formulaPart j′ n ≡ formulaPart j (length (j .formulas) + s .rows) ++ (lineOf Formula r ∷ []) =
-      λ n e. rw e (formula-told j (length (j .formulas) + s .rows) (formulaOf r) ∙ ap (λ q. formulaPart j (length (j .formulas) + s .rows) ++ (lineOf Formula q ∷ [])) (sym (three r w))) in
-      cond-has (λ k. toldAt k (s .rows - 1) j′ ≡ formulaPart j (length (j .formulas) + s .rows) ++ (lineOf Formula r ∷ [])) (eqb (s .rows - 1) 0) Moves Formula
-      (λ z. told _ (omega (arith, l, h .due, eqb-true (s .rows - 1) 0 z))) (λ z. told _ (omega (arith, l, h .due)))
+      let told : (n : ℕ) → n ≡ length (j .formulas) + s .due → formulaPart j′ n ≡ formulaPart j (length (j .formulas) + s .due) ++ (lineOf Formula r ∷ []) =
+      λ n e. rw e (formula-told j (length (j .formulas) + s .due) (formulaOf r) ∙ ap (λ q. formulaPart j (length (j .formulas) + s .due) ++ (lineOf Formula q ∷ [])) (sym (three r w))) in
+      cond-has (λ k. toldAt k (s .due - 1) j′ ≡ formulaPart j (length (j .formulas) + s .due) ++ (lineOf Formula r ∷ [])) (eqb (s .due - 1) 0) Moves Formula
+      (λ z. told _ (omega (arith, l, h .owed, eqb-true (s .due - 1) 0 z))) (λ z. told _ (omega (arith, l, h .owed)))
   told-at Moves w x h f o =
       let a : length (j .moves) ≡ 0 = omega (arith, h .moves) in
       let told : (n : ℕ) → n ≡ getD r 0 0 → movePart j n ≡ formulaPart j (length (j .formulas)) ++ (lineOf Moves r ∷ []) =
@@ -199,20 +199,20 @@ module _ (s : Reading) (r : List ℕ) where
   told-at Move w x h f o =
       let m : J.Move = moveOf (length (j .effects)) r in
       let l = length-append (j .moves) (m ∷ []) in
-      let d : length (j .effects) + s .effects ≡ 0 + length (j .effects) = omega (arith, h .due .1) in
-      let told : (n : ℕ) → n ≡ length (j .moves) + s .rows → movePart (J.addMove j m) n ≡ movePart j (length (j .moves) + s .rows) ++ (lineOf Move r ∷ []) =
-      λ n e. rw e (move-told j (length (j .moves) + s .rows) (j .moves ++ (m ∷ [])) (j .effects) (moveLine m) (moves-more (j .moves) (j .effects) m 0 (subst (Tiled 0 (j .moves)) d (f .tiled)))
-      ∙ ap (λ q. movePart j (length (j .moves) + s .rows) ++ (lineOf Move q ∷ [])) (sym (three r w))) in
-      moves-has (λ k. toldAt k (s .rows - 1) (J.addMove j m) ≡ movePart j (length (j .moves) + s .rows) ++ (lineOf Move r ∷ [])) (s .rows - 1) (getD r 2 0)
-      (λ y z. told _ (omega (arith, l, h .due .0))) (λ y z. told _ (omega (arith, l, h .due .0))) (λ z. told _ (omega (arith, l, h .due .0)))
+      let d : length (j .effects) + s .effects ≡ 0 + length (j .effects) = omega (arith, h .owed .1) in
+      let told : (n : ℕ) → n ≡ length (j .moves) + s .due → movePart (J.addMove j m) n ≡ movePart j (length (j .moves) + s .due) ++ (lineOf Move r ∷ []) =
+      λ n e. rw e (move-told j (length (j .moves) + s .due) (j .moves ++ (m ∷ [])) (j .effects) (moveLine m) (moves-more (j .moves) (j .effects) m 0 (subst (Tiled 0 (j .moves)) d (f .tiled)))
+      ∙ ap (λ q. movePart j (length (j .moves) + s .due) ++ (lineOf Move q ∷ [])) (sym (three r w))) in
+      moves-has (λ k. toldAt k (s .due - 1) (J.addMove j m) ≡ movePart j (length (j .moves) + s .due) ++ (lineOf Move r ∷ [])) (s .due - 1) (getD r 2 0)
+      (λ y z. told _ (omega (arith, l, h .owed .0))) (λ y z. told _ (omega (arith, l, h .owed .0))) (λ z. told _ (omega (arith, l, h .owed .0)))
   told-at Effect w x h f o =
       let e′ : J.Effect = effectOf r in
       let d : length (j .effects) + s .effects ≡ 0 + length (j .effects) + s .effects = omega arith in
-      let told : (n : ℕ) → n ≡ length (j .moves) + s .rows → movePart (J.addEffect j e′) n ≡ movePart j (length (j .moves) + s .rows) ++ (lineOf Effect r ∷ []) =
-      λ n e. rw e (move-told j (length (j .moves) + s .rows) (j .moves) (j .effects ++ (e′ ∷ [])) (effectLine e′)
-      (effects-more (j .moves) (j .effects) e′ 0 (s .effects) (subst (Tiled 0 (j .moves)) d (f .tiled)) (h .due) o)
-      ∙ ap (λ q. movePart j (length (j .moves) + s .rows) ++ (lineOf Effect q ∷ [])) (sym (three r w))) in
-      moves-has (λ k. toldAt k (s .rows) (J.addEffect j e′) ≡ movePart j (length (j .moves) + s .rows) ++ (lineOf Effect r ∷ [])) (s .rows) (s .effects - 1)
+      let told : (n : ℕ) → n ≡ length (j .moves) + s .due → movePart (J.addEffect j e′) n ≡ movePart j (length (j .moves) + s .due) ++ (lineOf Effect r ∷ []) =
+      λ n e. rw e (move-told j (length (j .moves) + s .due) (j .moves) (j .effects ++ (e′ ∷ [])) (effectLine e′)
+      (effects-more (j .moves) (j .effects) e′ 0 (s .effects) (subst (Tiled 0 (j .moves)) d (f .tiled)) (h .owed) o)
+      ∙ ap (λ q. movePart j (length (j .moves) + s .due) ++ (lineOf Effect q ∷ [])) (sym (three r w))) in
+      moves-has (λ k. toldAt k (s .due) (J.addEffect j e′) ≡ movePart j (length (j .moves) + s .due) ++ (lineOf Effect r ∷ [])) (s .due) (s .effects - 1)
       (λ y z. told _ (omega arith)) (λ y z. told _ (omega arith)) (λ z. told _ (omega arith))
   told-at Goal w x h f o = ap (λ q. movePart j (length (j .moves)) ++ (lineOf Goal q ∷ [])) (sym (one r w))
   told-at Program w x h f o =
@@ -222,13 +222,13 @@ module _ (s : Reading) (r : List ℕ) where
   told-at Row w x h f o =
       let j′ : J.Job = J.addRow j (rowOf r) in
       let l = length-append (j .program) (rowOf r ∷ []) in
-      let told : (n : ℕ) → n ≡ length (j .program) + s .rows → rowPart j′ n ≡ rowPart j (length (j .program) + s .rows) ++ (lineOf Row r ∷ []) =
-      λ n e. rw e (row-told j (length (j .program) + s .rows) (rowOf r) ∙ ap (λ q. rowPart j (length (j .program) + s .rows) ++ (lineOf Row q ∷ [])) (sym (four r w))) in
-      cond-has (λ k. toldAt k (s .rows - 1) j′ ≡ rowPart j (length (j .program) + s .rows) ++ (lineOf Row r ∷ [])) (eqb (s .rows - 1) 0) End Row
-      (λ z. told _ (omega (arith, l, h .due .0, eqb-true (s .rows - 1) 0 z))) (λ z. told _ (omega (arith, l, h .due .0)))
+      let told : (n : ℕ) → n ≡ length (j .program) + s .due → rowPart j′ n ≡ rowPart j (length (j .program) + s .due) ++ (lineOf Row r ∷ []) =
+      λ n e. rw e (row-told j (length (j .program) + s .due) (rowOf r) ∙ ap (λ q. rowPart j (length (j .program) + s .due) ++ (lineOf Row q ∷ [])) (sym (four r w))) in
+      cond-has (λ k. toldAt k (s .due - 1) j′ ≡ rowPart j (length (j .program) + s .due) ++ (lineOf Row r ∷ [])) (eqb (s .due - 1) 0) End Row
+      (λ z. told _ (omega (arith, l, h .owed .0, eqb-true (s .due - 1) 0 z))) (λ z. told _ (omega (arith, l, h .owed .0)))
   told-at End w x h f o = never (x .form)
 
-  open-at : (k : Line) → Right k c r → Room k (s .rows) (s .effects) c → Open (j .moves) (s .effects) → Open (takenAt k s r .job .moves) (takenAt k s r .effects)
+  open-at : (k : Line) → Right k c r → Room k (s .due) (s .effects) c → Open (j .moves) (s .effects) → Open (takenAt k s r .job .moves) (takenAt k s r .effects)
   open-at Job x h o = o
   open-at Facts x h o = o
   open-at Init x h o = o
@@ -249,7 +249,7 @@ row-text k line r e = let v = line-sound (formOf k .key) (formOf k .width) r lin
 
 -- the lines that were read, and that the effects due are the last move's
 abbrev toldOf : Reading → List (List ℕ)
-toldOf s = toldAt (s .next) (s .rows) (s .job)
+toldOf s = toldAt (s .next) (s .due) (s .job)
 
 told-all : (j : J.Job) → rowPart j (length (j .program)) ≡ jobLines j
 told-all j = simp append-assoc
@@ -260,7 +260,7 @@ told-end s q e f = rw (e, f) (told-all q)
 told-taken : (s : Reading) (r : List ℕ) → length r ≡ formOf (s .next) .width → Right (s .next) (countsOf (s .job)) r → Kept s → Open (s .job .moves) (s .effects)
     → toldOf (taken s r) ≡ toldOf s ++ (lineOf (s .next) r ∷ [])
 unfolding taken
-told-taken s r w x k o = told-at s r (s .next) w x (k .room) (k .rows) o
+told-taken s r w x k o = told-at s r (s .next) w x (k .room) (k .fit) o
 
 open-taken : (s : Reading) (r : List ℕ) → Right (s .next) (countsOf (s .job)) r → Kept s → Open (s .job .moves) (s .effects) → Open (taken s r .job .moves) (taken s r .effects)
 unfolding taken

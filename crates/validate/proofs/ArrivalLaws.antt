@@ -12,7 +12,7 @@ use Rattle.semantics.specs.Domain.{Domain}
 use Rattle.semantics.specs.CompilingTable.{labelIn}
 use Rattle.semantics.specs.StepVerdict.{Arrival, arrives, made}
 use Rattle.semantics.proofs.FlatLaws.{made-in}
-use Rattle.validate.specs.Links.{stepsOn}
+use Rattle.validate.specs.Adjacency.{stepsOn}
 
 -- a move
 module _ (D : Domain) (m s q : ℕ) where

@@ -13,9 +13,9 @@ use Rattle.semantics.specs.CompilingTable.{labelIn}
 use Rattle.semantics.specs.Path.{StepAt}
 use Rattle.semantics.specs.PositionSets.{Marked}
 use Rattle.semantics.proofs.FlatLaws.{steps-at, steps-only}
-use Rattle.validate.specs.Links.{stepsOn, Listed, lastFrom}
+use Rattle.validate.specs.Adjacency.{stepsOn, Listed, lastFrom}
 use Rattle.validate.specs.Positions.{Counted, Marking, Source, old, new, Followed}
-use Rattle.validate.proofs.LinkLaws.{last-within, last-starts, last-alone}
+use Rattle.validate.proofs.AdjacencyLaws.{last-within, last-starts, last-alone}
 use Rattle.validate.proofs.MarkLaws.{marking-keeps, marking-adds, marking-from}
 
 module _ (on : Label → Bool) (list : List ℕ) (p : ℕ) (S : List Bool) (ms : List ℕ) (n : ℕ) where
@@ -47,7 +47,7 @@ module _ (on : Label → Bool) (list : List ℕ) (p : ℕ) (S : List Bool) (ms :
 
   module _ (sound : Listed list) {T U : List Bool} {ns us : List ℕ} {m u h g : ℕ} (x : Following T ns m h) (k : ℕ) (e : h ≡ suc k) {w : Bool}
       (asked : w ≡ on (labelIn (getD list (k * 4) 0) (getD list (k * 4 + 3) 0))) (y : Marking w (getD list (k * 4 + 2) 0) T ns m U us u)
-      (links : g ≡ lastFrom list (getD list (k * 4 + 1) 0) k) where
+      (adjacency : g ≡ lastFrom list (getD list (k * 4 + 1) 0) k) where
     abbrev f : Followed on (stepsOn list) p h S ms n T ns m
     f = x .followed
 
@@ -58,7 +58,7 @@ module _ (on : Label → Bool) (list : List ℕ) (p : ℕ) (S : List Bool) (ms :
     at-p = x .starts k e
 
     is-last : g ≡ lastFrom list p k
-    is-last = links ∙ ap (λ r. lastFrom list r k) at-p
+    is-last = adjacency ∙ ap (λ r. lastFrom list r k) at-p
 
     step : StepAt (stepsOn list) k p (labelIn (getD list (k * 4) 0) (getD list (k * 4 + 3) 0)) (getD list (k * 4 + 2) 0)
     step = subst (λ r. StepAt (stepsOn list) k r (labelIn (getD list (k * 4) 0) (getD list (k * 4 + 3) 0)) (getD list (k * 4 + 2) 0)) at-p (steps-at N list k below)

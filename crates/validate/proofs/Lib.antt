@@ -1,4 +1,4 @@
-pub mod LinkLaws
+pub mod AdjacencyLaws
 pub mod WantedLaws
 pub mod MarkLaws
 pub mod FollowLaws

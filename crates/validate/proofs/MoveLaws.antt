@@ -23,7 +23,7 @@ use Rattle.domain.specs.declared.Successor.{Successor}
 use Rattle.domain.specs.declared.Successor.the-variants.{To, Inapplicable}
 use Rattle.compile.specs.Program.{programOf}
 use Rattle.compile.specs.CompiledJob.{stepsOf}
-use Rattle.validate.specs.Links.{stepsOn}
+use Rattle.validate.specs.Adjacency.{stepsOn}
 use Rattle.validate.specs.Positions.{CountedSet, silentBy}
 use Rattle.validate.specs.Ready.{Ready}
 use Rattle.validate.specs.declared.position_set.PositionSet.{PositionSet}
@@ -31,25 +31,25 @@ use Rattle.validate.proofs.VerdictLaws.{Left, left-start, left-blocked,
 use Rattle.validate.proofs.WantedLaws.{silent-told}
 use Rattle.validate.proofs.ReadyLaws.{init-below, job-bounded, last-final}
 
-module _ (head : Head) (table list : List ℕ) (plan : List ℕ) where
+module _ (head : Head) (rows list : List ℕ) (plan : List ℕ) where
   abbrev j : Job
-  j = jobOf head table
+  j = jobOf head rows
 
   abbrev D : Domain
-  D = domainOf (jobOf head table)
+  D = domainOf (jobOf head rows)
 
   abbrev L : List Step
-  L = stepsOf (jobOf head table)
+  L = stepsOf (jobOf head rows)
 
   abbrev e : ℕ
-  e = end (programOf (jobOf head table)) 0
+  e = end (programOf (jobOf head rows)) 0
 
   -- after i moves at this cost, in this state, where its formulas have these values and the program may be at the positions of S
   pub record Checking (state : ℕ) (values : List Bool) (S : PositionSet) (cost i : ℕ) : Type 0 where
-    pub left : Left plan (verdictBy 256 (domainOf (jobOf head table)) (programOf (jobOf head table)) plan)
-        (verdictFrom (domainOf (jobOf head table)) (stepsOf (jobOf head table)) (end (programOf (jobOf head table)) 0) state (S .marks)) cost i
+    pub left : Left plan (verdictBy 256 (domainOf (jobOf head rows)) (programOf (jobOf head rows)) plan)
+        (verdictFrom (domainOf (jobOf head rows)) (stepsOf (jobOf head rows)) (end (programOf (jobOf head rows)) 0) state (S .marks)) cost i
     pub counted : CountedSet S
-    pub told : Tells (jobOf head table) state values
+    pub told : Tells (jobOf head rows) state values
     pub room : length values ≡ 255
     pub state-below : state < stateCount (head .counts .facts)
     pub cost-within : cost ≤ 3600 * i
@@ -58,7 +58,7 @@ module _ (head : Head) (table list : List ℕ) (plan : List ℕ) where
   abbrev whole : Verdict
   whole = verdictBy 256 D (programOf j) plan
 
-  module _ {positions : ℕ} (r : Ready head table list positions) where
+  module _ {positions : ℕ} (r : Ready head rows list positions) where
     -- marks as the code closes them
     closed-is : (values T : List Bool) {U : List Bool} (s : ℕ) → Tells j s values → U ≡ closure (silentBy values) (stepsOn list) T → U ≡ closure (silentIn D s) L T
     closed-is values T s told f = f ∙ rw (silent-told D s values told, r .steps)

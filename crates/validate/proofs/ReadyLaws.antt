@@ -19,23 +19,23 @@ use Rattle.domain.specs.Domain.{domainOf}
 use Rattle.domain.proofs.DomainLaws.{domain-bounded}
 use Rattle.compile.specs.Program.{programOf}
 use Rattle.compile.proofs.FitLaws.{few-positions, few-steps}
-use Rattle.validate.specs.Links.{Listed}
+use Rattle.validate.specs.Adjacency.{Listed}
 use Rattle.validate.specs.Ready.{Ready}
 
-module _ {head : Head} {table list : List ℕ} {positions : ℕ} (r : Ready head table list positions) where
+module _ {head : Head} {rows list : List ℕ} {positions : ℕ} (r : Ready head rows list positions) where
   abbrev j : Job
-  j = jobOf head table
+  j = jobOf head rows
 
   pub init-below : head .init < stateCount (head .counts .facts)
   init-below = r .job .init
 
-  pub job-bounded : Bounded (domainOf (jobOf head table)) mostCost
+  pub job-bounded : Bounded (domainOf (jobOf head rows)) mostCost
   job-bounded = domain-bounded j (r .job)
 
-  pub last-final : positions - 1 ≡ end (programOf (jobOf head table)) 0
+  pub last-final : positions - 1 ≡ end (programOf (jobOf head rows)) 0
   last-final = omega (arith, r .positions)
 
-  pub final-below : end (programOf (jobOf head table)) 0 < 256
+  pub final-below : end (programOf (jobOf head rows)) 0 < 256
   final-below = omega (arith, few-positions j (r .fit))
 
   pub some-position : 1 ≤ positions

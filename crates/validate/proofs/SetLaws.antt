@@ -14,7 +14,7 @@ use Rattle.semantics.specs.PositionSets.{Marked, closure, spread}
 use Rattle.semantics.proofs.Marks.{none-marked, count-le, count-none, marked-below}
 use Rattle.semantics.proofs.SetLaws.{close-keeps, closure-closed, closure-is, spread-is}
 use Rattle.semantics.proofs.FlatLaws.{steps-only}
-use Rattle.validate.specs.Links.{stepsOn, Listed}
+use Rattle.validate.specs.Adjacency.{stepsOn, Listed}
 use Rattle.validate.specs.Positions.{Counted, old, new, Followed}
 use Rattle.validate.proofs.MarkLaws.{mark-new}
 

@@ -1,4 +1,4 @@
-pub mod Links
+pub mod Adjacency
 pub mod Positions
 pub mod Verdict
 pub mod Ready

@@ -8,18 +8,18 @@ use Rattle.job.specs.Store.{allRows, jobOf}
 use Rattle.job.specs.WellFormed.{WellFormed}
 use Rattle.job.specs.declared.head.Head.{Head}
 use Rattle.compile.specs.CompiledJob.{stepsOf, positionCount, fits}
-use Rattle.validate.specs.Links.{stepsOn}
+use Rattle.validate.specs.Adjacency.{stepsOn}
 
 -- a job whose compiled job is within the limits, as head and table, and a list that holds its steps and nothing else
-pub record Ready (head : Head) (table list : List ℕ) (count : ℕ) : Type 0 where
-  pub size : length table ≡ allRows * 4
-  pub job : WellFormed (jobOf head table)
-  pub fit : fits (jobOf head table) ≡ true
-  pub whole : length list ≡ length (stepsOf (jobOf head table)) * 4
-  pub steps : stepsOn list ≡ stepsOf (jobOf head table)
-  pub positions : count ≡ positionCount (jobOf head table)
+pub record Ready (head : Head) (rows list : List ℕ) (count : ℕ) : Type 0 where
+  pub size : length rows ≡ allRows * 4
+  pub job : WellFormed (jobOf head rows)
+  pub fit : fits (jobOf head rows) ≡ true
+  pub whole : length list ≡ length (stepsOf (jobOf head rows)) * 4
+  pub steps : stepsOn list ≡ stepsOf (jobOf head rows)
+  pub positions : count ≡ positionCount (jobOf head rows)
 
 -- at most 4,000 entries, each below the bound
-pub record Entries (plan : List ℕ) (bound : ℕ) : Type 0 where
+pub record EntriesBelow (plan : List ℕ) (bound : ℕ) : Type 0 where
   pub few : length plan ≤ 4000
   pub below : (i : ℕ) → i < length plan → getD plan i 0 < bound

@@ -4,7 +4,7 @@ ghost use Rattle.semantics.specs.PositionSets.{verdictBy};
 ghost use Rattle.job.specs.Store.{jobOf};
 ghost use Rattle.domain.specs.Domain.{domainOf};
 ghost use Rattle.compile.specs.Program.{programOf};
-ghost use Rattle.validate.specs.Ready.{Ready, Entries};
+ghost use Rattle.validate.specs.Ready.{Ready, EntriesBelow};
 ghost use Rattle.validate.specs.Verdict.{verdictOf};
 use crate::position_set::PositionSet;
 use crate::verdict::Verdict;
@@ -12,29 +12,30 @@ use domain::Successor;
 use job::head::Head;
 
 // The list holds the steps of the job's program, whose last position is the final one.
-pub fn check_moves(head: Head, table: &[u16], list: &[u16], positions: u16, plan: &[u16]) -> Verdict
-    requires { ⌜ Ready head (now table) (now list) positions ⌝ }
-    requires { ⌜ Entries (now plan) (head .counts .moves) ⌝ }
-    ensures { λ r. ⌜ verdictOf r ≡ verdictBy 256 (domainOf (jobOf head (now (table .entry)))) (programOf (jobOf head (now (table .entry)))) (now (plan .entry)) ⌝ }
+pub fn check_moves(head: Head, rows: &[u16], list: &[u16], positions: u16, plan: &[u16]) -> Verdict
+    requires { ⌜ Ready head (now rows) (now list) positions ⌝ }
+    requires { ⌜ EntriesBelow (now plan) (head .counts .moves) ⌝ }
+    ensures { λ r. ⌜ verdictOf r ≡ verdictBy 256 (domainOf (jobOf head (now (rows .entry)))) (programOf (jobOf head (now (rows .entry)))) (now (plan .entry)) ⌝ }
 {
-    let links = crate::links::link_steps(list);
+    let adjacency = crate::adjacency::adjacency_of(list);
     let mut state = head.init;
-    let mut values = domain::formulas::formula_values(head, table, state);
-    let mut set = PositionSet::start().closed(list, &links, &values);
+    let mut values = domain::formulas::formula_values(head, rows, state);
+    let mut set = PositionSet::start().closed(list, &adjacency, &values);
     let mut cost: u32 = 0;
     let mut i: usize = 0;
     while i < plan.len() {
         let m = plan[i];
-        let after = domain::moves::successor(head, table, &values, m, state);
+        let after = domain::moves::successor(head, rows, &values, m, state);
         let Successor::To(next) = after else {
             return Verdict::Blocked(i);
         };
-        values = domain::formulas::formula_values(head, table, next);
-        set = set.advanced(list, &links, m).closed(list, &links, &values);
+        values = domain::formulas::formula_values(head, rows, next);
+        set = set.advanced(list, &adjacency, m)
+            .closed(list, &adjacency, &values);
         if set.count == 0 {
             return Verdict::Blocked(i);
         }
-        cost += domain::moves::cost(head, table, m, state) as u32;
+        cost += domain::moves::cost(head, rows, m, state) as u32;
         state = next;
         i += 1;
     }

@@ -5,7 +5,7 @@ ghost use Prim.Native.Nat.{_/_, _<_};
 ghost use lib.ListN.{length, getD, set, replicate};
 ghost use Rattle.semantics.specs.CompilingTable.{labelIn};
 ghost use Rattle.semantics.specs.PositionSets.{closure, spread, isMove};
-ghost use Rattle.validate.specs.Links.{stepsOn, Listed, Linked};
+ghost use Rattle.validate.specs.Adjacency.{stepsOn, Listed, Adjacency};
 ghost use Rattle.validate.specs.Positions.{Counted, CountedSet, silentBy, wantedBy, Followed, Marking};
 
 // One mark a position, how many are set, and the marked positions in the order in which they were marked.
@@ -70,23 +70,23 @@ fn follow(
     members: &mut [u16],
     count: usize,
     list: &[u16],
-    links: &[u16],
+    adjacency: &[u16],
     values: &[bool],
     wanted: Wanted,
     p: u16,
 ) -> usize
     requires { ⌜ Counted (now marks) (now members) count × (p < 256) ⌝ }
-    requires { ⌜ Listed (now list) × Linked (now list) (length (now list) / 4) (now links) ⌝ }
+    requires { ⌜ Listed (now list) × Adjacency (now list) (length (now list) / 4) (now adjacency) ⌝ }
     ensures { λ r. ⌜ Followed (wantedBy wanted (now (values .entry))) (stepsOn (now (list .entry))) p 0 (now (marks .entry)) (now (members .entry)) count (now (marks .exit)) (now (members .exit)) r ⌝ }
 {
     let mut n = count;
     let i = p as usize;
-    let mut h = links[i] as usize;
+    let mut h = adjacency[i] as usize;
     while 0 < h {
         let k = h - 1;
         let on = is_wanted(wanted, values, list[k * 4], list[k * 4 + 3]);
         n = mark(marks, members, n, on, list[k * 4 + 2]);
-        h = links[256 + k] as usize;
+        h = adjacency[256 + k] as usize;
     }
     n
 }
@@ -106,9 +106,9 @@ impl PositionSet {
     }
 
     // All that silent steps lead to, by the formulas' values.
-    pub fn closed(self, list: &[u16], links: &[u16], values: &[bool]) -> PositionSet
+    pub fn closed(self, list: &[u16], adjacency: &[u16], values: &[bool]) -> PositionSet
         requires { ⌜ CountedSet self ⌝ }
-        requires { ⌜ Listed (now list) × Linked (now list) (length (now list) / 4) (now links) ⌝ }
+        requires { ⌜ Listed (now list) × Adjacency (now list) (length (now list) / 4) (now adjacency) ⌝ }
         ensures { λ r. ⌜ (r .marks ≡ closure (silentBy (now (values .entry))) (stepsOn (now (list .entry))) (self .marks)) × CountedSet r ⌝ }
     {
         let mut marks = self.marks;
@@ -122,7 +122,7 @@ impl PositionSet {
                 &mut members,
                 count,
                 list,
-                links,
+                adjacency,
                 values,
                 Wanted::Silent,
                 p,
@@ -137,9 +137,9 @@ impl PositionSet {
     }
 
     // The positions that move m leads to, before any silent step.
-    pub fn advanced(self, list: &[u16], links: &[u16], m: u16) -> PositionSet
+    pub fn advanced(self, list: &[u16], adjacency: &[u16], m: u16) -> PositionSet
         requires { ⌜ CountedSet self ⌝ }
-        requires { ⌜ Listed (now list) × Linked (now list) (length (now list) / 4) (now links) ⌝ }
+        requires { ⌜ Listed (now list) × Adjacency (now list) (length (now list) / 4) (now adjacency) ⌝ }
         ensures { λ r. ⌜ (r .marks ≡ spread (isMove m) (stepsOn (now (list .entry))) (self .marks) (replicate 256 false)) × CountedSet r ⌝ }
     {
         let old = self.members;
@@ -157,7 +157,7 @@ impl PositionSet {
                 &mut members,
                 count,
                 list,
-                links,
+                adjacency,
                 &values,
                 Wanted::Move(m),
                 p,

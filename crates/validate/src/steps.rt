@@ -12,8 +12,8 @@ ghost use Rattle.semantics.specs.Label.{make};
 ghost use Rattle.semantics.specs.StepVerdict.{arrives, made, stays, stepVerdict};
 ghost use Rattle.domain.specs.Domain.{domainOf, Tells};
 ghost use Rattle.compile.specs.CompiledJob.{stepsOf};
-ghost use Rattle.validate.specs.Links.{stepsOn};
-ghost use Rattle.validate.specs.Ready.{Ready, Entries};
+ghost use Rattle.validate.specs.Adjacency.{stepsOn};
+ghost use Rattle.validate.specs.Ready.{Ready, EntriesBelow};
 ghost use Rattle.validate.specs.Arrival.{arrivalOf};
 ghost use Rattle.validate.specs.Verdict.{verdictOf};
 use crate::verdict::Verdict;
@@ -37,61 +37,61 @@ fn silently(on: bool, state: u16, to: u16) -> Arrival
 }
 
 // A step that makes move m; past the last move there is none.
-fn by_move(head: Head, table: &[u16], values: &[bool], state: u16, to: u16, m: u16) -> Arrival
-    requires { ⌜ length (now table) ≡ allRows * 4 ⌝ }
-    requires { ⌜ WellFormed (jobOf head (now table)) ⌝ }
-    requires { ⌜ Tells (jobOf head (now table)) state (now values) ⌝ }
+fn by_move(head: Head, rows: &[u16], values: &[bool], state: u16, to: u16, m: u16) -> Arrival
+    requires { ⌜ length (now rows) ≡ allRows * 4 ⌝ }
+    requires { ⌜ WellFormed (jobOf head (now rows)) ⌝ }
+    requires { ⌜ Tells (jobOf head (now rows)) state (now values) ⌝ }
     requires { ⌜ state < stateCount (head .counts .facts) ⌝ }
-    ensures { λ r. ⌜ arrivalOf r ≡ arrives (domainOf (jobOf head (now (table .entry)))) (make m) state to ⌝ }
+    ensures { λ r. ⌜ arrivalOf r ≡ arrives (domainOf (jobOf head (now (rows .entry)))) (make m) state to ⌝ }
 {
     if m < head.counts.moves {
-        let after = domain::moves::successor(head, table, values, m, state);
+        let after = domain::moves::successor(head, rows, values, m, state);
         let Successor::To(next) = after else {
             return Arrival::Nowhere;
         };
-        let cost = domain::moves::cost(head, table, m, state);
+        let cost = domain::moves::cost(head, rows, m, state);
         return Arrival::At(next, to, cost);
     }
     Arrival::Nowhere
 }
 
 // A step of a kind, made in a state.
-fn arrive(head: Head, table: &[u16], state: u16, kind: u16, to: u16, arg: u16) -> Arrival
-    requires { ⌜ length (now table) ≡ allRows * 4 ⌝ }
-    requires { ⌜ WellFormed (jobOf head (now table)) ⌝ }
+fn arrive(head: Head, rows: &[u16], state: u16, kind: u16, to: u16, arg: u16) -> Arrival
+    requires { ⌜ length (now rows) ≡ allRows * 4 ⌝ }
+    requires { ⌜ WellFormed (jobOf head (now rows)) ⌝ }
     requires { ⌜ state < stateCount (head .counts .facts) ⌝ }
-    ensures { λ r. ⌜ arrivalOf r ≡ arrives (domainOf (jobOf head (now (table .entry)))) (labelIn kind arg) state to ⌝ }
+    ensures { λ r. ⌜ arrivalOf r ≡ arrives (domainOf (jobOf head (now (rows .entry)))) (labelIn kind arg) state to ⌝ }
 {
-    let values = domain::formulas::formula_values(head, table, state);
+    let values = domain::formulas::formula_values(head, rows, state);
     let holds = domain::formulas::value_at(&values, arg);
     match kind {
         0 => silently(true, state, to),
         1 => silently(holds, state, to),
         2 => silently(!holds, state, to),
-        _ => by_move(head, table, &values, state, to, arg),
+        _ => by_move(head, rows, &values, state, to, arg),
     }
 }
 
 // Step i of the list, made at a position in a state.
-fn make_step(head: Head, table: &[u16], list: &[u16], i: u16, state: u16, position: u16) -> Arrival
-    requires { ⌜ length (now table) ≡ allRows * 4 ⌝ }
-    requires { ⌜ WellFormed (jobOf head (now table)) ⌝ }
+fn make_step(head: Head, rows: &[u16], list: &[u16], i: u16, state: u16, position: u16) -> Arrival
+    requires { ⌜ length (now rows) ≡ allRows * 4 ⌝ }
+    requires { ⌜ WellFormed (jobOf head (now rows)) ⌝ }
     requires { ⌜ (i * 4 + 4 ≤ length (now list)) × (state < stateCount (head .counts .facts)) ⌝ }
-    ensures { λ r. ⌜ arrivalOf r ≡ made (domainOf (jobOf head (now (table .entry)))) (stepsOn (now (list .entry))) i state position ⌝ }
+    ensures { λ r. ⌜ arrivalOf r ≡ made (domainOf (jobOf head (now (rows .entry)))) (stepsOn (now (list .entry))) i state position ⌝ }
 {
     let at = (i as usize) * 4;
     let from = list[at + 1];
     if from == position {
-        return arrive(head, table, state, list[at], list[at + 2], list[at + 3]);
+        return arrive(head, rows, state, list[at], list[at + 2], list[at + 3]);
     }
     Arrival::Nowhere
 }
 
 // The list holds the steps of the job's program, whose last position is the final one. Each entry is that one step.
-pub fn check_steps(head: Head, table: &[u16], list: &[u16], positions: u16, plan: &[u16]) -> Verdict
-    requires { ⌜ Ready head (now table) (now list) positions ⌝ }
-    requires { ⌜ Entries (now plan) (length (stepsOf (jobOf head (now table)))) ⌝ }
-    ensures { λ r. ⌜ verdictOf r ≡ stepVerdict (domainOf (jobOf head (now (table .entry)))) (stepsOf (jobOf head (now (table .entry)))) (positions - 1) (now (plan .entry)) ⌝ }
+pub fn check_steps(head: Head, rows: &[u16], list: &[u16], positions: u16, plan: &[u16]) -> Verdict
+    requires { ⌜ Ready head (now rows) (now list) positions ⌝ }
+    requires { ⌜ EntriesBelow (now plan) (length (stepsOf (jobOf head (now rows)))) ⌝ }
+    ensures { λ r. ⌜ verdictOf r ≡ stepVerdict (domainOf (jobOf head (now (rows .entry)))) (stepsOf (jobOf head (now (rows .entry)))) (positions - 1) (now (plan .entry)) ⌝ }
 {
     let mut state = head.init;
     let mut position: u16 = 0;
@@ -99,7 +99,7 @@ pub fn check_steps(head: Head, table: &[u16], list: &[u16], positions: u16, plan
     let mut i: usize = 0;
     while i < plan.len() {
         let entry = plan[i];
-        let step = make_step(head, table, list, entry, state, position);
+        let step = make_step(head, rows, list, entry, state, position);
         let Arrival::At(next, to, spent) = step else {
             return Verdict::Blocked(i);
         };
@@ -108,7 +108,7 @@ pub fn check_steps(head: Head, table: &[u16], list: &[u16], positions: u16, plan
         cost += spent as u32;
         i += 1;
     }
-    let values = domain::formulas::formula_values(head, table, state);
+    let values = domain::formulas::formula_values(head, rows, state);
     let goal = domain::formulas::value_at(&values, head.goal);
     crate::verdict::finish(position == positions - 1, goal, cost)
 }

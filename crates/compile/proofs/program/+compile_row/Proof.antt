@@ -41,135 +41,135 @@ compile-row-construct-at-requires t c κs = (c .before .before .pre .1 .0, (c .b
 compile-row-behind-requires : (t : ℕ) → compile-row-lts.Need-behind-requires (claims t) (compile-row-at t) compile-row.Post
 compile-row-behind-requires t c κs =
     let o = c .before .before .before in
-    next-ok (o .args .head) (o .args .table .now) (o .pre)
+    next-ok (o .args .head) (o .args .rows .now) (o .pre)
 
 compile-row-leaf-step-requires : (t : ℕ) → compile-row-lts.Need-leaf-step-requires (claims t) (compile-row-at t) compile-row.Post
 compile-row-leaf-step-requires t c κs =
     let o = c .before .before .before .before .before .before .before in
-    let s = told (o .args .head) (o .args .table .now) (o .args .i) (c .before .enum-told .given .1) (c .before .before .before .before .construct-at .ensures) in
-    leaf-ok (o .args .head) (o .args .table .now) (o .pre) (nil-leaf (s .0))
+    let s = told (o .args .head) (o .args .rows .now) (o .args .i) (c .before .enum-told .given .1) (c .before .before .before .before .construct-at .ensures) in
+    leaf-ok (o .args .head) (o .args .rows .now) (o .pre) (nil-leaf (s .0))
 
 compile-row-leaf-step-requires-2 : (t : ℕ) → compile-row-lts.Need-leaf-step-requires-2 (claims t) (compile-row-at t) compile-row.Post
 compile-row-leaf-step-requires-2 t c κs =
     let o = c .before .before .before .before .before .before .before .before in
-    let s = told (o .args .head) (o .args .table .now) (o .args .i) (c .before .before .construct .given .1) (c .before .before .before .before .before .construct-at .ensures) in
-    leaf-ok (o .args .head) (o .args .table .now) (o .pre) (move-leaf (s .0))
+    let s = told (o .args .head) (o .args .rows .now) (o .args .i) (c .before .before .construct .given .1) (c .before .before .before .before .before .construct-at .ensures) in
+    leaf-ok (o .args .head) (o .args .rows .now) (o .pre) (move-leaf (s .0))
 
 compile-row-any-steps-requires : (t : ℕ) → compile-row-lts.Need-any-steps-requires (claims t) (compile-row-at t) compile-row.Post
 compile-row-any-steps-requires t c κs =
     let o = c .before .before .before .before .before .before .before in
-    let s = told (o .args .head) (o .args .table .now) (o .args .i) (c .before .enum-told2 .given .1) (c .before .before .before .before .construct-at .ensures) in
-    any-ok (o .args .head) (o .args .table .now) (o .pre) (s .0)
+    let s = told (o .args .head) (o .args .rows .now) (o .args .i) (c .before .enum-told2 .given .1) (c .before .before .before .before .construct-at .ensures) in
+    any-ok (o .args .head) (o .args .rows .now) (o .pre) (s .0)
 
 compile-row-leaf-step-requires-3 : (t : ℕ) → compile-row-lts.Need-leaf-step-requires-3 (claims t) (compile-row-at t) compile-row.Post
 compile-row-leaf-step-requires-3 t c κs =
     let o = c .before .before .before .before .before .before .before .before in
-    let s = told (o .args .head) (o .args .table .now) (o .args .i) (c .before .before .construct2 .given .1) (c .before .before .before .before .before .construct-at .ensures) in
-    leaf-ok (o .args .head) (o .args .table .now) (o .pre) (test-leaf (s .0))
+    let s = told (o .args .head) (o .args .rows .now) (o .args .i) (c .before .before .construct2 .given .1) (c .before .before .before .before .before .construct-at .ensures) in
+    leaf-ok (o .args .head) (o .args .rows .now) (o .pre) (test-leaf (s .0))
 
 compile-row-compile-row-requires : (t : ℕ) → compile-row-lts.Need-compile-row-requires (claims t) (compile-row-at t) compile-row.Post
 compile-row-compile-row-requires t c κs =
     let o = c .before .before .before .before .before .before .before .before in
-    let s = told (o .args .head) (o .args .table .now) (o .args .i) (c .before .before .construct3 .given .1) (c .before .before .before .before .before .construct-at .ensures) in
-    seq-first (o .args .head) (o .args .table .now) (o .pre) _ _ s
+    let s = told (o .args .head) (o .args .rows .now) (o .args .i) (c .before .before .construct3 .given .1) (c .before .before .before .before .before .construct-at .ensures) in
+    seq-first (o .args .head) (o .args .rows .now) (o .pre) _ _ s
 
 compile-row-compile-row-requires-2 : (t : ℕ) → compile-row-lts.Need-compile-row-requires-2 (claims t) (compile-row-at t) compile-row.Post
 compile-row-compile-row-requires-2 t c κs =
     let o = c .before .before .before .before .before .before .before .before .before .before .before .before in
-    let s = told (o .args .head) (o .args .table .now) (o .args .i) (c .before .before .before .before .before .before .construct3 .given .1) (c .before .before .before .before .before .before .before .before .before .construct-at .ensures) in
-    seq-second (o .args .head) (o .args .table .now) (o .pre) _ _ s (c .before .before .before .compile-row .kept .1 .1 .1 .0) (c .before .before .before .compile-row .ensures)
+    let s = told (o .args .head) (o .args .rows .now) (o .args .i) (c .before .before .before .before .before .before .construct3 .given .1) (c .before .before .before .before .before .before .before .before .before .construct-at .ensures) in
+    seq-second (o .args .head) (o .args .rows .now) (o .pre) _ _ s (c .before .before .before .compile-row .kept .1 .1 .1 .0) (c .before .before .before .compile-row .ensures)
 
 compile-row-compile-row-requires-3 : (t : ℕ) → compile-row-lts.Need-compile-row-requires-3 (claims t) (compile-row-at t) compile-row.Post
 compile-row-compile-row-requires-3 t c κs =
     let o = c .before .before .before .before .before .before .before .before in
-    let s = told (o .args .head) (o .args .table .now) (o .args .i) (c .before .before .construct4 .given .1) (c .before .before .before .before .before .construct-at .ensures) in
+    let s = told (o .args .head) (o .args .rows .now) (o .args .i) (c .before .before .construct4 .given .1) (c .before .before .before .before .before .construct-at .ensures) in
     let b = if-branch (s .0) in
-    at-next (o .args .head) (o .args .table .now) _ _ _ (c .before .before .before .before .behind .ensures) (branch-first (o .args .head) (o .args .table .now) (o .pre) _ _ b (s .1 .0))
+    at-next (o .args .head) (o .args .rows .now) _ _ _ (c .before .before .before .before .behind .ensures) (branch-first (o .args .head) (o .args .rows .now) (o .pre) _ _ b (s .1 .0))
 
 compile-row-behind-requires-2 : (t : ℕ) → compile-row-lts.Need-behind-requires-2 (claims t) (compile-row-at t) compile-row.Post
 compile-row-behind-requires-2 t c κs =
     let o = c .before .before .before .before .before .before .before .before .before .before .before .before in
-    let s = told (o .args .head) (o .args .table .now) (o .args .i) (c .before .before .before .before .before .before .construct4 .given .1) (c .before .before .before .before .before .before .before .before .before .construct-at .ensures) in
+    let s = told (o .args .head) (o .args .rows .now) (o .args .i) (c .before .before .before .before .before .before .construct4 .given .1) (c .before .before .before .before .before .before .before .before .before .construct-at .ensures) in
     let b = if-branch (s .0) in
     let w = from-next _ (c .before .before .before .before .before .before .before .before .behind .ensures) (c .before .before .before .compile-row3 .ensures) in
-    branch-next (o .args .head) (o .args .table .now) (o .pre) _ _ b (c .before .before .before .compile-row3 .kept .1 .1 .1 .0) w
+    branch-next (o .args .head) (o .args .rows .now) (o .pre) _ _ b (c .before .before .before .compile-row3 .kept .1 .1 .1 .0) w
 
 compile-row-compile-row-requires-4 : (t : ℕ) → compile-row-lts.Need-compile-row-requires-4 (claims t) (compile-row-at t) compile-row.Post
 compile-row-compile-row-requires-4 t c κs =
     let o = c .before .before .before .before .before .before .before .before .before .before .before .before .before in
-    let s = told (o .args .head) (o .args .table .now) (o .args .i) (c .before .before .before .before .before .before .before .construct4 .given .1) (c .before .before .before .before .before .before .before .before .before .before .construct-at .ensures) in
+    let s = told (o .args .head) (o .args .rows .now) (o .args .i) (c .before .before .before .before .before .before .before .construct4 .given .1) (c .before .before .before .before .before .before .before .before .before .before .construct-at .ensures) in
     let b = if-branch (s .0) in
     let w = from-next _ (c .before .before .before .before .before .before .before .before .before .behind .ensures) (c .before .before .before .before .compile-row3 .ensures) in
-    at-next (o .args .head) (o .args .table .now) _ _ _ (c .behind2 .ensures) (branch-second (o .args .head) (o .args .table .now) (o .pre) _ _ b (c .before .before .before .before .compile-row3 .kept .1 .1 .1 .0) w (s .1 .1))
+    at-next (o .args .head) (o .args .rows .now) _ _ _ (c .behind2 .ensures) (branch-second (o .args .head) (o .args .rows .now) (o .pre) _ _ b (c .before .before .before .before .compile-row3 .kept .1 .1 .1 .0) w (s .1 .1))
 
 compile-row-if-steps-requires : (t : ℕ) → compile-row-lts.Need-if-steps-requires (claims t) (compile-row-at t) compile-row.Post
 compile-row-if-steps-requires t c κs =
     let o = c .before .before .before .before .before .before .before .before .before .before .before .before .before .before .before .before .before in
-    let s = told (o .args .head) (o .args .table .now) (o .args .i) (c .before .before .before .before .before .before .before .before .before .before .before .construct4 .given .1) (c .before .before .before .before .before .before .before .before .before .before .before .before .before .before .construct-at .ensures) in
+    let s = told (o .args .head) (o .args .rows .now) (o .args .i) (c .before .before .before .before .before .before .before .before .before .before .before .construct4 .given .1) (c .before .before .before .before .before .before .before .before .before .before .before .before .before .before .construct-at .ensures) in
     let b = if-branch (s .0) in
     let w = from-next _ (c .before .before .before .before .before .before .before .before .before .before .before .before .before .behind .ensures) (c .before .before .before .before .before .before .before .before .compile-row3 .ensures) in
-    branch-ok (o .args .head) (o .args .table .now) (o .pre) _ _ b (c .before .before .before .compile-row4 .kept .1 .1 .1 .0 ∙ c .before .before .before .before .before .before .before .before .compile-row3 .kept .1 .1 .1 .0) w (from-next _ (c .before .before .before .before .behind2 .ensures) (c .before .before .before .compile-row4 .ensures))
+    branch-ok (o .args .head) (o .args .rows .now) (o .pre) _ _ b (c .before .before .before .compile-row4 .kept .1 .1 .1 .0 ∙ c .before .before .before .before .before .before .before .before .compile-row3 .kept .1 .1 .1 .0) w (from-next _ (c .before .before .before .before .behind2 .ensures) (c .before .before .before .compile-row4 .ensures))
 
 compile-row-compile-row-requires-5 : (t : ℕ) → compile-row-lts.Need-compile-row-requires-5 (claims t) (compile-row-at t) compile-row.Post
 compile-row-compile-row-requires-5 t c κs =
     let o = c .before .before .before .before .before .before .before .before in
-    let s = told (o .args .head) (o .args .table .now) (o .args .i) (c .before .before .construct5 .given .1) (c .before .before .before .before .before .construct-at .ensures) in
+    let s = told (o .args .head) (o .args .rows .now) (o .args .i) (c .before .before .construct5 .given .1) (c .before .before .before .before .before .construct-at .ensures) in
     let b = choice-branch (s .0) in
-    at-next (o .args .head) (o .args .table .now) _ _ _ (c .before .before .before .before .behind .ensures) (branch-first (o .args .head) (o .args .table .now) (o .pre) _ _ b (s .1 .0))
+    at-next (o .args .head) (o .args .rows .now) _ _ _ (c .before .before .before .before .behind .ensures) (branch-first (o .args .head) (o .args .rows .now) (o .pre) _ _ b (s .1 .0))
 
 compile-row-behind-requires-3 : (t : ℕ) → compile-row-lts.Need-behind-requires-3 (claims t) (compile-row-at t) compile-row.Post
 compile-row-behind-requires-3 t c κs =
     let o = c .before .before .before .before .before .before .before .before .before .before .before .before in
-    let s = told (o .args .head) (o .args .table .now) (o .args .i) (c .before .before .before .before .before .before .construct5 .given .1) (c .before .before .before .before .before .before .before .before .before .construct-at .ensures) in
+    let s = told (o .args .head) (o .args .rows .now) (o .args .i) (c .before .before .before .before .before .before .construct5 .given .1) (c .before .before .before .before .before .before .before .before .before .construct-at .ensures) in
     let b = choice-branch (s .0) in
     let w = from-next _ (c .before .before .before .before .before .before .before .before .behind .ensures) (c .before .before .before .compile-row5 .ensures) in
-    branch-next (o .args .head) (o .args .table .now) (o .pre) _ _ b (c .before .before .before .compile-row5 .kept .1 .1 .1 .0) w
+    branch-next (o .args .head) (o .args .rows .now) (o .pre) _ _ b (c .before .before .before .compile-row5 .kept .1 .1 .1 .0) w
 
 compile-row-compile-row-requires-6 : (t : ℕ) → compile-row-lts.Need-compile-row-requires-6 (claims t) (compile-row-at t) compile-row.Post
 compile-row-compile-row-requires-6 t c κs =
     let o = c .before .before .before .before .before .before .before .before .before .before .before .before .before in
-    let s = told (o .args .head) (o .args .table .now) (o .args .i) (c .before .before .before .before .before .before .before .construct5 .given .1) (c .before .before .before .before .before .before .before .before .before .before .construct-at .ensures) in
+    let s = told (o .args .head) (o .args .rows .now) (o .args .i) (c .before .before .before .before .before .before .before .construct5 .given .1) (c .before .before .before .before .before .before .before .before .before .before .construct-at .ensures) in
     let b = choice-branch (s .0) in
     let w = from-next _ (c .before .before .before .before .before .before .before .before .before .behind .ensures) (c .before .before .before .before .compile-row5 .ensures) in
-    at-next (o .args .head) (o .args .table .now) _ _ _ (c .behind3 .ensures) (branch-second (o .args .head) (o .args .table .now) (o .pre) _ _ b (c .before .before .before .before .compile-row5 .kept .1 .1 .1 .0) w (s .1 .1))
+    at-next (o .args .head) (o .args .rows .now) _ _ _ (c .behind3 .ensures) (branch-second (o .args .head) (o .args .rows .now) (o .pre) _ _ b (c .before .before .before .before .compile-row5 .kept .1 .1 .1 .0) w (s .1 .1))
 
 compile-row-choice-steps-requires : (t : ℕ) → compile-row-lts.Need-choice-steps-requires (claims t) (compile-row-at t) compile-row.Post
 compile-row-choice-steps-requires t c κs =
     let o = c .before .before .before .before .before .before .before .before .before .before .before .before .before .before .before .before .before in
-    let s = told (o .args .head) (o .args .table .now) (o .args .i) (c .before .before .before .before .before .before .before .before .before .before .before .construct5 .given .1) (c .before .before .before .before .before .before .before .before .before .before .before .before .before .before .construct-at .ensures) in
+    let s = told (o .args .head) (o .args .rows .now) (o .args .i) (c .before .before .before .before .before .before .before .before .before .before .before .construct5 .given .1) (c .before .before .before .before .before .before .before .before .before .before .before .before .before .before .construct-at .ensures) in
     let b = choice-branch (s .0) in
     let w = from-next _ (c .before .before .before .before .before .before .before .before .before .before .before .before .before .behind .ensures) (c .before .before .before .before .before .before .before .before .compile-row5 .ensures) in
-    branch-ok (o .args .head) (o .args .table .now) (o .pre) _ _ b (c .before .before .before .compile-row6 .kept .1 .1 .1 .0 ∙ c .before .before .before .before .before .before .before .before .compile-row5 .kept .1 .1 .1 .0) w (from-next _ (c .before .before .before .before .behind3 .ensures) (c .before .before .before .compile-row6 .ensures))
+    branch-ok (o .args .head) (o .args .rows .now) (o .pre) _ _ b (c .before .before .before .compile-row6 .kept .1 .1 .1 .0 ∙ c .before .before .before .before .before .before .before .before .compile-row5 .kept .1 .1 .1 .0) w (from-next _ (c .before .before .before .before .behind3 .ensures) (c .before .before .before .compile-row6 .ensures))
 
 compile-row-compile-row-requires-7 : (t : ℕ) → compile-row-lts.Need-compile-row-requires-7 (claims t) (compile-row-at t) compile-row.Post
 compile-row-compile-row-requires-7 t c κs =
     let o = c .before .before .before .before .before .before .before .before in
-    let s = told (o .args .head) (o .args .table .now) (o .args .i) (c .before .before .construct6 .given .1) (c .before .before .before .before .before .construct-at .ensures) in
+    let s = told (o .args .head) (o .args .rows .now) (o .args .i) (c .before .before .construct6 .given .1) (c .before .before .before .before .before .construct-at .ensures) in
     let b = while-loop (s .0) in
-    at-next (o .args .head) (o .args .table .now) _ _ _ (c .before .before .before .before .behind .ensures) (loop-part (o .args .head) (o .args .table .now) (o .pre) _ b (s .1))
+    at-next (o .args .head) (o .args .rows .now) _ _ _ (c .before .before .before .before .behind .ensures) (loop-part (o .args .head) (o .args .rows .now) (o .pre) _ b (s .1))
 
 compile-row-while-steps-requires : (t : ℕ) → compile-row-lts.Need-while-steps-requires (claims t) (compile-row-at t) compile-row.Post
 compile-row-while-steps-requires t c κs =
     let o = c .before .before .before .before .before .before .before .before .before .before .before .before in
-    let s = told (o .args .head) (o .args .table .now) (o .args .i) (c .before .before .before .before .before .before .construct6 .given .1) (c .before .before .before .before .before .before .before .before .before .construct-at .ensures) in
+    let s = told (o .args .head) (o .args .rows .now) (o .args .i) (c .before .before .before .before .before .before .construct6 .given .1) (c .before .before .before .before .before .before .before .before .before .construct-at .ensures) in
     let b = while-loop (s .0) in
     let w = from-next _ (c .before .before .before .before .before .before .before .before .behind .ensures) (c .before .before .before .compile-row7 .ensures) in
-    loop-ok (o .args .head) (o .args .table .now) (o .pre) _ b (c .before .before .before .compile-row7 .kept .1 .1 .1 .0) w
+    loop-ok (o .args .head) (o .args .rows .now) (o .pre) _ b (c .before .before .before .compile-row7 .kept .1 .1 .1 .0) w
 
 compile-row-compile-row-requires-8 : (t : ℕ) → compile-row-lts.Need-compile-row-requires-8 (claims t) (compile-row-at t) compile-row.Post
 compile-row-compile-row-requires-8 t c κs =
     let o = c .before .before .before .before .before .before .before .before in
-    let s = told (o .args .head) (o .args .table .now) (o .args .i) (c .before .before .construct7 .given .1) (c .before .before .before .before .before .construct-at .ensures) in
+    let s = told (o .args .head) (o .args .rows .now) (o .args .i) (c .before .before .construct7 .given .1) (c .before .before .before .before .before .construct-at .ensures) in
     let b = star-loop (s .0) in
-    at-next (o .args .head) (o .args .table .now) _ _ _ (c .before .before .before .before .behind .ensures) (loop-part (o .args .head) (o .args .table .now) (o .pre) _ b (s .1))
+    at-next (o .args .head) (o .args .rows .now) _ _ _ (c .before .before .before .before .behind .ensures) (loop-part (o .args .head) (o .args .rows .now) (o .pre) _ b (s .1))
 
 compile-row-star-steps-requires : (t : ℕ) → compile-row-lts.Need-star-steps-requires (claims t) (compile-row-at t) compile-row.Post
 compile-row-star-steps-requires t c κs =
     let o = c .before .before .before .before .before .before .before .before .before .before .before .before in
-    let s = told (o .args .head) (o .args .table .now) (o .args .i) (c .before .before .before .before .before .before .construct7 .given .1) (c .before .before .before .before .before .before .before .before .before .construct-at .ensures) in
+    let s = told (o .args .head) (o .args .rows .now) (o .args .i) (c .before .before .before .before .before .before .construct7 .given .1) (c .before .before .before .before .before .before .before .before .before .construct-at .ensures) in
     let b = star-loop (s .0) in
     let w = from-next _ (c .before .before .before .before .before .before .before .before .behind .ensures) (c .before .before .before .compile-row8 .ensures) in
-    loop-ok (o .args .head) (o .args .table .now) (o .pre) _ b (c .before .before .before .compile-row8 .kept .1 .1 .1 .0) w
+    loop-ok (o .args .head) (o .args .rows .now) (o .pre) _ b (c .before .before .before .compile-row8 .kept .1 .1 .1 .0) w
 
 compile-row-same-length : (t : ℕ) → compile-row-lts.Need-same-length (claims t) (compile-row-at t) compile-row.Post
 compile-row-same-length t c = c .before .before .leaf-step .kept .0
@@ -177,7 +177,7 @@ compile-row-same-length t c = c .before .before .leaf-step .kept .0
 compile-row-returns : (t : ℕ) → compile-row-lts.Need-returns (claims t) (compile-row-at t) compile-row.Post
 compile-row-returns t c =
     let o = c .before .before .before .before .before .before .before .before .before .before in
-    let s = told (o .args .head) (o .args .table .now) (o .args .i) (c .before .before .before .before .enum-told .given .1) (c .before .before .before .before .before .before .before .construct-at .ensures) in
+    let s = told (o .args .head) (o .args .rows .now) (o .args .i) (c .before .before .before .before .enum-told .given .1) (c .before .before .before .before .before .before .before .construct-at .ensures) in
     wrote-leaf (nil-leaf (s .0)) (c .before .before .leaf-step .ensures)
 
 compile-row-same-length-2 : (t : ℕ) → compile-row-lts.Need-same-length-2 (claims t) (compile-row-at t) compile-row.Post
@@ -186,7 +186,7 @@ compile-row-same-length-2 t c = c .before .before .leaf-step2 .kept .0
 compile-row-returns-2 : (t : ℕ) → compile-row-lts.Need-returns-2 (claims t) (compile-row-at t) compile-row.Post
 compile-row-returns-2 t c =
     let o = c .before .before .before .before .before .before .before .before .before .before .before in
-    let s = told (o .args .head) (o .args .table .now) (o .args .i) (c .before .before .before .before .before .construct .given .1) (c .before .before .before .before .before .before .before .before .construct-at .ensures) in
+    let s = told (o .args .head) (o .args .rows .now) (o .args .i) (c .before .before .before .before .before .construct .given .1) (c .before .before .before .before .before .before .before .before .construct-at .ensures) in
     wrote-leaf (move-leaf (s .0)) (c .before .before .leaf-step2 .ensures)
 
 compile-row-same-length-3 : (t : ℕ) → compile-row-lts.Need-same-length-3 (claims t) (compile-row-at t) compile-row.Post
@@ -195,7 +195,7 @@ compile-row-same-length-3 t c = c .before .before .any-steps .kept .0
 compile-row-returns-3 : (t : ℕ) → compile-row-lts.Need-returns-3 (claims t) (compile-row-at t) compile-row.Post
 compile-row-returns-3 t c =
     let o = c .before .before .before .before .before .before .before .before .before .before in
-    let s = told (o .args .head) (o .args .table .now) (o .args .i) (c .before .before .before .before .enum-told2 .given .1) (c .before .before .before .before .before .before .before .construct-at .ensures) in
+    let s = told (o .args .head) (o .args .rows .now) (o .args .i) (c .before .before .before .before .enum-told2 .given .1) (c .before .before .before .before .before .before .before .construct-at .ensures) in
     wrote-any (s .0) (c .before .before .any-steps .ensures)
 
 compile-row-same-length-4 : (t : ℕ) → compile-row-lts.Need-same-length-4 (claims t) (compile-row-at t) compile-row.Post
@@ -204,7 +204,7 @@ compile-row-same-length-4 t c = c .before .before .leaf-step3 .kept .0
 compile-row-returns-4 : (t : ℕ) → compile-row-lts.Need-returns-4 (claims t) (compile-row-at t) compile-row.Post
 compile-row-returns-4 t c =
     let o = c .before .before .before .before .before .before .before .before .before .before .before in
-    let s = told (o .args .head) (o .args .table .now) (o .args .i) (c .before .before .before .before .before .construct2 .given .1) (c .before .before .before .before .before .before .before .before .construct-at .ensures) in
+    let s = told (o .args .head) (o .args .rows .now) (o .args .i) (c .before .before .before .before .before .construct2 .given .1) (c .before .before .before .before .before .before .before .before .construct-at .ensures) in
     wrote-leaf (test-leaf (s .0)) (c .before .before .leaf-step3 .ensures)
 
 compile-row-same-length-5 : (t : ℕ) → compile-row-lts.Need-same-length-5 (claims t) (compile-row-at t) compile-row.Post
@@ -213,7 +213,7 @@ compile-row-same-length-5 t c = c .before .before .compile-row2 .kept .1 .1 .1 .
 compile-row-returns-5 : (t : ℕ) → compile-row-lts.Need-returns-5 (claims t) (compile-row-at t) compile-row.Post
 compile-row-returns-5 t c =
     let o = c .before .before .before .before .before .before .before .before .before .before .before .before .before .before .before in
-    let s = told (o .args .head) (o .args .table .now) (o .args .i) (c .before .before .before .before .before .before .before .before .before .construct3 .given .1) (c .before .before .before .before .before .before .before .before .before .before .before .before .construct-at .ensures) in
+    let s = told (o .args .head) (o .args .rows .now) (o .args .i) (c .before .before .before .before .before .before .before .before .before .construct3 .given .1) (c .before .before .before .before .before .before .before .before .before .before .before .before .construct-at .ensures) in
     wrote-seq (s .0) (c .before .before .before .before .before .before .compile-row .ensures) (c .before .before .compile-row2 .ensures)
 
 compile-row-same-length-6 : (t : ℕ) → compile-row-lts.Need-same-length-6 (claims t) (compile-row-at t) compile-row.Post
@@ -222,7 +222,7 @@ compile-row-same-length-6 t c = c .before .before .if-steps .kept .0 ∙ c .befo
 compile-row-returns-6 : (t : ℕ) → compile-row-lts.Need-returns-6 (claims t) (compile-row-at t) compile-row.Post
 compile-row-returns-6 t c =
     let o = c .before .before .before .before .before .before .before .before .before .before .before .before .before .before .before .before .before .before .before .before in
-    let s = told (o .args .head) (o .args .table .now) (o .args .i) (c .before .before .before .before .before .before .before .before .before .before .before .before .before .before .construct4 .given .1) (c .before .before .before .before .before .before .before .before .before .before .before .before .before .before .before .before .before .construct-at .ensures) in
+    let s = told (o .args .head) (o .args .rows .now) (o .args .i) (c .before .before .before .before .before .before .before .before .before .before .before .before .before .before .construct4 .given .1) (c .before .before .before .before .before .before .before .before .before .before .before .before .before .before .before .before .before .construct-at .ensures) in
     let b = if-branch (s .0) in
     let w = from-next _ (c .before .before .before .before .before .before .before .before .before .before .before .before .before .before .before .before .behind .ensures) (c .before .before .before .before .before .before .before .before .before .before .before .compile-row3 .ensures) in
     wrote-branch (o .args .from) w b (from-next _ (c .before .before .before .before .before .before .before .behind2 .ensures) (c .before .before .before .before .before .before .compile-row4 .ensures)) (c .before .before .if-steps .ensures)
@@ -233,7 +233,7 @@ compile-row-same-length-7 t c = c .before .before .choice-steps .kept .0 ∙ c .
 compile-row-returns-7 : (t : ℕ) → compile-row-lts.Need-returns-7 (claims t) (compile-row-at t) compile-row.Post
 compile-row-returns-7 t c =
     let o = c .before .before .before .before .before .before .before .before .before .before .before .before .before .before .before .before .before .before .before .before in
-    let s = told (o .args .head) (o .args .table .now) (o .args .i) (c .before .before .before .before .before .before .before .before .before .before .before .before .before .before .construct5 .given .1) (c .before .before .before .before .before .before .before .before .before .before .before .before .before .before .before .before .before .construct-at .ensures) in
+    let s = told (o .args .head) (o .args .rows .now) (o .args .i) (c .before .before .before .before .before .before .before .before .before .before .before .before .before .before .construct5 .given .1) (c .before .before .before .before .before .before .before .before .before .before .before .before .before .before .before .before .before .construct-at .ensures) in
     let b = choice-branch (s .0) in
     let w = from-next _ (c .before .before .before .before .before .before .before .before .before .before .before .before .before .before .before .before .behind .ensures) (c .before .before .before .before .before .before .before .before .before .before .before .compile-row5 .ensures) in
     wrote-branch (o .args .from) w b (from-next _ (c .before .before .before .before .before .before .before .behind3 .ensures) (c .before .before .before .before .before .before .compile-row6 .ensures)) (c .before .before .choice-steps .ensures)
@@ -244,7 +244,7 @@ compile-row-same-length-8 t c = c .before .before .while-steps .kept .0 ∙ c .b
 compile-row-returns-8 : (t : ℕ) → compile-row-lts.Need-returns-8 (claims t) (compile-row-at t) compile-row.Post
 compile-row-returns-8 t c =
     let o = c .before .before .before .before .before .before .before .before .before .before .before .before .before .before .before in
-    let s = told (o .args .head) (o .args .table .now) (o .args .i) (c .before .before .before .before .before .before .before .before .before .construct6 .given .1) (c .before .before .before .before .before .before .before .before .before .before .before .before .construct-at .ensures) in
+    let s = told (o .args .head) (o .args .rows .now) (o .args .i) (c .before .before .before .before .before .before .before .before .before .construct6 .given .1) (c .before .before .before .before .before .before .before .before .before .before .before .before .construct-at .ensures) in
     let b = while-loop (s .0) in
     let w = from-next _ (c .before .before .before .before .before .before .before .before .before .before .before .behind .ensures) (c .before .before .before .before .before .before .compile-row7 .ensures) in
     wrote-loop (o .args .from) w b (c .before .before .while-steps .ensures)
@@ -255,7 +255,7 @@ compile-row-same-length-9 t c = c .before .before .star-steps .kept .0 ∙ c .be
 compile-row-returns-9 : (t : ℕ) → compile-row-lts.Need-returns-9 (claims t) (compile-row-at t) compile-row.Post
 compile-row-returns-9 t c =
     let o = c .before .before .before .before .before .before .before .before .before .before .before .before .before .before .before in
-    let s = told (o .args .head) (o .args .table .now) (o .args .i) (c .before .before .before .before .before .before .before .before .before .construct7 .given .1) (c .before .before .before .before .before .before .before .before .before .before .before .before .construct-at .ensures) in
+    let s = told (o .args .head) (o .args .rows .now) (o .args .i) (c .before .before .before .before .before .before .before .before .before .construct7 .given .1) (c .before .before .before .before .before .before .before .before .before .before .before .before .construct-at .ensures) in
     let b = star-loop (s .0) in
     let w = from-next _ (c .before .before .before .before .before .before .before .before .before .before .before .behind .ensures) (c .before .before .before .before .before .before .compile-row8 .ensures) in
     wrote-loop (o .args .from) w b (c .before .before .star-steps .ensures)

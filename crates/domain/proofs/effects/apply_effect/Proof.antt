@@ -1,7 +1,7 @@
 use Prim.Native.Nat.{_*_, _≤_}
 use native.Mathlib.Omega.{arith}
 use lib.Dec.{eqb}
-use Rattle.domain.specs.World.{afterEffect}
+use Rattle.domain.specs.State.{afterEffect}
 use Rattle.domain.proofs.FactLaws.{count-within, bits-once, bits-both}
 use Rattle.domain.proofs.StoreLaws.{effect-row, effect-fact, counts-within}
 use borrow.Author.Needs.{needs}
@@ -12,13 +12,13 @@ add-row-at : tie.Need-add-row-at
 add-row-at c =
     let a = c .before .before .args in
     let p = c .before .before .pre in
-    omega (arith, counts-within (a .head) (a .table .now) (p .1 .0) .2)
+    omega (arith, counts-within (a .head) (a .rows .now) (p .1 .0) .2)
 
 row-at-requires : tie.Need-row-at-requires
 row-at-requires c κs =
     let a = c .before .before .args in
     let p = c .before .before .pre in
-    (omega (arith, counts-within (a .head) (a .table .now) (p .1 .0) .2), p .0)
+    (omega (arith, counts-within (a .head) (a .rows .now) (p .1 .0) .2), p .0)
 
 mul-times : tie.Need-mul-times
 mul-times c =
@@ -30,7 +30,7 @@ put-fact-requires c κs =
     let a = c .before .before .before .before .before .before .before .args in
     let p = c .before .before .before .before .before .before .before .pre in (
       rw (c .before .before .bit .ensures, c .bit2 .ensures) (bits-once (c .before .before .before .value-at .result) (eqb (c .before .before .before .before .row-at .result .c) (c .before .before .before .before .before .before .before .args .v))),
-      effect-fact (a .head) (a .table .now) (p .1 .0) (a .k) (p .1 .1 .0) (c .before .before .before .before .row-at .ensures),
+      effect-fact (a .head) (a .rows .now) (p .1 .0) (a .k) (p .1 .1 .0) (c .before .before .before .before .row-at .ensures),
       omega (arith, p .1 .1 .1, count-within (a .head .counts .facts) (p .1 .0 .facts)),
     )
 
@@ -38,7 +38,7 @@ returns : tie.Need-returns
 unfolding afterEffect
 returns c =
     let a = c .before .before .before .before .before .before .before .before .args in
-    let row = effect-row (a .head) (a .table .now) (a .k) (c .before .before .before .before .before .before .before .before .pre .1 .1 .0) (c .before .before .before .before .before .row-at .ensures) in
+    let row = effect-row (a .head) (a .rows .now) (a .k) (c .before .before .before .before .before .before .before .before .pre .1 .1 .0) (c .before .before .before .before .before .row-at .ensures) in
     rw (← row) (rw (c .before .before .before .bit .ensures, c .before .bit2 .ensures, bits-both, c .before .before .before .before .value-at .ensures) at (c .put-fact .ensures))
 
 pub apply-effect-spec : {M : Type 1} → statement M

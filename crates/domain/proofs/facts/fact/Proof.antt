@@ -1,5 +1,5 @@
 use mathlib.Core.Path.{refl}
-use Rattle.domain.specs.World.{fact}
+use Rattle.domain.specs.State.{fact}
 use borrow.Author.Needs.{needs}
 use Rattle.domain.proofs.facts.fact.Statement.{statement}
 use Rattle.domain.proofs.facts.fact.Tie as tie

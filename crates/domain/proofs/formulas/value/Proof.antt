@@ -1,7 +1,7 @@
 use mathlib.Core.Path.{_∙_, sym, ap}
 use mathlib.Core.Bool.{not}
 use borrow.Author.Tests.{ne-eqb}
-use Rattle.domain.specs.World.{value}
+use Rattle.domain.specs.State.{value}
 use borrow.Author.Needs.{needs}
 use Rattle.domain.proofs.formulas.value.Statement.{statement}
 use Rattle.domain.proofs.formulas.value.Tie as tie

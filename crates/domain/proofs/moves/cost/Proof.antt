@@ -11,26 +11,26 @@ add-row-at : tie.Need-add-row-at
 add-row-at c =
     let a = c .before .args in
     let p = c .before .pre in
-    omega (arith, counts-within (a .head) (a .table .now) (p .1 .0) .1)
+    omega (arith, counts-within (a .head) (a .rows .now) (p .1 .0) .1)
 
 row-at-requires : tie.Need-row-at-requires
 row-at-requires c κs =
     let a = c .before .args in
     let p = c .before .pre in
-    (omega (arith, counts-within (a .head) (a .table .now) (p .1 .0) .1), p .0)
+    (omega (arith, counts-within (a .head) (a .rows .now) (p .1 .0) .1), p .0)
 
 array-read-result : tie.Need-array-read-result
 array-read-result c =
     let a = c .before .before .before .args in
     let p = c .before .before .before .pre in
-    omega (arith, move-class (a .head) (a .table .now) (p .1 .0) (a .m) (p .1 .1) (c .before .row-at .ensures))
+    omega (arith, move-class (a .head) (a .rows .now) (p .1 .0) (a .m) (p .1 .1) (c .before .row-at .ensures))
 
 returns : tie.Need-returns
 unfolding costIn classCost
 returns c =
     let a = c .before .before .before .args in
     let p = c .before .before .before .pre in
-    let row = move-row (a .head) (a .table .now) (a .m) (p .1 .1) (c .before .row-at .ensures) in
+    let row = move-row (a .head) (a .rows .now) (a .m) (p .1 .1) (c .before .row-at .ensures) in
     (rw (← row), cost-within (c .before .row-at .result .b))
 
 pub cost-spec : {M : Type 1} → statement M

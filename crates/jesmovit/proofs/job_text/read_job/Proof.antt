@@ -1,6 +1,6 @@
 use mathlib.Core.Path.{sym, _∙_, ap}
 use Rattle.job.proofs.StoreLaws.{counts-of}
-use Rattle.reader.specs.Reading.{outcomeOf, refusalOf}
+use Rattle.reader.specs.Reading.{outcomeOf, readRefusal}
 use Rattle.jesmovit.specs.JobText.{readAnswer}
 use Rattle.jesmovit.specs.declared.job_text.ReadAnswer.{ReadAnswer}
 use borrow.Author.Needs.{needs}
@@ -8,7 +8,7 @@ use Rattle.jesmovit.proofs.job_text.read_job.Statement.{statement}
 use Rattle.jesmovit.proofs.job_text.read_job.Tie as tie
 
 returns : tie.Need-returns
-returns c = let g = c .before .enum-told .given .1 in let t = c .before .before .before .before .read-job .last .1 .0 in ap ReadAnswer.Refused (c .refusal .ensures ∙ ap refusalOf g) ∙ sym (ap (λ a. readAnswer (outcomeOf a t)) g) ∙ ap readAnswer (c .before .before .before .before .read-job .ensures)
+returns c = let g = c .before .enum-told .given .1 in let t = c .before .before .before .before .read-job .last .1 .0 in ap ReadAnswer.Refused (c .refusal .ensures ∙ ap readRefusal g) ∙ sym (ap (λ a. readAnswer (outcomeOf a t)) g) ∙ ap readAnswer (c .before .before .before .before .read-job .ensures)
 
 returns-2 : tie.Need-returns-2
 returns-2 c = let g = c .before .before .answer .given .1 in let t = c .before .before .before .before .before .read-job .last .1 .0 in ap ReadAnswer.Read (sym (counts-of (c .before .before .answer .given .0 .1 .0) t)) ∙ sym (ap (λ a. readAnswer (outcomeOf a t)) g) ∙ ap readAnswer (c .before .before .before .before .before .read-job .ensures)

@@ -1,11 +1,11 @@
 use mathlib.Core.Path.{sym, ap}
-use Rattle.offers.specs.Offer.{refusalOf}
+use Rattle.offers.specs.Offer.{offerRefusal}
 use borrow.Author.Needs.{needs}
 use Rattle.offers.proofs.offer.refusal.Statement.{statement}
 use Rattle.offers.proofs.offer.refusal.Tie as tie
 
 returns : tie.Need-returns
-returns c = ap refusalOf (sym (c .enum-told .given .1))
+returns c = ap offerRefusal (sym (c .enum-told .given .1))
 
 pub refusal-spec : {M : Type 1} → statement M
 refusal-spec = tie.close (tie.spec (λ c. search needs) (λ c. search needs) returns (λ c. search needs))

@@ -17,8 +17,8 @@ use Rattle.search.proofs.fill.fill.Tie as tie
 state-count-requires : tie.Need-state-count-requires
 state-count-requires c κs = c .before .before .before .pre .0 .job .facts
 
-link-steps-requires : tie.Need-link-steps-requires
-link-steps-requires c κs = ready-listed (c .before .before .before .before .before .pre .0)
+adjacency-of-requires : tie.Need-adjacency-of-requires
+adjacency-of-requires c κs = ready-listed (c .before .before .before .before .before .pre .0)
 
 order-requires : tie.Need-order-requires
 order-requires c κs = record { size = length-replicate {A = ℕ} 8192 unreached; few = omega (arith, c .before .before .before .state-count .ensures, (count-within (c .before .before .before .before .before .before .before .args .head .counts .facts) (c .before .before .before .before .before .before .before .pre .0 .job .facts))) }
@@ -42,7 +42,7 @@ slice-write-costs : tie.Need-slice-write-costs
 slice-write-costs c = omega (arith, start-below (c .before .before .before .before .before .before .before .before .before .before .before .before .before .before .before .before .pre .0) (c .before .before .before .before .before .before .before .before .before .before .before .before .before .before .before .before .args .costs .now) (c .before .before .before .before .before .before .before .before .before .before .before .before .before .before .before .before .pre .1), c .before .before .clear .ensures .size)
 
 settle-requires : tie.Need-settle-requires
-settle-requires c κs = (search-ready (c .before .before .before .before .before .before .before .before .before .before .before .before .before .before .before .before .before .before .before .pre .0) _ (c .before .before .before .before .before .before .before .before .before .before .before .before .before .before .before .before .before .before .before .pre .1) (rw (c .before .before .before .before .before .before .before .before .before .before .before .before .before .before .before .state-count .ensures) at (c .before .before .before .before .before .clear .ensures)) (steps-laid (c .before .before .before .before .before .before .before .before .before .before .before .before .before .before .before .before .before .before .before .pre .0) (c .before .before .before .before .before .before .before .before .before .before .before .before .before .link-steps .ensures)) (record { size = c .before .before .before .before .before .before .before .before .lower .ensures .size ∙ c .before .before .before .before .before .before .before .before .before .before .before .order .ensures .size ∙ length-replicate {A = ℕ} 8192 unreached; few = (count-within (c .before .before .before .before .before .before .before .before .before .before .before .before .before .before .before .before .before .before .before .args .head .counts .facts) (c .before .before .before .before .before .before .before .before .before .before .before .before .before .before .before .before .before .before .before .pre .0 .job .facts)) }), start-relaxed (c .before .before .before .before .before .before .before .before .before .before .before .before .before .before .before .before .before .before .before .pre .0) _ (c .before .before .before .before .before .before .before .before .before .before .before .before .before .before .before .before .before .before .before .pre .1) (rw (c .before .before .before .before .before .before .before .before .before .before .before .before .before .before .before .state-count .ensures) at (c .before .before .before .before .before .clear .ensures)) (count-within (c .before .before .before .before .before .before .before .before .before .before .before .before .before .before .before .before .before .before .before .args .head .counts .facts) (c .before .before .before .before .before .before .before .before .before .before .before .before .before .before .before .before .before .before .before .pre .0 .job .facts)) (c .before .before .before .before .before .before .before .before .before .before .before .order .ensures) (c .before .before .before .before .before .before .before .before .lower .ensures))
+settle-requires c κs = (search-ready (c .before .before .before .before .before .before .before .before .before .before .before .before .before .before .before .before .before .before .before .pre .0) _ (c .before .before .before .before .before .before .before .before .before .before .before .before .before .before .before .before .before .before .before .pre .1) (rw (c .before .before .before .before .before .before .before .before .before .before .before .before .before .before .before .state-count .ensures) at (c .before .before .before .before .before .clear .ensures)) (steps-laid (c .before .before .before .before .before .before .before .before .before .before .before .before .before .before .before .before .before .before .before .pre .0) (c .before .before .before .before .before .before .before .before .before .before .before .before .before .adjacency-of .ensures)) (record { size = c .before .before .before .before .before .before .before .before .lower .ensures .size ∙ c .before .before .before .before .before .before .before .before .before .before .before .order .ensures .size ∙ length-replicate {A = ℕ} 8192 unreached; few = (count-within (c .before .before .before .before .before .before .before .before .before .before .before .before .before .before .before .before .before .before .before .args .head .counts .facts) (c .before .before .before .before .before .before .before .before .before .before .before .before .before .before .before .before .before .before .before .pre .0 .job .facts)) }), start-relaxed (c .before .before .before .before .before .before .before .before .before .before .before .before .before .before .before .before .before .before .before .pre .0) _ (c .before .before .before .before .before .before .before .before .before .before .before .before .before .before .before .before .before .before .before .pre .1) (rw (c .before .before .before .before .before .before .before .before .before .before .before .before .before .before .before .state-count .ensures) at (c .before .before .before .before .before .clear .ensures)) (count-within (c .before .before .before .before .before .before .before .before .before .before .before .before .before .before .before .before .before .before .before .args .head .counts .facts) (c .before .before .before .before .before .before .before .before .before .before .before .before .before .before .before .before .before .before .before .pre .0 .job .facts)) (c .before .before .before .before .before .before .before .before .before .before .before .order .ensures) (c .before .before .before .before .before .before .before .before .lower .ensures))
 
 same-length : tie.Need-same-length
 same-length c = runs-length (c .before .before .before .settle .ensures .runs) ∙ simp length-set (c .before .before .before .before .before .before .before .before .before .clear .ensures .size)
@@ -57,7 +57,7 @@ fill-spec =
     state-count-requires
     (λ c. search needs)
     (λ c. search needs)
-    link-steps-requires
+    adjacency-of-requires
     (λ c. search needs)
     order-requires
     (λ c. search needs)

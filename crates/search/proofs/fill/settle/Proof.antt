@@ -3,17 +3,17 @@ use mathlib.Core.Path.{_∙_}
 use native.Mathlib.Omega.{arith}
 use Rattle.job.specs.StateCount.{stateCount}
 use Rattle.semantics.proofs.CellLaws.{runs-length}
-use Rattle.sweep.specs.Rows.{graphOf, height}
+use Rattle.sweep.specs.Scans.{graphOf, potential}
 use Rattle.search.proofs.FillLaws.{Settling, settling-start, settling-more, settling-end, search-on}
 use borrow.Author.Needs.{needs}
 use Rattle.search.proofs.fill.settle.Statement.{statement}
 use Rattle.search.proofs.fill.settle.Tie as tie
 
 abbrev Inv-loop : tie.InvT-loop
-Inv-loop costs₀ queue₀ head rows list links positions states costs queue = Settling (graphOf head rows list positions) (stateCount (head .counts .facts)) costs₀ queue₀ costs queue
+Inv-loop costs₀ queue₀ head rows list adjacency positions states costs queue = Settling (graphOf head rows list positions) (stateCount (head .counts .facts)) costs₀ queue₀ costs queue
 
 abbrev μ-loop : tie.MeasureT-loop
-μ-loop costs₀ queue₀ head rows list links positions states costs queue = height (stateCount (head .counts .facts)) costs queue
+μ-loop costs₀ queue₀ head rows list adjacency positions states costs queue = potential (stateCount (head .counts .facts)) costs queue
 
 state-count-requires : tie.Need-state-count-requires Inv-loop μ-loop
 state-count-requires c κs = c .before .before .before .before .before .pre .0 .ready .job .facts

@@ -9,7 +9,7 @@ sweep-requires : tie.Need-sweep-requires
 sweep-requires c κs = ((c .before .before .before .before .before .before .before .before .before .before .before .pre .0 .ready, c .before .before .before .before .before .before .before .before .before .before .before .pre .0 .laid), ((search-sweep (c .before .before .before .before .before .before .before .before .before .before .before .pre .0) (c .before .before .before .before .before .formula-values .ensures) (c .before .before .before .before .before .before .before .before .before .before .before .pre .1 .0 .0) (known-none _ _), c .before .before .before .before .before .before .before .before .before .before .before .pre .1 .0 .1), c .before .before .before .before .before .before .before .before .before .before .before .pre .1 .1))
 
 returns : tie.Need-returns
-returns c = better-named (c .before .before .before .before .before .before .before .before .before .before .before .before .before .before .before .before .before .before .before .before .before .pre .0 .keys .few) refl (c .before .before .before .before .before .before .before .before .before .sweep .ensures) (c .before .before .rename .ensures)
+returns c = better-named (c .before .before .before .before .before .before .before .before .before .before .before .before .before .before .before .before .before .before .before .before .before .pre .0 .keys .few) refl (c .before .before .before .before .before .before .before .before .before .sweep .ensures) (c .before .before .sift-up .ensures)
 
 pub visit-spec : {M : Type 1} → statement M
 visit-spec =

@@ -6,12 +6,12 @@ use Rattle.sweep.proofs.queue.lower.Statement.{statement}
 use Rattle.sweep.proofs.queue.lower.Tie as tie
 
 same-length : tie.Need-same-length
-same-length c = c .before .before .rename .ensures .size ∙ simp length-set
+same-length c = c .before .before .sift-up .ensures .size ∙ simp length-set
 
 returns : tie.Need-returns
 returns c =
     let p = c .before .before .before .before .before .before .before .pre in
-    lowered-stored _ _ (p .0) (p .1) (c .before .before .before .before .if1 .taken) (c .before .before .rename .ensures)
+    lowered-stored _ _ (p .0) (p .1) (c .before .before .before .before .if1 .taken) (c .before .before .sift-up .ensures)
 
 pub lower-spec : {M : Type 1} → statement M
 lower-spec =

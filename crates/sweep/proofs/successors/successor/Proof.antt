@@ -33,8 +33,8 @@ note-requires c κs =
     let s = c .successor in
     noted-small (jobOf (a .head) (a .rows .now)) (p .1 .0) (a .m) (a .state) (s .result) (p .1 .1 .1 .0 .1) (s .ensures)
 
-slice-write-known : tie.Need-slice-write-known
-slice-write-known c =
+slice-write-cache : tie.Need-slice-write-cache
+slice-write-cache c =
     let a = c .before .before .before .before .before .before .before .before .args in
     let p = c .before .before .before .before .before .before .before .before .pre in
     omega (arith, p .1 .1 .1 .1 .size, few-moves (a .head) (a .rows .now) (a .m) (p .1 .0) (p .1 .1 .1 .0 .0))
@@ -59,6 +59,6 @@ successor-spec =
     (λ c κs. search needs)
     note-requires
     (λ c. search needs)
-    slice-write-known
+    slice-write-cache
     (λ c. search needs)
     returns-3)

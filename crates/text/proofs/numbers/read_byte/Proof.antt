@@ -1,6 +1,6 @@
 use mathlib.Core.Path.{sym, _∙_, ap}
 use native.Mathlib.Omega.{arith}
-use Rattle.text.specs.Progress.{countOf}
+use Rattle.text.specs.Progress.{completeCount}
 use Rattle.text.proofs.NumberLaws.{step-start, step-digit, step-end, step-done, step-broken}
 use borrow.Author.Needs.{needs}
 use Rattle.text.proofs.numbers.read_byte.Statement.{statement}
@@ -13,7 +13,7 @@ returns : tie.Need-returns
 returns c = step-digit _ _ (c .before .before .before .before .before .before .before .args .b) (c .before .before .before .before .before .before .before .args .out .now) (c .before .before .before .before .before .before .before .pre) _ _ (c .before .before .before .before .p2 .given .1) (sym (c .before .before .is-digit .ensures) ∙ c .before .if1 .taken) (c .more-digits .ensures)
 
 number-end-requires : tie.Need-number-end-requires
-number-end-requires c κs = let e = ap countOf (c .before .before .before .before .p2 .given .1) in omega (arith, c .before .before .before .before .before .before .before .pre, e)
+number-end-requires c κs = let e = ap completeCount (c .before .before .before .before .p2 .given .1) in omega (arith, c .before .before .before .before .before .before .before .pre, e)
 
 returns-2 : tie.Need-returns-2
 returns-2 c = step-start _ _ (c .before .before .before .before .before .args .b) (c .before .before .before .before .before .args .out .now) (c .before .before .before .before .before .pre) _ (c .before .before .p .given .1) (c .first-digit .ensures)

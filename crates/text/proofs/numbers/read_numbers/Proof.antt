@@ -5,13 +5,13 @@ use Prim.Native.Nat.{_≤_, _-_}
 use lib.ListN.{length, drop}
 use mathlib.Core.List.{[], foldl}
 use Rattle.text.specs.Numbers.{start, byteRead}
-use Rattle.text.specs.Progress.{readingOf, countOf}
+use Rattle.text.specs.Progress.{partialOf, completeCount}
 use borrow.Author.Needs.{needs}
 use Rattle.text.proofs.numbers.read_numbers.Statement.{statement}
 use Rattle.text.proofs.numbers.read_numbers.Tie as tie
 
 abbrev Inv-loop : tie.InvT-loop
-Inv-loop value out₀ p₀ i₀ out p i = (i ≤ length value) × (length out ≡ length out₀) × (countOf p ≤ length out) × (foldl (byteRead (length out₀)) (start []) value ≡ foldl (byteRead (length out₀)) (readingOf p out) (drop i value))
+Inv-loop value out₀ p₀ i₀ out p i = (i ≤ length value) × (length out ≡ length out₀) × (completeCount p ≤ length out) × (foldl (byteRead (length out₀)) (start []) value ≡ foldl (byteRead (length out₀)) (partialOf p out) (drop i value))
 
 abbrev μ-loop : tie.MeasureT-loop
 μ-loop value out₀ p₀ i₀ out p i = length value - i

@@ -9,19 +9,19 @@ use Rattle.validate.proofs.moves.check_moves.Statement.{statement}
 use Rattle.validate.proofs.moves.check_moves.Tie as tie
 
 abbrev Inv-loop : tie.InvT-loop
-Inv-loop head table list positions plan links state₀ values₀ set₀ cost₀ i₀ state values set cost i = Checking head table list plan state values set cost i
+Inv-loop head rows list positions plan adjacency state₀ values₀ set₀ cost₀ i₀ state values set cost i = Checking head rows list plan state values set cost i
 
 abbrev μ-loop : tie.MeasureT-loop
-μ-loop head table list positions plan links state₀ values₀ set₀ cost₀ i₀ state values set cost i = length plan - i
+μ-loop head rows list positions plan adjacency state₀ values₀ set₀ cost₀ i₀ state values set cost i = length plan - i
 
-link-steps-requires : tie.Need-link-steps-requires Inv-loop μ-loop
-link-steps-requires c κs = ready-listed (c .before .before .before .pre .0)
+adjacency-of-requires : tie.Need-adjacency-of-requires Inv-loop μ-loop
+adjacency-of-requires c κs = ready-listed (c .before .before .before .pre .0)
 
 formula-values-requires : tie.Need-formula-values-requires Inv-loop μ-loop
 formula-values-requires c κs = (c .before .before .before .before .pre .0 .size, c .before .before .before .before .pre .0 .job)
 
 closed-requires : tie.Need-closed-requires Inv-loop μ-loop
-closed-requires c κs = (c .before .before .start .ensures .1, (ready-listed (c .before .before .before .before .before .before .before .before .pre .0), c .before .before .before .before .link-steps .ensures))
+closed-requires c κs = (c .before .before .start .ensures .1, (ready-listed (c .before .before .before .before .before .before .before .before .pre .0), c .before .before .before .before .adjacency-of .ensures))
 
 loop-holds : tie.Need-loop-holds Inv-loop μ-loop
 loop-holds c = let room : length (c .before .before .before .before .formula-values .result) ≡ 255 = search needs in checking-start _ _ _ _ (c .before .before .before .before .before .before .before .before .before .pre .0) _ (c .before .before .before .before .formula-values .ensures) room _ _ (c .closed .ensures .1) (c .before .before .before .start .ensures .0) (c .closed .ensures .0)
@@ -39,13 +39,13 @@ formula-values-requires-2 : tie.Need-formula-values-requires-2 Inv-loop μ-loop
 formula-values-requires-2 c κs = (c .before .before .before .before .before .before .before .before .before .before .before .before .before .before .before .before .before .pre .0 .size, c .before .before .before .before .before .before .before .before .before .before .before .before .before .before .before .before .before .pre .0 .job)
 
 advanced-requires : tie.Need-advanced-requires Inv-loop μ-loop
-advanced-requires c κs = (c .before .before .before .before .before .before .before .before .before .loop .inv .counted, (ready-listed (c .before .before .before .before .before .before .before .before .before .before .before .before .before .before .before .before .before .before .before .pre .0), c .before .before .before .before .before .before .before .before .before .before .before .before .before .before .before .link-steps .ensures))
+advanced-requires c κs = (c .before .before .before .before .before .before .before .before .before .loop .inv .counted, (ready-listed (c .before .before .before .before .before .before .before .before .before .before .before .before .before .before .before .before .before .before .before .pre .0), c .before .before .before .before .before .before .before .before .before .before .before .before .before .before .before .adjacency-of .ensures))
 
 slice-aggregate-closed-3 : tie.Need-slice-aggregate-closed-3 Inv-loop μ-loop
-slice-aggregate-closed-3 c = search (needs, c .before .before .before .before .before .before .before .before .before .before .before .before .before .before .before .before .before .link-steps .ensures .size)
+slice-aggregate-closed-3 c = search (needs, c .before .before .before .before .before .before .before .before .before .before .before .before .before .before .before .before .before .adjacency-of .ensures .size)
 
 closed-requires-2 : tie.Need-closed-requires-2 Inv-loop μ-loop
-closed-requires-2 c κs = (c .before .before .advanced .ensures .1, (ready-listed (c .before .before .before .before .before .before .before .before .before .before .before .before .before .before .before .before .before .before .before .before .before .before .pre .0), c .before .before .before .before .before .before .before .before .before .before .before .before .before .before .before .before .before .before .link-steps .ensures))
+closed-requires-2 c κs = (c .before .before .advanced .ensures .1, (ready-listed (c .before .before .before .before .before .before .before .before .before .before .before .before .before .before .before .before .before .before .before .before .before .before .pre .0), c .before .before .before .before .before .before .before .before .before .before .before .before .before .before .before .before .before .before .adjacency-of .ensures))
 
 returns-2 : tie.Need-returns-2 Inv-loop μ-loop
 returns-2 c = checking-stuck _ _ _ _ (c .before .before .before .before .before .before .before .before .before .before .before .before .before .before .before .before .before .before .before .before .before .before .before .before .before .pre .0) _ _ _ _ _ (c .before .before .before .before .before .before .before .before .before .before .before .before .before .before .before .loop .inv) (c .before .before .before .before .before .before .before .before .before .before .before .before .before .before .loop-test .taken) (c .before .before .before .before .before .before .before .before .before .after .given .1) (c .before .before .before .before .before .before .before .before .before .before .before .successor .ensures) _ (c .before .before .before .before .before .before .before .formula-values2 .ensures) _ _ (c .before .before .before .before .before .advanced .ensures .0) (c .before .before .closed2 .ensures .0) (c .before .before .closed2 .ensures .1) (c .if1 .taken)
@@ -83,7 +83,7 @@ check-moves-spec =
     (tie.spec
     Inv-loop
     μ-loop
-    link-steps-requires
+    adjacency-of-requires
     formula-values-requires
     (λ c κs. search needs)
     (λ c. search needs)

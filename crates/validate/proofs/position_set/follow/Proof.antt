@@ -2,17 +2,17 @@ use Prim.Native.Nat.{_-_, _+_, _*_}
 use native.Mathlib.Omega.{arith}
 use lib.ListN.{getD}
 use Rattle.validate.specs.Positions.{wantedBy}
-use Rattle.validate.proofs.LinkLaws.{last-within}
+use Rattle.validate.proofs.AdjacencyLaws.{last-within}
 use Rattle.validate.proofs.FollowLaws.{Following, follow-start, follow-end, follow-more}
 use borrow.Author.Needs.{needs}
 use Rattle.validate.proofs.position_set.follow.Statement.{statement}
 use Rattle.validate.proofs.position_set.follow.Tie as tie
 
 abbrev Inv-loop : tie.InvT-loop
-Inv-loop marks₀ members₀ count list links values wanted p n₀ i h₀ marks members n h = Following (wantedBy wanted values) list p marks₀ members₀ count marks members n h
+Inv-loop marks₀ members₀ count list adjacency values wanted p n₀ i h₀ marks members n h = Following (wantedBy wanted values) list p marks₀ members₀ count marks members n h
 
 abbrev μ-loop : tie.MeasureT-loop
-μ-loop marks₀ members₀ count list links values wanted p n₀ i h₀ marks members n h = h
+μ-loop marks₀ members₀ count list adjacency values wanted p n₀ i h₀ marks members n h = h
 
 cast-h : tie.Need-cast-h Inv-loop μ-loop
 cast-h c = record { fits = omega (arith, c .before .before .shared-slice-known2 .given (c .before .before .before .before .before .before .args .p)) }

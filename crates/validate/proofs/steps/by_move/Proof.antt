@@ -13,7 +13,7 @@ returns-2 c = arrives-after _ _ _ _ (rw (c .before .before .after .given .1) at 
 returns-3 : tie.Need-returns-3
 returns-3 c =
     let a = c .before .before .before .before .args in
-    arrives-nowhere _ _ _ _ (successor-past (a .head) (a .table .now) (a .m) (a .state) (c .if1 .left))
+    arrives-nowhere _ _ _ _ (successor-past (a .head) (a .rows .now) (a .m) (a .state) (c .if1 .left))
 
 pub by-move-spec : {M : Type 1} → statement M
 by-move-spec =

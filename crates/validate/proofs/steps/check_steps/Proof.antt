@@ -13,11 +13,11 @@ use Rattle.validate.proofs.steps.check_steps.Statement.{statement}
 use Rattle.validate.proofs.steps.check_steps.Tie as tie
 
 abbrev Inv-loop : tie.InvT-loop
-Inv-loop head table list positions plan state₀ position₀ cost₀ i₀ state position cost i =
-    Stepping (domainOf (jobOf head table)) mostCost (stepsOf (jobOf head table)) (positions - 1) plan state position cost i
+Inv-loop head rows list positions plan state₀ position₀ cost₀ i₀ state position cost i =
+    Stepping (domainOf (jobOf head rows)) mostCost (stepsOf (jobOf head rows)) (positions - 1) plan state position cost i
 
 abbrev μ-loop : tie.MeasureT-loop
-μ-loop head table list positions plan state₀ position₀ cost₀ i₀ state position cost i = length plan - i
+μ-loop head rows list positions plan state₀ position₀ cost₀ i₀ state position cost i = length plan - i
 
 loop-holds : tie.Need-loop-holds Inv-loop μ-loop
 loop-holds c = stepping-start (job-bounded (c .before .before .before .pre .0))

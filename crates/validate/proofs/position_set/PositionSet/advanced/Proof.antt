@@ -9,10 +9,10 @@ use Rattle.validate.proofs.position_set.PositionSet.advanced.Statement.
 use Rattle.validate.proofs.position_set.PositionSet.advanced.Tie as tie
 
 abbrev Inv-loop : tie.InvT-loop
-Inv-loop list links m old n values marks₀ members₀ count₀ i₀ marks members count i = Advancing (wantedBy (Move m) values) list old n marks members count i
+Inv-loop list adjacency m old n values marks₀ members₀ count₀ i₀ marks members count i = Advancing (wantedBy (Move m) values) list old n marks members count i
 
 abbrev μ-loop : tie.MeasureT-loop
-μ-loop list links m old n values marks₀ members₀ count₀ i₀ marks members count i = n - i
+μ-loop list adjacency m old n values marks₀ members₀ count₀ i₀ marks members count i = n - i
 
 loop-holds : tie.Need-loop-holds Inv-loop μ-loop
 loop-holds c = advancing-start _ _ _ _ _ (length-replicate {A = ℕ} 256 0)

@@ -8,10 +8,10 @@ use Rattle.validate.proofs.position_set.PositionSet.closed.Statement.{s
 use Rattle.validate.proofs.position_set.PositionSet.closed.Tie as tie
 
 abbrev Inv-loop : tie.InvT-loop
-Inv-loop list links values marks₀ members₀ count₀ at₀ marks members count at = Closing (wantedBy Silent values) list marks₀ marks members count at
+Inv-loop list adjacency values marks₀ members₀ count₀ at₀ marks members count at = Closing (wantedBy Silent values) list marks₀ marks members count at
 
 abbrev μ-loop : tie.MeasureT-loop
-μ-loop list links values marks₀ members₀ count₀ at₀ marks members count at = 256 - at
+μ-loop list adjacency values marks₀ members₀ count₀ at₀ marks members count at = 256 - at
 
 loop-holds : tie.Need-loop-holds Inv-loop μ-loop
 loop-holds c = closing-start _ _ _ (c .before .before .before .before .before .pre .0)

@@ -10,22 +10,22 @@ use Rattle.semantics.specs.Cells.{sum}
 use Rattle.semantics.proofs.Totals.{total-same, total-but, total-set}
 use Rattle.semantics.proofs.CellLaws.{sum-falls}
 use Rattle.sweep.specs.Queue.{SameKeys, Lowered}
-use Rattle.sweep.specs.Rows.{height}
+use Rattle.sweep.specs.Scans.{potential}
 
 abbrev gap : ℕ → ℕ
 gap x = unreached - x
 
 -- an entry lowered, and then a key
 pub store-falls : (n : ℕ) (T queue queue′ : List ℕ) (v x t y : ℕ) → n ≤ 4096 → v < length T → x < getD T v 0 → t < n → Lowered t y queue queue′
-    → height n (set T v x) queue′ < height n T queue
+    → potential n (set T v x) queue′ < potential n T queue
 store-falls n T queue queue′ v x t y few room less inside low =
     omega (arith, sum-falls T v x room less, total-but gap queue queue′ t n inside (λ k h e. low .others k (omega arith) e))
 
 -- the keys are the same
-pub order-keeps : (n : ℕ) (T queue queue′ : List ℕ) → n ≤ 4096 → SameKeys queue queue′ → height n T queue′ ≡ height n T queue
+pub order-keeps : (n : ℕ) (T queue queue′ : List ℕ) → n ≤ 4096 → SameKeys queue queue′ → potential n T queue′ ≡ potential n T queue
 order-keeps n T queue queue′ few same = ap (λ (k : ℕ). sum T * 4294967296 + k) (total-same gap queue queue′ n (λ k h. same .keys k (omega arith)))
 
 -- a key taken back, and one set
 pub key-gap : (n : ℕ) (T queue : List ℕ) (s k : ℕ) → s < length queue → s < n
-    → height n T (set queue s k) + (unreached - getD queue s 0) ≡ height n T queue + (unreached - k)
+    → potential n T (set queue s k) + (unreached - getD queue s 0) ≡ potential n T queue + (unreached - k)
 key-gap n T queue s k room inside = omega (arith, total-set gap queue s k n room inside)

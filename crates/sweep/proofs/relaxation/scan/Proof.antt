@@ -6,20 +6,20 @@ use Rattle.job.specs.StateCount.{stateCount}
 use Rattle.job.specs.Store.{jobOf}
 use Rattle.semantics.proofs.CellLaws.{runs-length}
 use Rattle.domain.specs.Domain.{domainOf}
-use Rattle.sweep.specs.Successors.{Known}
-use Rattle.sweep.specs.Rows.{graphOf}
+use Rattle.sweep.specs.Successors.{Cached}
+use Rattle.sweep.specs.Scans.{graphOf}
 use Rattle.sweep.proofs.StepLaws.{link-below, next-less}
-use Rattle.sweep.proofs.DepartureLaws.{cell-room, Departing, departed-none, departing-start, departing-end, departing-step, sweep-on}
+use Rattle.sweep.proofs.RelaxationLaws.{cell-room, Scanning, scanned-none, scanning-start, scanning-end, scanning-step, sweep-on}
 use borrow.Author.Needs.{needs}
-use Rattle.sweep.proofs.departures.depart.Statement.{statement}
-use Rattle.sweep.proofs.departures.depart.Tie as tie
+use Rattle.sweep.proofs.relaxation.scan.Statement.{statement}
+use Rattle.sweep.proofs.relaxation.scan.Tie as tie
 
 abbrev Inv-loop : tie.InvT-loop
-Inv-loop costs₀ queue₀ known₀ marks₀ head rows list links values positions state k p x next₀ h₀ costs queue known marks next h =
-    Departing (graphOf head rows list positions) (stateCount (head .counts .facts)) state k x p list costs₀ queue₀ costs queue marks next h × Known (domainOf (jobOf head rows)) state known
+Inv-loop costs₀ queue₀ known₀ marks₀ head rows list adjacency values positions state k p x next₀ h₀ costs queue cache marks next h =
+    Scanning (graphOf head rows list positions) (stateCount (head .counts .facts)) state k x p list costs₀ queue₀ costs queue marks next h × Cached (domainOf (jobOf head rows)) state cache
 
 abbrev μ-loop : tie.MeasureT-loop
-μ-loop costs₀ queue₀ known₀ marks₀ head rows list links values positions state k p x next₀ h₀ costs queue known marks next h = h
+μ-loop costs₀ queue₀ known₀ marks₀ head rows list adjacency values positions state k p x next₀ h₀ costs queue cache marks next h = h
 
 cell-requires : tie.Need-cell-requires Inv-loop μ-loop
 cell-requires c κs = (c .before .before .before .before .before .before .before .before .pre .1 .0 .0 .few, c .before .before .before .before .before .before .before .before .pre .1 .0 .1)
@@ -37,7 +37,7 @@ slice-read-is-idle : tie.Need-slice-read-is-idle Inv-loop μ-loop
 slice-read-is-idle c = omega (arith, c .before .before .before .before .before .before .before .before .before .before .before .pre .1 .0 .1, c .before .before .before .before .before .before .before .before .before .before .before .pre .1 .0 .0 .few, c .before .before .before .before .before .before .before .before .before .before .before .pre .1 .0 .2)
 
 returns : tie.Need-returns Inv-loop μ-loop
-returns c = (departed-none (c .before .before .before .before .before .before .before .before .before .before .before .before .before .pre .0 .0) (c .before .before .before .before .before .before .before .before .before .before .before .before .before .pre .1 .0 .0) _ _ (c .before .before .before .before .before .before .before .before .before .before .before .before .before .pre .1 .0 .1) _ (c .before .before .before .before .before .before .before .before .before .before .before .before .before .pre .1 .0 .2) (c .before .before .before .before .before .before .before .before .before .before .before .before .before .pre .1 .1) (ap (λ (i : ℕ). getD (c .before .before .before .before .before .before .before .before .before .before .before .before .before .args .costs .now) i 0) (c .before .before .before .before .cell .ensures)) (c .before .is-idle .ensures) (c .if1 .taken), c .before .before .before .before .before .before .before .before .before .before .before .before .before .pre .1 .0 .0 .standing .successors)
+returns c = (scanned-none (c .before .before .before .before .before .before .before .before .before .before .before .before .before .pre .0 .0) (c .before .before .before .before .before .before .before .before .before .before .before .before .before .pre .1 .0 .0) _ _ (c .before .before .before .before .before .before .before .before .before .before .before .before .before .pre .1 .0 .1) _ (c .before .before .before .before .before .before .before .before .before .before .before .before .before .pre .1 .0 .2) (c .before .before .before .before .before .before .before .before .before .before .before .before .before .pre .1 .1) (ap (λ (i : ℕ). getD (c .before .before .before .before .before .before .before .before .before .before .before .before .before .args .costs .now) i 0) (c .before .before .before .before .cell .ensures)) (c .before .is-idle .ensures) (c .if1 .taken), c .before .before .before .before .before .before .before .before .before .before .before .before .before .pre .1 .0 .0 .standing .successors)
 
 slice-write-marks : tie.Need-slice-write-marks Inv-loop μ-loop
 slice-write-marks c = omega (arith, c .before .before .before .before .before .before .before .before .before .before .before .before .before .pre .1 .0 .1, c .before .before .before .before .before .before .before .before .before .before .before .before .before .pre .1 .0 .0 .few, c .before .before .before .before .before .before .before .before .before .before .before .before .before .pre .1 .0 .2)
@@ -46,7 +46,7 @@ link-at-requires : tie.Need-link-at-requires Inv-loop μ-loop
 link-at-requires c κs = omega (arith, c .before .before .before .before .before .before .before .before .before .before .before .before .before .pre .0 .1 .linked .size, c .before .before .before .before .before .before .before .before .before .before .before .before .before .pre .1 .0 .1, c .before .before .before .before .before .before .before .before .before .before .before .before .before .pre .0 .1 .few)
 
 loop-holds : tie.Need-loop-holds Inv-loop μ-loop
-loop-holds c = (departing-start (c .before .before .before .before .before .before .before .before .before .before .before .before .before .before .pre .0 .0) (c .before .before .before .before .before .before .before .before .before .before .before .before .before .before .pre .1 .0 .0) _ _ (c .before .before .before .before .before .before .before .before .before .before .before .before .before .before .pre .1 .0 .1) _ (c .before .before .before .before .before .before .before .before .before .before .before .before .before .before .pre .1 .0 .2) (c .before .before .before .before .before .before .before .before .before .before .before .before .before .before .pre .1 .1) (ap (λ (i : ℕ). getD (c .before .before .before .before .before .before .before .before .before .before .before .before .before .before .args .costs .now) i 0) (c .before .before .before .before .before .cell .ensures)) (c .before .before .is-idle .ensures) (c .before .if1 .left) (c .link-at .ensures ∙ c .before .before .before .before .before .before .before .before .before .before .before .before .before .before .pre .0 .1 .linked .last _ (omega (arith, c .before .before .before .before .before .before .before .before .before .before .before .before .before .before .pre .1 .0 .1, c .before .before .before .before .before .before .before .before .before .before .before .before .before .before .pre .0 .1 .few))), c .before .before .before .before .before .before .before .before .before .before .before .before .before .before .pre .1 .0 .0 .standing .successors)
+loop-holds c = (scanning-start (c .before .before .before .before .before .before .before .before .before .before .before .before .before .before .pre .0 .0) (c .before .before .before .before .before .before .before .before .before .before .before .before .before .before .pre .1 .0 .0) _ _ (c .before .before .before .before .before .before .before .before .before .before .before .before .before .before .pre .1 .0 .1) _ (c .before .before .before .before .before .before .before .before .before .before .before .before .before .before .pre .1 .0 .2) (c .before .before .before .before .before .before .before .before .before .before .before .before .before .before .pre .1 .1) (ap (λ (i : ℕ). getD (c .before .before .before .before .before .before .before .before .before .before .before .before .before .before .args .costs .now) i 0) (c .before .before .before .before .before .cell .ensures)) (c .before .before .is-idle .ensures) (c .before .if1 .left) (c .link-at .ensures ∙ c .before .before .before .before .before .before .before .before .before .before .before .before .before .before .pre .0 .1 .linked .last _ (omega (arith, c .before .before .before .before .before .before .before .before .before .before .before .before .before .before .pre .1 .0 .1, c .before .before .before .before .before .before .before .before .before .before .before .before .before .before .pre .0 .1 .few))), c .before .before .before .before .before .before .before .before .before .before .before .before .before .before .pre .1 .0 .0 .standing .successors)
 
 step-at-requires : tie.Need-step-at-requires Inv-loop μ-loop
 step-at-requires c κs = link-below _ _ (c .before .loop .inv .0 .link) (c .before .loop .h - 1) (omega (arith, c .loop-test .taken))
@@ -64,7 +64,7 @@ loop-less : tie.Need-loop-less Inv-loop μ-loop
 loop-less c = next-less _ _ (c .before .before .before .before .before .before .before .before .before .before .before .before .before .before .before .before .loop .inv .0 .link) (c .before .before .before .before .before .before .before .before .before .before .before .before .before .before .before .before .loop .h - 1) (omega (arith, c .before .before .before .before .before .before .before .before .before .before .before .before .before .before .before .loop-test .taken)) (c .link-at2 .ensures ∙ c .before .before .before .before .before .before .before .before .before .before .before .before .before .before .before .before .before .before .before .before .before .before .before .before .before .before .before .before .before .before .before .pre .0 .1 .linked .before _ (link-below _ _ (c .before .before .before .before .before .before .before .before .before .before .before .before .before .before .before .before .loop .inv .0 .link) (c .before .before .before .before .before .before .before .before .before .before .before .before .before .before .before .before .loop .h - 1) (omega (arith, c .before .before .before .before .before .before .before .before .before .before .before .before .before .before .before .loop-test .taken))))
 
 loop-again : tie.Need-loop-again Inv-loop μ-loop
-loop-again c = (departing-step (c .before .before .before .before .before .before .before .before .before .before .before .before .before .before .before .before .before .before .before .before .before .before .before .before .before .before .before .before .before .before .before .pre .0 .0) (c .before .before .before .before .before .before .before .before .before .before .before .before .before .before .before .before .before .before .before .before .before .before .before .before .before .before .before .before .before .before .before .pre .1 .0 .0) _ _ (c .before .before .before .before .before .before .before .before .before .before .before .before .before .before .before .before .before .before .before .before .before .before .before .before .before .before .before .before .before .before .before .pre .1 .0 .1) (c .before .before .before .before .before .before .before .before .before .before .before .before .before .before .before .before .loop .inv .0) (c .before .before .before .before .before .before .before .before .before .before .before .before .before .before .before .before .loop .h - 1) (omega (arith, c .before .before .before .before .before .before .before .before .before .before .before .before .before .before .before .loop-test .taken)) (c .before .before .before .before .before .before .before .before .before .before .before .before .before .before .step-at .ensures) (c .link-at2 .ensures ∙ c .before .before .before .before .before .before .before .before .before .before .before .before .before .before .before .before .before .before .before .before .before .before .before .before .before .before .before .before .before .before .before .pre .0 .1 .linked .before _ (link-below _ _ (c .before .before .before .before .before .before .before .before .before .before .before .before .before .before .before .before .loop .inv .0 .link) (c .before .before .before .before .before .before .before .before .before .before .before .before .before .before .before .before .loop .h - 1) (omega (arith, c .before .before .before .before .before .before .before .before .before .before .before .before .before .before .before .loop-test .taken)))) (c .before .before .before .before .before .before .before .before .before .follow .ensures .0), c .before .before .before .before .before .before .before .before .before .follow .ensures .1)
+loop-again c = (scanning-step (c .before .before .before .before .before .before .before .before .before .before .before .before .before .before .before .before .before .before .before .before .before .before .before .before .before .before .before .before .before .before .before .pre .0 .0) (c .before .before .before .before .before .before .before .before .before .before .before .before .before .before .before .before .before .before .before .before .before .before .before .before .before .before .before .before .before .before .before .pre .1 .0 .0) _ _ (c .before .before .before .before .before .before .before .before .before .before .before .before .before .before .before .before .before .before .before .before .before .before .before .before .before .before .before .before .before .before .before .pre .1 .0 .1) (c .before .before .before .before .before .before .before .before .before .before .before .before .before .before .before .before .loop .inv .0) (c .before .before .before .before .before .before .before .before .before .before .before .before .before .before .before .before .loop .h - 1) (omega (arith, c .before .before .before .before .before .before .before .before .before .before .before .before .before .before .before .loop-test .taken)) (c .before .before .before .before .before .before .before .before .before .before .before .before .before .before .step-at .ensures) (c .link-at2 .ensures ∙ c .before .before .before .before .before .before .before .before .before .before .before .before .before .before .before .before .before .before .before .before .before .before .before .before .before .before .before .before .before .before .before .pre .0 .1 .linked .before _ (link-below _ _ (c .before .before .before .before .before .before .before .before .before .before .before .before .before .before .before .before .loop .inv .0 .link) (c .before .before .before .before .before .before .before .before .before .before .before .before .before .before .before .before .loop .h - 1) (omega (arith, c .before .before .before .before .before .before .before .before .before .before .before .before .before .before .before .loop-test .taken)))) (c .before .before .before .before .before .before .before .before .before .follow .ensures .0), c .before .before .before .before .before .before .before .before .before .follow .ensures .1)
 
 same-length : tie.Need-same-length Inv-loop μ-loop
 same-length c = runs-length (c .before .loop .inv .0 .runs)
@@ -79,10 +79,10 @@ same-length-4 : tie.Need-same-length-4 Inv-loop μ-loop
 same-length-4 c = c .before .loop .inv .0 .width ∙ sym (c .before .before .before .before .before .before .before .before .before .before .before .before .before .before .before .before .pre .1 .0 .2)
 
 returns-2 : tie.Need-returns-2 Inv-loop μ-loop
-returns-2 c = (departing-end (c .before .before .before .before .before .before .before .before .before .before .before .before .before .before .before .before .pre .0 .0) (c .before .before .before .before .before .before .before .before .before .before .before .before .before .before .before .before .pre .1 .0 .0) _ _ (c .before .before .before .before .before .before .before .before .before .before .before .before .before .before .before .before .pre .1 .0 .1) (c .before .loop .inv .0) (omega (arith, c .loop-test .left)), c .before .loop .inv .1)
+returns-2 c = (scanning-end (c .before .before .before .before .before .before .before .before .before .before .before .before .before .before .before .before .pre .0 .0) (c .before .before .before .before .before .before .before .before .before .before .before .before .before .before .before .before .pre .1 .0 .0) _ _ (c .before .before .before .before .before .before .before .before .before .before .before .before .before .before .before .before .pre .1 .0 .1) (c .before .loop .inv .0) (omega (arith, c .loop-test .left)), c .before .loop .inv .1)
 
-pub depart-spec : {M : Type 1} → statement M
-depart-spec =
+pub scan-spec : {M : Type 1} → statement M
+scan-spec =
     tie.close
     (tie.spec
     Inv-loop

@@ -26,23 +26,23 @@ use Rattle.semantics.proofs.CellLaws.{cell-below, edge-within, relaxed-store, r
 use Rattle.domain.specs.Domain.{domainOf}
 use Rattle.domain.proofs.DomainLaws.{domain-bounded}
 use Rattle.domain.specs.Cost.{mostCost}
-use Rattle.validate.specs.Links.{lastFrom}
+use Rattle.validate.specs.Adjacency.{lastFrom}
 use Rattle.validate.specs.Ready.{Ready}
 use Rattle.sweep.specs.Cells.{Idle, followed, low, far, due}
 use Rattle.sweep.specs.Queue.{Queue, Lowered}
-use Rattle.sweep.specs.Successors.{Known}
+use Rattle.sweep.specs.Successors.{Cached}
 use Rattle.sweep.specs.Targets.{Standing, Leads}
-use Rattle.sweep.specs.Rows.{graphOf, Only, passed, marked, Followed, below, past, height}
-use Rattle.sweep.specs.Departures.{Sweep, Arriving, kept, within, lowered, Stepped, stays, leads, Departed}
-use Rattle.sweep.proofs.StepLaws.{Link, first-link, first-last, link-step, next-link, link-steps}
+use Rattle.sweep.specs.Scans.{graphOf, Only, passed, marked, Processed, below, past, potential}
+use Rattle.sweep.specs.Relaxation.{Sweep, Relaxing, kept, within, lowered, Stepped, stays, leads, Scanned}
+use Rattle.sweep.proofs.StepLaws.{Link, first-link, first-last, link-step, next-link, adjacency-of}
 use Rattle.sweep.proofs.GraphLaws.{graph-closed}
-use Rattle.sweep.proofs.HeightLaws.{store-falls}
+use Rattle.sweep.proofs.PotentialLaws.{store-falls}
 
 pub cell-room : (positions t q states : ℕ) {size : ℕ} → t < states → q < positions → states * positions ≤ size → cell positions t q < size
 cell-room positions t q states a b h = omega (arith, cell-below positions t q states a b)
 
 -- what arriving at a target requires
-pub arrival-fits : {head : Head} {rows : List ℕ} {values : List Bool} {positions state : ℕ} {T queue known : List ℕ} → Sweep head rows values positions state T queue known
+pub arrival-fits : {head : Head} {rows : List ℕ} {values : List Bool} {positions state : ℕ} {T queue cache : List ℕ} → Sweep head rows values positions state T queue cache
     → {l : Label} {t c n q : ℕ} → Leads (domainOf (jobOf head rows)) l state t c → n ≡ stateCount (head .counts .facts) → q < positions → (marks : List Bool) → length marks ≡ 256
     → Queue queue n × (t < n) × (q < positions) × (positions ≤ 256) × (n * positions ≤ length T) × (length marks ≡ 256)
 arrival-fits {head} {rows} {state = state} x y is inside marks width = rw is (
@@ -54,14 +54,14 @@ arrival-fits {head} {rows} {state = state} x y is inside marks width = rw is (
   width,
 )
 
--- what is worked out in a state, as more successors become known
-standing-on : {head : Head} {rows : List ℕ} {values : List Bool} {state : ℕ} {known known′ : List ℕ} → Standing head rows values state known
-    → Known (domainOf (jobOf head rows)) state known′ → Standing head rows values state known′
+-- what is worked out in a state, as more successors become cache
+standing-on : {head : Head} {rows : List ℕ} {values : List Bool} {state : ℕ} {cache known′ : List ℕ} → Standing head rows values state cache
+    → Cached (domainOf (jobOf head rows)) state known′ → Standing head rows values state known′
 standing-on x k = record { size = x .size; job = x .job; told = x .told; inside = x .inside; successors = k }
 
 -- the state's row after stores
-pub sweep-on : {head : Head} {rows : List ℕ} {values : List Bool} {positions state : ℕ} {T queue known U queue′ known′ : List ℕ}
-    → Sweep head rows values positions state T queue known → length U ≡ length T → length queue′ ≡ length queue → Known (domainOf (jobOf head rows)) state known′
+pub sweep-on : {head : Head} {rows : List ℕ} {values : List Bool} {positions state : ℕ} {T queue cache U queue′ known′ : List ℕ}
+    → Sweep head rows values positions state T queue cache → length U ≡ length T → length queue′ ≡ length queue → Cached (domainOf (jobOf head rows)) state known′
     → Sweep head rows values positions state U queue′ known′
 sweep-on x a b k = record {
   standing = standing-on (x .standing) k;
@@ -91,7 +91,7 @@ keys-fall {t} {queue = queue} {queue′} x s h = elim (ℕ-discrete s t) [
 ]
 
 -- the steps from p, whose cell is at x, with number h and above are followed
-pub record Departing (G : Graph) (n w k x p : ℕ) (list T₀ queue₀ T queue : List ℕ) (marks : List Bool) (next h : ℕ) : Type 0 where
+pub record Scanning (G : Graph) (n w k x p : ℕ) (list T₀ queue₀ T queue : List ℕ) (marks : List Bool) (next h : ℕ) : Type 0 where
   pub runs : Runs G T₀ T
   pub size : length queue ≡ length queue₀
   pub width : length marks ≡ 256
@@ -101,11 +101,11 @@ pub record Departing (G : Graph) (n w k x p : ℕ) (list T₀ queue₀ T queue :
   pub link : Link list p h
   pub low : next ≤ p + 1
   pub falls : sum T * 257 + (p + 1) ≤ sum T₀ * 257 + next
-  pub less : height n T queue ≤ height n T₀ queue₀
-  pub relaxed : Relaxed G (Only queue w (Followed k next marks p h)) T
+  pub less : potential n T queue ≤ potential n T₀ queue₀
+  pub relaxed : Relaxed G (Only queue w (Processed k next marks p h)) T
 
-module _ {head : Head} {rows list : List ℕ} {values : List Bool} {positions w : ℕ} {T₀ queue₀ known : List ℕ} (ready : Ready head rows list positions)
-    (row : Sweep head rows values positions w T₀ queue₀ known) (k p : ℕ) (p-inside : p < positions) where
+module _ {head : Head} {rows list : List ℕ} {values : List Bool} {positions w : ℕ} {T₀ queue₀ cache : List ℕ} (ready : Ready head rows list positions)
+    (row : Sweep head rows values positions w T₀ queue₀ cache) (k p : ℕ) (p-inside : p < positions) where
   abbrev D : Domain
   D = domainOf (jobOf head rows)
 
@@ -118,10 +118,10 @@ module _ {head : Head} {rows list : List ℕ} {values : List Bool} {positions w 
   inside : Closed G mostCost
   inside = graph-closed ready
 
-  module _ (marks₀ : List Bool) (width : length marks₀ ≡ 256) (R : Relaxed G (Only queue₀ w (Followed k p marks₀ 0 0)) T₀) where
+  module _ (marks₀ : List Bool) (width : length marks₀ ≡ 256) (R : Relaxed G (Only queue₀ w (Processed k p marks₀ 0 0)) T₀) where
     -- there is nothing to follow
-    pub departed-none : {x : ℕ} {on : Bool} → x ≡ getD T₀ (w * positions + p) 0 → Idle (getD marks₀ p false) k x on → on ≡ true → Departed G n w k p T₀ queue₀ T₀ queue₀ marks₀ (p + 1)
-    departed-none {x} here idle is = record {
+    pub scanned-none : {x : ℕ} {on : Bool} → x ≡ getD T₀ (w * positions + p) 0 → Idle (getD marks₀ p false) k x on → on ≡ true → Scanned G n w k p T₀ queue₀ T₀ queue₀ marks₀ (p + 1)
+    scanned-none {x} here idle is = record {
       runs = none;
       size = refl;
       width = width;
@@ -151,9 +151,9 @@ module _ {head : Head} {rows list : List ℕ} {values : List Bool} {positions w 
       );
     }
 
-    pub departing-start : {x h : ℕ} {on : Bool} → x ≡ getD T₀ (w * positions + p) 0 → Idle (getD marks₀ p false) k x on → on ≡ false → h ≡ lastFrom list p (length list / 4)
-        → Departing G n w k x p list T₀ queue₀ T₀ queue₀ (set marks₀ p true) (p + 1) h
-    departing-start here idle is e = record {
+    pub scanning-start : {x h : ℕ} {on : Bool} → x ≡ getD T₀ (w * positions + p) 0 → Idle (getD marks₀ p false) k x on → on ≡ false → h ≡ lastFrom list p (length list / 4)
+        → Scanning G n w k x p list T₀ queue₀ T₀ queue₀ (set marks₀ p true) (p + 1) h
+    scanning-start here idle is e = record {
       runs = none;
       size = refl;
       width = length-set marks₀ p true ∙ width;
@@ -179,9 +179,9 @@ module _ {head : Head} {rows list : List ℕ} {values : List Bool} {positions w 
       );
     }
 
-  pub departing-end : {x : ℕ} {T queue : List ℕ} {marks : List Bool} {next h : ℕ} → Departing G n w k x p list T₀ queue₀ T queue marks next h → h ≡ 0
-      → Departed G n w k p T₀ queue₀ T queue marks next
-  departing-end x e = record {
+  pub scanning-end : {x : ℕ} {T queue : List ℕ} {marks : List Bool} {next h : ℕ} → Scanning G n w k x p list T₀ queue₀ T queue marks next h → h ≡ 0
+      → Scanned G n w k p T₀ queue₀ T queue marks next
+  scanning-end x e = record {
     runs = x .runs;
     size = x .size;
     width = x .width;
@@ -195,8 +195,8 @@ module _ {head : Head} {rows list : List ℕ} {values : List Bool} {positions w 
     );
   }
 
-  module _ {x : ℕ} {T queue : List ℕ} {marks : List Bool} {next h g : ℕ} (X : Departing G n w k x p list T₀ queue₀ T queue marks next h) (j : ℕ) (e : h ≡ suc j)
-      (links : g ≡ lastFrom list (getD list (j * 4 + 1) 0) j) where
+  module _ {x : ℕ} {T queue : List ℕ} {marks : List Bool} {next h g : ℕ} (X : Scanning G n w k x p list T₀ queue₀ T queue marks next h) (j : ℕ) (e : h ≡ suc j)
+      (adjacency : g ≡ lastFrom list (getD list (j * 4 + 1) 0) j) where
     abbrev to : ℕ
     to = getD list (j * 4 + 2) 0
 
@@ -204,15 +204,15 @@ module _ {head : Head} {rows list : List ℕ} {values : List Bool} {positions w 
     lab = labelIn (getD list (j * 4) 0) (getD list (j * 4 + 3) 0)
 
     -- step j, which was followed, lowers nothing any more
-    advance : (U queue′ : List ℕ) (marks′ : List Bool) (r : ℕ) → entry G U w p ≡ x → Relaxed G (Only queue′ w (Followed k r marks′ p h)) U
-        → ((t : ℕ) (ks : List ℕ) → Does D lab w ks t → entry G U t to ≤ x + cost D w ks) → Relaxed G (Only queue′ w (Followed k r marks′ p g)) U
+    advance : (U queue′ : List ℕ) (marks′ : List Bool) (r : ℕ) → entry G U w p ≡ x → Relaxed G (Only queue′ w (Processed k r marks′ p h)) U
+        → ((t : ℕ) (ks : List ℕ) → Does D lab w ks t → entry G U t to ≤ x + cost D w ks) → Relaxed G (Only queue′ w (Processed k r marks′ p g)) U
     advance U queue′ marks′ r here R at-j i s m t q c l d claim = elim (ℕ-discrete s w) [
       | no a ↦ R i s m t q c l d (claim .0, λ y. absurd (a y))
       | yes a ↦ elim (claim .1 a) [
         | below f ↦ R i s m t q c l d (claim .0, λ _. below f)
         | past b f ↦ elim (ℕ-discrete m p) [
           | no o ↦ R i s m t q c l d (claim .0, λ _. past b (λ y. absurd (o y)))
-          | yes o ↦ elim (link-steps list p (X .link) j e links i (f o) (rw o at (d .step))) [
+          | yes o ↦ elim (adjacency-of list p (X .link) j e adjacency i (f o) (rw o at (d .step))) [
             | inr u ↦ R i s m t q c l d (claim .0, λ _. past b (λ _. u))
             | inl u ↦ (
                 let at = steps-only (length list / 4) list (rw u at (d .step)) in
@@ -228,7 +228,7 @@ module _ {head : Head} {rows list : List ℕ} {values : List Bool} {positions w 
     ]
 
     -- nothing was lowered
-    unmoved : ((t : ℕ) (ks : List ℕ) → Does D lab w ks t → entry G T t to ≤ x + cost D w ks) → Departing G n w k x p list T₀ queue₀ T queue marks next g
+    unmoved : ((t : ℕ) (ks : List ℕ) → Does D lab w ks t → entry G T t to ≤ x + cost D w ks) → Scanning G n w k x p list T₀ queue₀ T queue marks next g
     unmoved at-j = record {
       runs = X .runs;
       size = X .size;
@@ -236,7 +236,7 @@ module _ {head : Head} {rows list : List ℕ} {values : List Bool} {positions w 
       key = X .key;
       due = X .due;
       here = X .here;
-      link = next-link list p (X .link) j e links;
+      link = next-link list p (X .link) j e adjacency;
       low = X .low;
       falls = X .falls;
       less = X .less;
@@ -258,8 +258,8 @@ module _ {head : Head} {rows list : List ℕ} {values : List Bool} {positions w 
 
       -- the cell lowered
       moved : {queue′ : List ℕ} {marks′ : List Bool} {r : ℕ} → x + c < getD T v 0 → length queue′ ≡ length queue → length marks′ ≡ length marks → getD queue′ w 0 ≤ getD queue w 0
-          → r ≤ next → height n U queue′ < height n T queue → Relaxed G (Only queue′ w (Followed k r marks′ p h)) U
-          → Departing G n w k x p list T₀ queue₀ U queue′ marks′ r g
+          → r ≤ next → potential n U queue′ < potential n T queue → Relaxed G (Only queue′ w (Processed k r marks′ p h)) U
+          → Scanning G n w k x p list T₀ queue₀ U queue′ marks′ r g
       moved {queue′} {marks′} {r} lower size same key at-next less R =
           let stays-at : entry G U w p ≡ x = getD-set-other T v (cell positions w p) (x + c) 0 (λ z. omega (arith, X .here, ap (λ (o : ℕ). getD T o 0) z)) ∙ X .here in
           record {
@@ -269,7 +269,7 @@ module _ {head : Head} {rows list : List ℕ} {values : List Bool} {positions w 
             key = omega (arith, X .key);
             due = X .due;
             here = stays-at;
-            link = next-link list p (X .link) j e links;
+            link = next-link list p (X .link) j e adjacency;
             low = omega (arith, X .low);
             falls = omega (arith, X .falls, X .low, row .few, sum-falls T v (x + c) room-at lower);
             less = omega (arith, X .less);
@@ -280,17 +280,17 @@ module _ {head : Head} {rows list : List ℕ} {values : List Bool} {positions w 
                 ));
           }
 
-      arrived : {T′ queue′ : List ℕ} {marks′ : List Bool} {r : ℕ} → Arriving w t to v x c next T queue marks T′ queue′ marks′ r
-          → Departing G n w k x p list T₀ queue₀ T′ queue′ marks′ r g
-      arrived (kept under) = unmoved (λ u ks d. (
+      relaxed-to : {T′ queue′ : List ℕ} {marks′ : List Bool} {r : ℕ} → Relaxing w t to v x c next T queue marks T′ queue′ marks′ r
+          → Scanning G n w k x p list T₀ queue₀ T′ queue′ marks′ r g
+      relaxed-to (kept under) = unmoved (λ u ks d. (
           let z = L .alone u ks d in
           let at : entry G T u to ≡ getD T v 0 = rw (z .0) refl in
           omega (arith, at, under, z .1)
           ))
-      arrived (within {r} lower own at-q at-next) =
+      relaxed-to (within {r} lower own at-q at-next) =
           let bound : to < length marks = omega (arith, edge-within inside edge .end, X .width) in
           moved lower refl (length-set marks to false) (omega arith) at-next (omega (arith, sum-falls T v (x + c) room-at lower))
-          (relaxed-store inside (Only queue w (Followed k next marks p h)) (Only queue w (Followed k r (set marks to false) p h)) T t to (x + c) (X .relaxed) room-at
+          (relaxed-store inside (Only queue w (Processed k next marks p h)) (Only queue w (Processed k r (set marks to false) p h)) T t to (x + c) (X .relaxed) room-at
           (edge-within inside edge .end) (omega arith)
           (λ i s m z l _ claim. (
             claim .0,
@@ -309,22 +309,22 @@ module _ {head : Head} {rows list : List ℕ} {values : List Bool} {positions w 
             | below a ↦ omega (arith, X .due)
             | past a _ ↦ elim a [ passed b _ ↦ omega arith | marked b ↦ never (sym (getD-set-same marks to false false bound) ∙ b) ]
           ]))
-      arrived (lowered {queue′} lower key) =
+      relaxed-to (lowered {queue′} lower key) =
           moved lower (key .size) refl (keys-fall key w (omega (arith, row .standing .inside, row .keys .few))) (omega arith)
           (store-falls n T queue queue′ v (x + c) t (x + c) (row .keys .few) room-at lower (omega (arith, edge-within inside edge .state)) key)
-          (relaxed-store inside (Only queue w (Followed k next marks p h)) (Only queue′ w (Followed k next marks p h)) T t to (x + c) (X .relaxed) room-at
+          (relaxed-store inside (Only queue w (Processed k next marks p h)) (Only queue′ w (Processed k next marks p h)) T t to (x + c) (X .relaxed) room-at
           (edge-within inside edge .end) (omega arith)
           (λ i s m z l b claim. (omega (arith, claim .0, keys-fall key s (omega (arith, row .keys .few))), claim .1))
           (λ i l claim. omega (arith, claim .0, key .at-most)))
 
-    departing-more : {T′ queue′ : List ℕ} {marks′ : List Bool} {r : ℕ} → Stepped D positions lab w to x next T queue marks T′ queue′ marks′ r
-        → Departing G n w k x p list T₀ queue₀ T′ queue′ marks′ r g
-    departing-more (stays f) = unmoved (λ t ks d. absurd (f t ks d))
-    departing-more (leads y a) = arrived y a
+    scanning-more : {T′ queue′ : List ℕ} {marks′ : List Bool} {r : ℕ} → Stepped D positions lab w to x next T queue marks T′ queue′ marks′ r
+        → Scanning G n w k x p list T₀ queue₀ T′ queue′ marks′ r g
+    scanning-more (stays f) = unmoved (λ t ks d. absurd (f t ks d))
+    scanning-more (leads y a) = relaxed-to y a
 
   -- the same by the numbers read of the step
-  pub departing-step : {x : ℕ} {T queue : List ℕ} {marks : List Bool} {next h g : ℕ} (X : Departing G n w k x p list T₀ queue₀ T queue marks next h) (j : ℕ) → h ≡ suc j
+  pub scanning-step : {x : ℕ} {T queue : List ℕ} {marks : List Bool} {next h g : ℕ} (X : Scanning G n w k x p list T₀ queue₀ T queue marks next h) (j : ℕ) → h ≡ suc j
       → {kind to arg : ℕ} → (kind ≡ getD list (j * 4) 0) × (to ≡ getD list (j * 4 + 2) 0) × (arg ≡ getD list (j * 4 + 3) 0) → g ≡ lastFrom list (getD list (j * 4 + 1) 0) j
       → {U queue′ : List ℕ} {marks′ : List Bool} {r : ℕ} → Stepped D positions (labelIn kind arg) w to x next T queue marks U queue′ marks′ r
-      → Departing G n w k x p list T₀ queue₀ U queue′ marks′ r g
-  departing-step X j e is links y = departing-more X j e links (rw (is .0, is .1, is .2) at y)
+      → Scanning G n w k x p list T₀ queue₀ U queue′ marks′ r g
+  scanning-step X j e is adjacency y = scanning-more X j e adjacency (rw (is .0, is .1, is .2) at y)

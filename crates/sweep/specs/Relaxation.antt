@@ -12,44 +12,44 @@ use Rattle.semantics.specs.Path.{Does}
 use Rattle.semantics.specs.Cells.{Graph, cell, Runs, Relaxed, sum}
 use Rattle.sweep.specs.Queue.{Queue, Lowered}
 use Rattle.sweep.specs.Targets.{Standing, Leads}
-use Rattle.sweep.specs.Rows.{Keyed, Only, Followed, height}
+use Rattle.sweep.specs.Scans.{Keyed, Only, Processed, potential}
 
 -- a state's row, and room for the table and the keys
-pub record Sweep (head : Head) (rows : List ℕ) (values : List Bool) (positions state : ℕ) (T queue known : List ℕ) : Type 0 where
-  pub standing : Standing head rows values state known
+pub record Sweep (head : Head) (rows : List ℕ) (values : List Bool) (positions state : ℕ) (T queue cache : List ℕ) : Type 0 where
+  pub standing : Standing head rows values state cache
   pub few : positions ≤ 256
   pub room : stateCount (head .counts .facts) * positions ≤ length T
   pub keys : Queue queue (stateCount (head .counts .facts))
 
 -- the cell at v, position q of state t, lowered to x and the cost, where that is less; then in the row of w the position is not marked any more and r is
 -- at most q, and another row's key comes down
-pub data Arriving (w t q v x cost next : ℕ) (T queue : List ℕ) (marks : List Bool) : List ℕ → List ℕ → List Bool → ℕ → Type 0 where
-  kept : getD T v 0 ≤ x + cost → Arriving w t q v x cost next T queue marks T queue marks next
+pub data Relaxing (w t q v x cost next : ℕ) (T queue : List ℕ) (marks : List Bool) : List ℕ → List ℕ → List Bool → ℕ → Type 0 where
+  kept : getD T v 0 ≤ x + cost → Relaxing w t q v x cost next T queue marks T queue marks next
   within : {r : ℕ} → x + cost < getD T v 0 → t ≡ w → r ≤ q → r ≤ next
-      → Arriving w t q v x cost next T queue marks (set T v (x + cost)) queue (set marks q false) r
+      → Relaxing w t q v x cost next T queue marks (set T v (x + cost)) queue (set marks q false) r
   lowered : {queue′ : List ℕ} → x + cost < getD T v 0 → Lowered t (x + cost) queue queue′
-      → Arriving w t q v x cost next T queue marks (set T v (x + cost)) queue′ marks next
+      → Relaxing w t q v x cost next T queue marks (set T v (x + cost)) queue′ marks next
 
 -- what following a step from state w to position q does
 pub data Stepped (D : Domain) (positions : ℕ) (l : Label) (w q x next : ℕ) (T queue : List ℕ) (marks : List Bool) : List ℕ → List ℕ → List Bool → ℕ → Type 0 where
   stays : ((u : ℕ) (ks : List ℕ) → Does D l w ks u → ⊥) → Stepped D positions l w q x next T queue marks T queue marks next
-  leads : {t c : ℕ} {T′ queue′ : List ℕ} {marks′ : List Bool} {r : ℕ} → Leads D l w t c → Arriving w t q (cell positions t q) x c next T queue marks T′ queue′ marks′ r
+  leads : {t c : ℕ} {T′ queue′ : List ℕ} {marks′ : List Bool} {r : ℕ} → Leads D l w t c → Relaxing w t q (cell positions t q) x c next T queue marks T′ queue′ marks′ r
       → Stepped D positions l w q x next T queue marks T′ queue′ marks′ r
 
 -- the steps from position p followed, after which r is where to go on
-pub record Departed (G : Graph) (n w k p : ℕ) (T queue T′ queue′ : List ℕ) (marks′ : List Bool) (r : ℕ) : Type 0 where
+pub record Scanned (G : Graph) (n w k p : ℕ) (T queue T′ queue′ : List ℕ) (marks′ : List Bool) (r : ℕ) : Type 0 where
   pub runs : Runs G T T′
   pub size : length queue′ ≡ length queue
   pub width : length marks′ ≡ 256
   pub key : getD queue′ w 0 ≤ getD queue w 0
   pub low : r ≤ p + 1
   pub falls : sum T′ * 257 + (p + 1) ≤ sum T * 257 + r
-  pub less : height n T′ queue′ ≤ height n T queue
-  pub relaxed : Relaxed G (Only queue′ w (Followed k r marks′ 0 0)) T′
+  pub less : potential n T′ queue′ ≤ potential n T queue
+  pub relaxed : Relaxed G (Only queue′ w (Processed k r marks′ 0 0)) T′
 
 -- stores along steps, after which the steps are followed from all cells with an entry below their row's key
 pub record Better (G : Graph) (n : ℕ) (T queue T′ queue′ : List ℕ) : Type 0 where
   pub runs : Runs G T T′
   pub size : length queue′ ≡ length queue
   pub relaxed : Relaxed G (Keyed queue′) T′
-  pub less : height n T′ queue′ < height n T queue
+  pub less : potential n T′ queue′ < potential n T queue

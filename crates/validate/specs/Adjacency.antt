@@ -23,7 +23,7 @@ lastFrom list p zero = 0
 lastFrom list p (suc k) = cond (eqb (getD list (k * 4 + 1) 0) p) (suc k) (lastFrom list p k)
 
 -- links to it for each position, and for each of the n steps to the one before it from the same position
-pub record Linked (list : List ℕ) (n : ℕ) (links : List ℕ) : Type 0 where
-  pub size : length links ≡ 1280
-  pub last : (p : ℕ) → p < 256 → getD links p 0 ≡ lastFrom list p n
-  pub before : (k : ℕ) → k < n → getD links (256 + k) 0 ≡ lastFrom list (getD list (k * 4 + 1) 0) k
+pub record Adjacency (list : List ℕ) (n : ℕ) (adjacency : List ℕ) : Type 0 where
+  pub size : length adjacency ≡ 1280
+  pub last : (p : ℕ) → p < 256 → getD adjacency p 0 ≡ lastFrom list p n
+  pub before : (k : ℕ) → k < n → getD adjacency (256 + k) 0 ≡ lastFrom list (getD list (k * 4 + 1) 0) k

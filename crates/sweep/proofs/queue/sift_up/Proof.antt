@@ -3,8 +3,8 @@ use native.Mathlib.Omega.{arith}
 use Rattle.sweep.specs.Queue.{SameKeys}
 use Rattle.sweep.proofs.QueueLaws.{same-keys-none, queue-kept, same-keys-more}
 use borrow.Author.Needs.{needs}
-use Rattle.sweep.proofs.queue.rename.Statement.{statement}
-use Rattle.sweep.proofs.queue.rename.Tie as tie
+use Rattle.sweep.proofs.queue.sift_up.Statement.{statement}
+use Rattle.sweep.proofs.queue.sift_up.Tie as tie
 
 abbrev Inv-loop : tie.InvT-loop
 Inv-loop queue₀ n s i₀ queue i = (i < 4096) × SameKeys queue₀ queue
@@ -61,8 +61,8 @@ same-length-2 c = c .before .loop .inv .1 .size
 returns-2 : tie.Need-returns-2 Inv-loop μ-loop
 returns-2 c = c .before .loop .inv .1
 
-pub rename-spec : {M : Type 1} → statement M
-rename-spec =
+pub sift-up-spec : {M : Type 1} → statement M
+sift-up-spec =
     tie.close
     (tie.spec
     Inv-loop

@@ -1,9 +1,9 @@
 use native.Mathlib.Omega.{arith}
-use Rattle.sweep.specs.Departures.{kept, within, lowered}
-use Rattle.sweep.proofs.DepartureLaws.{cell-room}
+use Rattle.sweep.specs.Relaxation.{kept, within, lowered}
+use Rattle.sweep.proofs.RelaxationLaws.{cell-room}
 use borrow.Author.Needs.{needs}
-use Rattle.sweep.proofs.departures.arrive.Statement.{statement}
-use Rattle.sweep.proofs.departures.arrive.Tie as tie
+use Rattle.sweep.proofs.relaxation.relax.Statement.{statement}
+use Rattle.sweep.proofs.relaxation.relax.Tie as tie
 
 mul-old : tie.Need-mul-old
 mul-old c = let room = cell-room _ _ _ _ (c .before .before .before .before .pre .1) (c .before .before .before .before .pre .2) (c .before .before .before .before .pre .4) in search (needs, room, c .cell .ensures)
@@ -38,8 +38,8 @@ returns-4 c = rw (← (c .before .before .before .before .before .cell .ensures)
 returns-5 : tie.Need-returns-5
 returns-5 c = rw (← (c .before .before .before .before .before .cell .ensures)) (within {r = c .before .before .before .before .before .before .before .before .before .args .next} (omega (arith, c .before .before .before .if1 .left, c .before .before .if2 .left)) (c .before .if3 .left) (omega (arith, c .if4 .left)) (omega arith))
 
-pub arrive-spec : {M : Type 1} → statement M
-arrive-spec =
+pub relax-spec : {M : Type 1} → statement M
+relax-spec =
     tie.close
     (tie.spec
     (λ c κs. search needs)

@@ -12,9 +12,9 @@ use Rattle.laws.proofs.Tests.{never}
 use Rattle.semantics.specs.CostTable.{unreached}
 use Rattle.semantics.specs.Cells.{Graph, Closed, Runs, none, Relaxed}
 use Rattle.semantics.proofs.CellLaws.{edge-within, runs-on}
-use Rattle.sweep.specs.Rows.{Keyed, Only, passed, marked, Followed, below, past, height}
-use Rattle.sweep.specs.Departures.{Departed, Better}
-use Rattle.sweep.proofs.HeightLaws.{key-gap}
+use Rattle.sweep.specs.Scans.{Keyed, Only, passed, marked, Processed, below, past, potential}
+use Rattle.sweep.specs.Relaxation.{Scanned, Better}
+use Rattle.sweep.proofs.PotentialLaws.{key-gap}
 
 -- the steps are followed from the cells before position p
 pub record Sweeping (G : Graph) (n w k : ℕ) (T₀ queue₀ T queue : List ℕ) (marks : List Bool) (p : ℕ) : Type 0 where
@@ -22,8 +22,8 @@ pub record Sweeping (G : Graph) (n w k : ℕ) (T₀ queue₀ T queue : List ℕ)
   pub size : length queue ≡ length queue₀
   pub width : length marks ≡ 256
   pub key : getD queue w 0 ≤ unreached
-  pub less : height n T queue ≤ height n T₀ queue₀
-  pub relaxed : Relaxed G (Only queue w (Followed k p marks 0 0)) T
+  pub less : potential n T queue ≤ potential n T₀ queue₀
+  pub relaxed : Relaxed G (Only queue w (Processed k p marks 0 0)) T
 
 -- no position is marked
 blank : (n r : ℕ) → getD (replicate n false) r false ≡ false
@@ -63,7 +63,7 @@ module _ (G : Graph) (n w : ℕ) (T₀ queue₀ : List ℕ) (size : w < length q
   }
 
 pub sweeping-more : {G : Graph} {n w k : ℕ} {T₀ queue₀ T queue U queue′ : List ℕ} {marks marks′ : List Bool} {p r : ℕ} → Sweeping G n w k T₀ queue₀ T queue marks p
-    → Departed G n w k p T queue U queue′ marks′ r → Sweeping G n w k T₀ queue₀ U queue′ marks′ r
+    → Scanned G n w k p T queue U queue′ marks′ r → Sweeping G n w k T₀ queue₀ U queue′ marks′ r
 sweeping-more x y = record {
   runs = runs-on (x .runs) (y .runs);
   size = y .size ∙ x .size;

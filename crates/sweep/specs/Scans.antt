@@ -9,20 +9,20 @@ use Rattle.job.specs.declared.head.Head.{Head}
 use Rattle.semantics.specs.CostTable.{unreached}
 use Rattle.semantics.specs.Cells.{Graph, Claim, total, sum}
 use Rattle.domain.specs.Domain.{domainOf}
-use Rattle.validate.specs.Links.{stepsOn, Listed, Linked}
+use Rattle.validate.specs.Adjacency.{stepsOn, Listed, Adjacency}
 
 -- the compiled job of a list's steps
 abbrev pub graphOf : Head → List ℕ → List ℕ → ℕ → Graph
 graphOf head rows list positions = record { domain = domainOf (jobOf head rows); steps = stepsOn list; positions = positions }
 
 -- what falls with each sweep: the entries, and where they stay, the distance of the n keys from `unreached`
-abbrev pub height : ℕ → List ℕ → List ℕ → ℕ
-height n T queue = sum T * 4294967296 + total (λ x. unreached - x) queue n
+abbrev pub potential : ℕ → List ℕ → List ℕ → ℕ
+potential n T queue = sum T * 4294967296 + total (λ x. unreached - x) queue n
 
 -- steps between so many positions, and their links
-pub record Laid (list links : List ℕ) (positions : ℕ) : Type 0 where
+pub record Indexed (list adjacency : List ℕ) (positions : ℕ) : Type 0 where
   pub listed : Listed list
-  pub linked : Linked list (length list / 4) links
+  pub linked : Adjacency list (length list / 4) adjacency
   pub few : positions ≤ 256
   pub to : (k : ℕ) → k < length list / 4 → getD list (k * 4 + 2) 0 < positions
 
@@ -40,6 +40,6 @@ pub data Past (next : ℕ) (marks : List Bool) (r z : ℕ) : Type 0 where
   marked : getD marks r false ≡ true → Past next marks r z
 
 -- the steps from those and from cells with an entry below k; from position p only those with number h and above
-pub data Followed (k next : ℕ) (marks : List Bool) (p h i r z : ℕ) : Type 0 where
-  below : z < k → Followed k next marks p h i r z
-  past : Past next marks r z → (r ≡ p → h ≤ i) → Followed k next marks p h i r z
+pub data Processed (k next : ℕ) (marks : List Bool) (p h i r z : ℕ) : Type 0 where
+  below : z < k → Processed k next marks p h i r z
+  past : Past next marks r z → (r ≡ p → h ≤ i) → Processed k next marks p h i r z

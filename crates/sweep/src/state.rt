@@ -5,8 +5,8 @@ ghost use Rattle.job.specs.StateCount.{stateCount};
 ghost use Rattle.semantics.specs.CostTable.{unreached};
 ghost use Rattle.semantics.specs.Cells.{Relaxed};
 ghost use Rattle.validate.specs.Ready.{Ready};
-ghost use Rattle.sweep.specs.Rows.{graphOf, Laid, Keyed};
-ghost use Rattle.sweep.specs.Departures.{Sweep, Better};
+ghost use Rattle.sweep.specs.Scans.{graphOf, Indexed, Keyed};
+ghost use Rattle.sweep.specs.Relaxation.{Sweep, Better};
 use crate::UNREACHED;
 use job::head::Head;
 
@@ -14,17 +14,17 @@ use job::head::Head;
 pub fn sweep(
     costs: &mut [u32],
     queue: &mut [u32],
-    known: &mut [u16],
+    cache: &mut [u16],
     head: Head,
     rows: &[u16],
     list: &[u16],
-    links: &[u16],
+    adjacency: &[u16],
     values: &[bool],
     positions: usize,
     state: u16,
 )
-    requires { ⌜ Ready head (now rows) (now list) positions × Laid (now list) (now links) positions ⌝ }
-    requires { ⌜ Sweep head (now rows) (now values) positions state (now costs) (now queue) (now known) × (getD (now queue) state 0 < unreached) ⌝ }
+    requires { ⌜ Ready head (now rows) (now list) positions × Indexed (now list) (now adjacency) positions ⌝ }
+    requires { ⌜ Sweep head (now rows) (now values) positions state (now costs) (now queue) (now cache) × (getD (now queue) state 0 < unreached) ⌝ }
     requires { ⌜ Relaxed (graphOf head (now rows) (now list) positions) (Keyed (now queue)) (now costs) ⌝ }
     ensures { λ _. ⌜ Better (graphOf head (now (rows .entry)) (now (list .entry)) positions) (stateCount (head .counts .facts)) (now (costs .entry)) (now (queue .entry)) (now (costs .exit)) (now (queue .exit)) ⌝ }
 {
@@ -34,15 +34,15 @@ pub fn sweep(
     let mut marks = [false; 256];
     let mut p: usize = 0;
     while p < positions {
-        p = crate::departures::depart(
+        p = crate::relaxation::scan(
             costs,
             queue,
-            known,
+            cache,
             &mut marks,
             head,
             rows,
             list,
-            links,
+            adjacency,
             values,
             positions,
             state,
