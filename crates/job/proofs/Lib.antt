@@ -1,3 +1,4 @@
-pub mod FaultLaws
 pub mod StoreLaws
+pub mod FaultLaws
 pub mod RowLaws
+pub mod StoredLaws

@@ -5,6 +5,7 @@ use mathlib.Core.List.{List, [], _∷_}
 use mathlib.Core.Option.{Option, none, some}
 use lib.Dec.{eqb, ltb, leb}
 use lib.ListN.{getD}
+use Rattle.limits.specs.Limits.{mostFacts, mostFormulas, mostMoves, mostMoveEffects, lastClass, mostProgram}
 use Rattle.job.specs.StateCount.{stateCount}
 use Rattle.job.specs.Fields.{formulaFields, rowFields, within}
 use Rattle.job.specs.declared.head.Counts.{Counts}
@@ -24,15 +25,15 @@ criterion form range fields = record { form = form; range = range; fields = fiel
 -- class, value or unused field wrong", beside so many facts and earlier rows
 abbrev pub criteria : Line → Counts → List ℕ → Criteria
 criteria Job c r = criterion (eqb (getD r 0 0) 1) true true
-criteria Facts c r = criterion true (leb (getD r 0 0) 12) true
+criteria Facts c r = criterion true (leb (getD r 0 0) mostFacts) true
 criteria Init c r = criterion true (ltb (getD r 0 0) (stateCount (c .facts))) true
-criteria Formulas c r = criterion true (leb 1 (getD r 0 0) && leb (getD r 0 0) 255) true
+criteria Formulas c r = criterion true (leb 1 (getD r 0 0) && leb (getD r 0 0) mostFormulas) true
 criteria Formula c r = criterion true true (within c (getD formulaFields (getD r 0 0) []) (getD r 1 0 ∷ getD r 2 0 ∷ []))
-criteria Moves c r = criterion true (leb (getD r 0 0) 64) true
-criteria Move c r = criterion true (leb (getD r 2 0) 16) (ltb (getD r 0 0) (c .formulas) && leb (getD r 1 0) 15)
+criteria Moves c r = criterion true (leb (getD r 0 0) mostMoves) true
+criteria Move c r = criterion true (leb (getD r 2 0) mostMoveEffects) (ltb (getD r 0 0) (c .formulas) && leb (getD r 1 0) lastClass)
 criteria Effect c r = criterion true true (ltb (getD r 0 0) (c .formulas) && (ltb (getD r 1 0) (c .facts) && leb (getD r 2 0) 1))
 criteria Goal c r = criterion true true (ltb (getD r 0 0) (c .formulas))
-criteria Program c r = criterion true (leb 1 (getD r 0 0) && leb (getD r 0 0) 128) true
+criteria Program c r = criterion true (leb 1 (getD r 0 0) && leb (getD r 0 0) mostProgram) true
 criteria Row c r = criterion true true (within c (getD rowFields (getD r 0 0) []) (getD r 1 0 ∷ getD r 2 0 ∷ getD r 3 0 ∷ []))
 criteria End c r = criterion false true true
 

@@ -65,6 +65,19 @@ effectOf r = record { cond = getD r 0 0; fact = getD r 1 0; value = getD r 2 0 }
 abbrev pub rowOf : List ℕ → Row
 rowOf r = record { kind = getD r 0 0; a = getD r 1 0; b = getD r 2 0; c = getD r 3 0 }
 
+-- row i of its sort
+abbrev pub formulaAt : Job → ℕ → Formula
+formulaAt j i = getD (j .formulas) i (formulaOf [])
+
+abbrev pub moveAt : Job → ℕ → Move
+moveAt j i = getD (j .moves) i (moveOf 0 [])
+
+abbrev pub effectAt : Job → ℕ → Effect
+effectAt j i = getD (j .effects) i (effectOf [])
+
+abbrev pub programRowAt : Job → ℕ → Row
+programRowAt j i = getD (j .program) i (rowOf [])
+
 -- a job with a row more, or with other scalars
 abbrev pub addFormula : Job → Formula → Job
 addFormula j f = record {

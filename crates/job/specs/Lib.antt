@@ -6,3 +6,4 @@ pub mod Fault
 pub mod ReadJob
 pub mod WellFormed
 pub mod Store
+pub mod Stored

@@ -1,43 +1,58 @@
--- What the store of a job stands for: a head of numbers, and a table of rows of four numbers each, every sort of row from a place of its own on.
+-- What the store of a job stands for: a head of numbers, and rows of eight numbers each in one list, every sort from a row of its own on.
 use Prim.Native.Nat.{ℕ, zero, suc, _+_, _*_}
 use mathlib.Core.Bool.{cond}
 use mathlib.Core.List.{List, [], _∷_, _++_}
 use mathlib.Core.Option.{Option, none, some}
 use lib.ListN.{getD, take}
-use Rattle.job.specs.Job.{Job, Move, formulaOf, moveOf, effectOf, rowOf}
+use Rattle.limits.specs.Limits.{mostFormulas, mostMoves, mostEffects, mostProgram}
+use Rattle.job.specs.Job as J
+use Rattle.job.specs.Job.{Job, formulaOf, moveOf, effectOf, rowOf}
 use Rattle.job.specs.Line.{formOf}
 use Rattle.job.specs.declared.head.Head.{Head}
 use Rattle.job.specs.declared.line.Line.{Line}
 use Rattle.job.specs.declared.line.LineNumbers.{LineNumbers}
+use Rattle.job.specs.declared.stored.Formula.{Formula}
+use Rattle.job.specs.declared.stored.Move.{Move}
+use Rattle.job.specs.declared.stored.Effect.{Effect}
+use Rattle.job.specs.declared.stored.ProgramRow.{ProgramRow}
 
--- where the rows of each sort begin, and how many rows there are in all
+-- how many numbers a row has
+abbrev pub width : ℕ
+width = 8
+
+-- where the rows of each sort begin, how many rows there are in all, and how many numbers they take
 abbrev pub formulasFrom : ℕ
 formulasFrom = 0
 
 abbrev pub movesFrom : ℕ
-movesFrom = 255
+movesFrom = mostFormulas
 
 abbrev pub effectsFrom : ℕ
-effectsFrom = 319
+effectsFrom = movesFrom + mostMoves
 
 abbrev pub programFrom : ℕ
-programFrom = 1343
+programFrom = effectsFrom + mostEffects
 
 abbrev pub allRows : ℕ
-allRows = 1471
+allRows = programFrom + mostProgram
 
--- row i of a table
+abbrev pub storeSize : ℕ
+storeSize = allRows * width
+
+-- row i of a list of rows
 abbrev pub rowAt : List ℕ → ℕ → List ℕ
-rowAt l i = getD l (i * 4) 0 ∷ getD l (i * 4 + 1) 0 ∷ getD l (i * 4 + 2) 0 ∷ getD l (i * 4 + 3) 0 ∷ []
+rowAt l i =
+    getD l (i * width) 0 ∷ getD l (i * width + 1) 0 ∷ getD l (i * width + 2) 0 ∷ getD l (i * width + 3) 0
+    ∷ getD l (i * width + 4) 0 ∷ getD l (i * width + 5) 0 ∷ getD l (i * width + 6) 0 ∷ getD l (i * width + 7) 0 ∷ []
 
--- n rows of a table from row `first` on, as f reads them
+-- n rows from row `first` on, as f reads them
 unfoldable pub rowsFrom : {A : Type 0} → (List ℕ → A) → List ℕ → ℕ → ℕ → List A
 rowsFrom f l first zero = []
 rowsFrom f l first (suc n) = rowsFrom f l first n ++ (f (rowAt l (first + n)) ∷ [])
 
 -- a move's row has as its last number the first of its effects
-abbrev pub storedMove : List ℕ → Move
-storedMove r = moveOf (getD r 3 0) r
+abbrev pub storedMove : List ℕ → J.Move
+storedMove r = moveOf (getD r 7 0) r
 
 abbrev pub jobOf : Head → List ℕ → Job
 jobOf h l = record {
@@ -48,9 +63,22 @@ jobOf h l = record {
   program = rowsFrom rowOf l programFrom (h .counts .program);
 }
 
+-- the rows that the code reads by name
+abbrev pub formulaIn : Formula → J.Formula
+formulaIn r = record { kind = r .kind; a = r .a; b = r .b }
+
+abbrev pub moveIn : Move → J.Move
+moveIn r = record { pre = r .pre; class = r .class; count = r .count; first = r .first }
+
+abbrev pub effectIn : Effect → J.Effect
+effectIn r = record { cond = r .cond; fact = r .fact; value = r .value }
+
+abbrev pub rowIn : ProgramRow → J.Row
+rowIn r = record { kind = r .kind; a = r .a; b = r .b; c = r .c }
+
 -- a line's numbers, as many as its sort has
 abbrev pub listOf : Line → LineNumbers → List ℕ
-listOf next r = take (formOf next .width) (r .a ∷ r .b ∷ r .c ∷ r .d ∷ [])
+listOf next r = take (formOf next .width) (r .numbers)
 
 abbrev pub numbersOf : Line → LineNumbers → Option (List ℕ)
 numbersOf next r = cond (r .formed) (some (listOf next r)) none

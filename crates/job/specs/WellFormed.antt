@@ -3,6 +3,7 @@ use Prim.Native.Nat.{ℕ, _+_, _≤_, _<_}
 use mathlib.Core.Path.{_≡_}
 use mathlib.Core.List.{List, [], _∷_}
 use lib.ListN.{length, getD}
+use Rattle.limits.specs.Limits.{mostFacts, mostFormulas, mostMoves, mostMoveEffects, mostEffects, lastClass, mostProgram}
 use Rattle.job.specs.StateCount.{stateCount}
 use Rattle.job.specs.Job.{Job, Formula, Move, Effect, Row, formulaOf, moveOf, effectOf, rowOf}
 use Rattle.job.specs.Fields.{formulaFields, rowFields, Within}
@@ -22,8 +23,8 @@ FormulaRows facts = Every (formulaOf []) (λ i f. Within (beforeFormula facts i)
 -- a move beside so many formulas
 pub record MoveFits (formulas : ℕ) (m : Move) : Type 0 where
   pub pre : m .pre < formulas
-  pub class : m .class ≤ 15
-  pub count : m .count ≤ 16
+  pub class : m .class ≤ lastClass
+  pub count : m .count ≤ mostMoveEffects
 
 abbrev pub MoveRows : ℕ → List Move → Type 0
 MoveRows formulas = Every (moveOf 0 []) (λ i m. MoveFits formulas m)
@@ -57,16 +58,16 @@ ProgramRows j = Every (rowOf []) (λ i r. Within (beforeRow j i) (getD rowFields
 
 -- the ranges of "Job text"; there is a formula, since the goal is one
 pub record WellFormed (j : Job) : Type 0 where
-  pub facts : j .scalars .facts ≤ 12
+  pub facts : j .scalars .facts ≤ mostFacts
   pub init : j .scalars .init < stateCount (j .scalars .facts)
   pub goal : j .scalars .goal < length (j .formulas)
-  pub formulas : length (j .formulas) ≤ 255
+  pub formulas : length (j .formulas) ≤ mostFormulas
   pub formula : FormulaRows (j .scalars .facts) (j .formulas)
-  pub moves : length (j .moves) ≤ 64
+  pub moves : length (j .moves) ≤ mostMoves
   pub move : MoveRows (length (j .formulas)) (j .moves)
   pub tiled : Tiled 0 (j .moves) (length (j .effects))
-  pub effects : length (j .effects) ≤ 1024
+  pub effects : length (j .effects) ≤ mostEffects
   pub effect : EffectRows (j .scalars .facts) (length (j .formulas)) (j .effects)
-  pub program : length (j .program) ≤ 128
+  pub program : length (j .program) ≤ mostProgram
   pub last : 0 < length (j .program)
   pub row : ProgramRows j (j .program)

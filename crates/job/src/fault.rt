@@ -3,12 +3,21 @@ ghost use mathlib.Core.Path.{_≡_};
 ghost use mathlib.Core.Bool.{cond, _&&_};
 ghost use Prim.Native.Nat.{_≤_};
 ghost use lib.Dec.{leb, ltb};
+ghost use lib.ListN.{getD};
+ghost use Rattle.limits.specs.Limits.{mostFacts, mostMoveEffects, lastClass};
 ghost use Rattle.job.specs.Fault.{fault};
 ghost use Rattle.job.specs.StateCount.{stateCount};
 ghost use Rattle.job.specs.Store.{numbersOf};
 use crate::head::Counts;
 use crate::line::Line;
 use crate::line::LineNumbers;
+use crate::rows::WIDTH;
+use limits::FACTS;
+use limits::FORMULAS;
+use limits::LAST_CLASS;
+use limits::MOVE_EFFECTS;
+use limits::MOVES;
+use limits::PROGRAM;
 
 // 0 where a line is right, else the reason.
 fn unless(right: bool, reason: u8) -> u8
@@ -26,24 +35,24 @@ fn one_to(most: u16, n: u16) -> bool
     n <= most
 }
 
-fn move_reason(row: LineNumbers, formulas: u16) -> u8
-    ensures { λ r. ⌜ r ≡ cond (leb (row .c) 16) (cond (ltb (row .a) formulas && leb (row .b) 15) 0 3) 2 ⌝ }
+fn move_reason(numbers: [u16; WIDTH], formulas: u16) -> u8
+    ensures { λ r. ⌜ r ≡ cond (leb (getD numbers 2 0) mostMoveEffects) (cond (ltb (getD numbers 0 0) formulas && leb (getD numbers 1 0) lastClass) 0 3) 2 ⌝ }
 {
-    if 16 < row.c {
+    if MOVE_EFFECTS < numbers[2] {
         return 2;
     }
-    if row.a < formulas {
-        return unless(row.b <= 15, 3);
+    if numbers[0] < formulas {
+        return unless(numbers[1] <= LAST_CLASS, 3);
     }
     3
 }
 
-fn effect_right(row: LineNumbers, facts: u16, formulas: u16) -> bool
-    ensures { λ r. ⌜ r ≡ (ltb (row .a) formulas && (ltb (row .b) facts && leb (row .c) 1)) ⌝ }
+fn effect_right(numbers: [u16; WIDTH], facts: u16, formulas: u16) -> bool
+    ensures { λ r. ⌜ r ≡ (ltb (getD numbers 0 0) formulas && (ltb (getD numbers 1 0) facts && leb (getD numbers 2 0) 1)) ⌝ }
 {
-    if row.a < formulas {
-        if row.b < facts {
-            return row.c <= 1;
+    if numbers[0] < formulas {
+        if numbers[1] < facts {
+            return numbers[2] <= 1;
         }
         return false;
     }
@@ -51,7 +60,7 @@ fn effect_right(row: LineNumbers, facts: u16, formulas: u16) -> bool
 }
 
 fn init_right(init: u16, facts: u16) -> bool
-    requires { ⌜ facts ≤ 12 ⌝ }
+    requires { ⌜ facts ≤ mostFacts ⌝ }
     ensures { λ r. ⌜ r ≡ ltb init (stateCount facts) ⌝ }
 {
     init < crate::states::state_count(facts)
@@ -59,27 +68,26 @@ fn init_right(init: u16, facts: u16) -> bool
 
 // The reason that refuses a line of the sort that comes next, or 0.
 pub fn reason(next: Line, row: LineNumbers, counts: Counts) -> u8
-    requires { ⌜ counts .facts ≤ 12 ⌝ }
+    requires { ⌜ counts .facts ≤ mostFacts ⌝ }
     ensures { λ r. ⌜ r ≡ fault next counts (numbersOf next row) ⌝ }
 {
     if !row.formed {
         return 1;
     }
+    let n = row.numbers;
+    let first = n[0];
     match next {
-        Line::Job => unless(row.a == 1, 1),
-        Line::Facts => unless(row.a <= 12, 2),
-        Line::Init => unless(init_right(row.a, counts.facts), 2),
-        Line::Formulas => unless(one_to(255, row.a), 2),
-        Line::Formula => unless(crate::fields::formula_right(row.a, row.b, row.c, counts), 3),
-        Line::Moves => unless(row.a <= 64, 2),
-        Line::Move => move_reason(row, counts.formulas),
-        Line::Effect => unless(effect_right(row, counts.facts, counts.formulas), 3),
-        Line::Goal => unless(row.a < counts.formulas, 3),
-        Line::Program => unless(one_to(128, row.a), 2),
-        Line::Row => unless(
-            crate::fields::row_right(row.a, row.b, row.c, row.d, counts),
-            3,
-        ),
+        Line::Job => unless(first == 1, 1),
+        Line::Facts => unless(first <= FACTS, 2),
+        Line::Init => unless(init_right(first, counts.facts), 2),
+        Line::Formulas => unless(one_to(FORMULAS, first), 2),
+        Line::Formula => unless(crate::fields::formula_right(n, counts), 3),
+        Line::Moves => unless(first <= MOVES, 2),
+        Line::Move => move_reason(n, counts.formulas),
+        Line::Effect => unless(effect_right(n, counts.facts, counts.formulas), 3),
+        Line::Goal => unless(first < counts.formulas, 3),
+        Line::Program => unless(one_to(PROGRAM, first), 2),
+        Line::Row => unless(crate::fields::row_right(n, counts), 3),
         Line::End => 1,
     }
 }

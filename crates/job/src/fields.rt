@@ -6,6 +6,7 @@ ghost use lib.ListN.{getD};
 ghost use Rattle.job.specs.Fields.{formulaFields, rowFields, within};
 ghost use Rattle.job.specs.Fields.{bound as fieldBound};
 use crate::head::Counts;
+use crate::rows::WIDTH;
 
 pub enum Field {
     Unused,
@@ -73,26 +74,28 @@ fn listed(a: Field, b: Field, c: Field) -> Fields
     Fields { a: a, b: b, c: c }
 }
 
-// Whether a formula refers to facts and earlier formulas alone.
-pub fn formula_right(kind: u16, a: u16, b: u16, counts: Counts) -> bool
-    ensures { λ r. ⌜ r ≡ within counts (getD formulaFields kind []) (a ∷ b ∷ []) ⌝ }
+// Whether a formula refers to facts and earlier formulas alone: its numbers are kind, a and b.
+pub fn formula_right(numbers: [u16; WIDTH], counts: Counts) -> bool
+    ensures { λ r. ⌜ r ≡ within counts (getD formulaFields (getD numbers 0 0) []) (getD numbers 1 0 ∷ getD numbers 2 0 ∷ []) ⌝ }
 {
+    let kind = numbers[0];
     if 5 < kind {
         return false;
     }
     let f = formula_fields(kind);
     let fa = f.a;
     let fb = f.b;
-    if a < bound(fa, counts) {
-        return b < bound(fb, counts);
+    if numbers[1] < bound(fa, counts) {
+        return numbers[2] < bound(fb, counts);
     }
     false
 }
 
-// Whether a program row refers to formulas, moves and earlier rows alone.
-pub fn row_right(kind: u16, a: u16, b: u16, c: u16, counts: Counts) -> bool
-    ensures { λ r. ⌜ r ≡ within counts (getD rowFields kind []) (a ∷ b ∷ c ∷ []) ⌝ }
+// Whether a program row refers to formulas, moves and earlier rows alone: its numbers are kind, a, b and c.
+pub fn row_right(numbers: [u16; WIDTH], counts: Counts) -> bool
+    ensures { λ r. ⌜ r ≡ within counts (getD rowFields (getD numbers 0 0) []) (getD numbers 1 0 ∷ getD numbers 2 0 ∷ getD numbers 3 0 ∷ []) ⌝ }
 {
+    let kind = numbers[0];
     if 8 < kind {
         return false;
     }
@@ -100,9 +103,9 @@ pub fn row_right(kind: u16, a: u16, b: u16, c: u16, counts: Counts) -> bool
     let fa = f.a;
     let fb = f.b;
     let fc = f.c;
-    if a < bound(fa, counts) {
-        if b < bound(fb, counts) {
-            return c < bound(fc, counts);
+    if numbers[1] < bound(fa, counts) {
+        if numbers[2] < bound(fb, counts) {
+            return numbers[3] < bound(fc, counts);
         }
         return false;
     }

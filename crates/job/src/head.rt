@@ -9,7 +9,7 @@ pub struct Counts {
     pub program: u16,
 }
 
-// A job but for its rows, which stand in a table.
+// A job but for its rows, which stand in an array.
 pub struct Head {
     pub counts: Counts,
     pub init: u16,

@@ -1,4 +1,5 @@
 // The sorts of lines, and the numbers of a line.
+use crate::rows::WIDTH;
 
 // The sorts of lines in the order in which they first come; the end is where no line may come.
 pub enum Line {
@@ -16,11 +17,8 @@ pub enum Line {
     End,
 }
 
-// The numbers of a line, as many as its sort has, where it is well formed.
+// The numbers of a line, as many as its sort has, where it is well formed; the others are 0.
 pub struct LineNumbers {
     pub formed: bool,
-    pub a: u16,
-    pub b: u16,
-    pub c: u16,
-    pub d: u16,
+    pub numbers: [u16; WIDTH],
 }

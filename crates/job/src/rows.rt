@@ -1,51 +1,34 @@
-// The table of a job's rows, four numbers a row.
+// The rows of a job in one array, eight numbers a row, every sort from a row of its own on.
 ghost use mathlib.Core.Path.{_≡_};
-ghost use mathlib.Core.List.{[], _∷_};
 ghost use Prim.Native.Nat.{_*_, _<_};
 ghost use lib.ListN.{length};
 ghost use lib.Seq.{sets};
-ghost use Rattle.job.specs.Store.{allRows, rowAt};
+ghost use Rattle.job.specs.Store.{allRows, width, storeSize};
+
+// How many numbers a row has. No line has more than seven; a move's last one is the number of its first effect.
+pub const WIDTH: usize = 8;
 
 // Where the moves, the effects and the program rows begin; the formulas come first.
-pub const MOVES: u16 = 255;
+pub const MOVES_FROM: u16 = limits::FORMULAS;
 
-pub const EFFECTS: u16 = 319;
+pub const EFFECTS_FROM: u16 = MOVES_FROM + limits::MOVES;
 
-pub const PROGRAM: u16 = 1343;
+pub const PROGRAM_FROM: u16 = EFFECTS_FROM + limits::EFFECTS;
 
-// How many numbers the table has.
-pub const TABLE: usize = 5884;
+const ALL_ROWS: u16 = PROGRAM_FROM + limits::PROGRAM;
 
-// Row i of the table, written anew.
-pub fn put_row(rows: &mut [u16], i: u16, a: u16, b: u16, c: u16, d: u16)
-    requires { ⌜ (i < allRows) × (length (now rows) ≡ allRows * 4) ⌝ }
-    ensures { λ _. ⌜ now (rows .exit) ≡ sets (now (rows .entry)) (i * 4) (a ∷ b ∷ c ∷ d ∷ []) ⌝ }
+// How many numbers the rows take: 11,768, of two bytes each.
+pub const STORE: usize = (ALL_ROWS as usize) * WIDTH;
+
+// Row i, written anew.
+pub fn put_row(rows: &mut [u16], i: u16, numbers: [u16; WIDTH])
+    requires { ⌜ (i < allRows) × (length (now rows) ≡ storeSize) ⌝ }
+    ensures { λ _. ⌜ now (rows .exit) ≡ sets (now (rows .entry)) (i * width) numbers ⌝ }
 {
-    let at = (i as usize) * 4;
-    rows[at] = a;
-    rows[at + 1] = b;
-    rows[at + 2] = c;
-    rows[at + 3] = d;
-}
-
-// The numbers of a row as they stand in its line, unused ones 0; a move's last one is the number of its first effect.
-pub struct Quad {
-    pub a: u16,
-    pub b: u16,
-    pub c: u16,
-    pub d: u16,
-}
-
-// Row i of the table.
-pub fn row_at(rows: &[u16], i: u16) -> Quad
-    requires { ⌜ (i < allRows) × (length (now rows) ≡ allRows * 4) ⌝ }
-    ensures { λ r. ⌜ r .a ∷ r .b ∷ r .c ∷ r .d ∷ [] ≡ rowAt (now (rows .entry)) i ⌝ }
-{
-    let at = (i as usize) * 4;
-    Quad {
-        a: rows[at],
-        b: rows[at + 1],
-        c: rows[at + 2],
-        d: rows[at + 3],
+    let at = (i as usize) * WIDTH;
+    let mut k: usize = 0;
+    while k < WIDTH {
+        rows[at + k] = numbers[k];
+        k += 1;
     }
 }

@@ -1,17 +1,27 @@
 use mathlib.Core.Path.{_∙_}
 use borrow.Author.Tests.{lt-ltb, le-ltb, lt-leb, le-leb}
+use Rattle.limits.specs.Limits.{mostMoveEffects}
 use borrow.Author.Needs.{needs}
 use Rattle.job.proofs.fault.move_reason.Statement.{statement}
 use Rattle.job.proofs.fault.move_reason.Tie as tie
 
 returns : tie.Need-returns
-returns c = rw (lt-leb _ 16 (c .if1 .taken))
+returns c = rw (lt-leb _ mostMoveEffects (c .if1 .taken))
 
 returns-2 : tie.Need-returns-2
-returns-2 c = c .unless .ensures ∙ rw (le-leb _ 16 (c .before .before .before .before .if1 .left), lt-ltb _ _ (c .before .before .if2 .taken))
+returns-2 c = c .unless .ensures ∙ rw (le-leb _ mostMoveEffects (c .before .before .if1 .left), lt-ltb _ _ (c .before .if2 .taken))
 
 returns-3 : tie.Need-returns-3
-returns-3 c = rw (le-leb _ 16 (c .before .before .if1 .left), le-ltb _ _ (c .if2 .left))
+returns-3 c = rw (le-leb _ mostMoveEffects (c .before .if1 .left), le-ltb _ _ (c .if2 .left))
 
 pub move-reason-spec : {M : Type 1} → statement M
-move-reason-spec = tie.close (tie.spec returns (λ c κs. search needs) returns-2 returns-3)
+move-reason-spec =
+    tie.close
+    (tie.spec
+    (λ c. search needs)
+    returns
+    (λ c. search needs)
+    (λ c. search needs)
+    (λ c κs. search needs)
+    returns-2
+    returns-3)

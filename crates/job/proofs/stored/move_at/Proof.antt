@@ -1,0 +1,44 @@
+use mathlib.Core.Path.{sym}
+use native.Mathlib.Omega.{arith}
+use Rattle.job.proofs.StoredLaws.{limited, move-is}
+use borrow.Author.Needs.{needs}
+use Rattle.job.proofs.stored.move_at.Statement.{statement}
+use Rattle.job.proofs.stored.move_at.Tie as tie
+
+add-at : tie.Need-add-at
+add-at c = omega (arith, limited (c .pre .0) .moves)
+
+shared-slice-read-t5 : tie.Need-shared-slice-read-t5
+shared-slice-read-t5 c = omega (arith, c .before .pre .0 .size, limited (c .before .pre .0) .moves)
+
+shared-slice-read-t11 : tie.Need-shared-slice-read-t11
+shared-slice-read-t11 c = omega (arith, c .before .before .pre .0 .size, limited (c .before .before .pre .0) .moves)
+
+shared-slice-read-t15 : tie.Need-shared-slice-read-t15
+shared-slice-read-t15 c = omega (arith, c .before .before .before .pre .0 .size, limited (c .before .before .before .pre .0) .moves)
+
+shared-slice-read-t19 : tie.Need-shared-slice-read-t19
+shared-slice-read-t19 c = omega (arith, c .before .before .before .before .pre .0 .size, limited (c .before .before .before .before .pre .0) .moves)
+
+returns : tie.Need-returns
+returns c = sym (move-is (c .before .before .before .before .args .head) (c .before .before .before .before .args .rows .now) (c .before .before .before .before .args .i) (c .before .before .before .before .pre .1))
+
+pub move-at-spec : {M : Type 1} → statement M
+move-at-spec =
+    tie.close
+    (tie.spec
+    add-at
+    (λ c. search needs)
+    (λ c. search needs)
+    (λ c. search needs)
+    shared-slice-read-t5
+    (λ c. search needs)
+    (λ c. search needs)
+    shared-slice-read-t11
+    (λ c. search needs)
+    (λ c. search needs)
+    shared-slice-read-t15
+    (λ c. search needs)
+    (λ c. search needs)
+    shared-slice-read-t19
+    returns)

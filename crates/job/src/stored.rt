@@ -1,0 +1,91 @@
+// The rows of a stored job, read by name. Here alone it is known which number of a row is which.
+ghost use mathlib.Core.Path.{_≡_};
+ghost use Prim.Native.Nat.{_<_};
+ghost use Rattle.job.specs.Job.{formulaAt, moveAt, effectAt, programRowAt};
+ghost use Rattle.job.specs.Store.{jobOf, formulaIn, moveIn, effectIn, rowIn};
+ghost use Rattle.job.specs.Stored.{Stored};
+use crate::head::Head;
+use crate::rows::EFFECTS_FROM;
+use crate::rows::MOVES_FROM;
+use crate::rows::PROGRAM_FROM;
+use crate::rows::WIDTH;
+
+// A formula: its kind, and what it refers to.
+pub struct Formula {
+    pub kind: u16,
+    pub a: u16,
+    pub b: u16,
+}
+
+// A move: its precondition and cost class, how many effects it has, and the number of the first.
+pub struct Move {
+    pub pre: u16,
+    pub class: u16,
+    pub count: u16,
+    pub first: u16,
+}
+
+// An effect: its condition, the fact that it changes, and the value that it gives it.
+pub struct Effect {
+    pub cond: u16,
+    pub fact: u16,
+    pub value: u16,
+}
+
+// A row of the program: its kind, and what it refers to.
+pub struct ProgramRow {
+    pub kind: u16,
+    pub a: u16,
+    pub b: u16,
+    pub c: u16,
+}
+
+pub fn formula_at(head: Head, rows: &[u16], i: u16) -> Formula
+    requires { ⌜ Stored head (now rows) × (i < head .counts .formulas) ⌝ }
+    ensures { λ r. ⌜ formulaIn r ≡ formulaAt (jobOf head (now (rows .entry))) i ⌝ }
+{
+    let at = (i as usize) * WIDTH;
+    Formula {
+        kind: rows[at],
+        a: rows[at + 1],
+        b: rows[at + 2],
+    }
+}
+
+pub fn move_at(head: Head, rows: &[u16], i: u16) -> Move
+    requires { ⌜ Stored head (now rows) × (i < head .counts .moves) ⌝ }
+    ensures { λ r. ⌜ moveIn r ≡ moveAt (jobOf head (now (rows .entry))) i ⌝ }
+{
+    let at = ((MOVES_FROM + i) as usize) * WIDTH;
+    Move {
+        pre: rows[at],
+        class: rows[at + 1],
+        count: rows[at + 2],
+        first: rows[at + 7],
+    }
+}
+
+pub fn effect_at(head: Head, rows: &[u16], i: u16) -> Effect
+    requires { ⌜ Stored head (now rows) × (i < head .counts .effects) ⌝ }
+    ensures { λ r. ⌜ effectIn r ≡ effectAt (jobOf head (now (rows .entry))) i ⌝ }
+{
+    let at = ((EFFECTS_FROM + i) as usize) * WIDTH;
+    Effect {
+        cond: rows[at],
+        fact: rows[at + 1],
+        value: rows[at + 2],
+    }
+}
+
+pub fn program_row_at(head: Head, rows: &[u16], i: u16) -> ProgramRow
+    requires { ⌜ Stored head (now rows) × (i < head .counts .program) ⌝ }
+    ensures { λ r. ⌜ rowIn r ≡ programRowAt (jobOf head (now (rows .entry))) i ⌝ }
+{
+    let at = ((PROGRAM_FROM + i) as usize) * WIDTH;
+    ProgramRow {
+        kind: rows[at],
+        a: rows[at + 1],
+        b: rows[at + 2],
+        c: rows[at + 3],
+    }
+}

@@ -1,0 +1,41 @@
+-- The limits of document 01. `src/lib.rt` has the same numbers.
+use Prim.Native.Nat.{ℕ, _*_}
+
+-- "`facts=F`, 0 to 12", so many states
+abbrev pub mostFacts : ℕ
+mostFacts = 12
+
+abbrev pub mostStates : ℕ
+mostStates = 4096
+
+-- "`formulas=N`, 1 to 255"
+abbrev pub mostFormulas : ℕ
+mostFormulas = 255
+
+-- "`moves=M`, 0 to 64", "cost class 0 to 15, effect count 0 to 16"
+abbrev pub mostMoves : ℕ
+mostMoves = 64
+
+abbrev pub lastClass : ℕ
+lastClass = 15
+
+abbrev pub mostMoveEffects : ℕ
+mostMoveEffects = 16
+
+abbrev pub mostEffects : ℕ
+mostEffects = mostMoves * mostMoveEffects
+
+-- "`program=P`, 1 to 128"
+abbrev pub mostProgram : ℕ
+mostProgram = 128
+
+-- "At most 256 positions and 1,024 steps."
+abbrev pub mostPositions : ℕ
+mostPositions = 256
+
+abbrev pub mostSteps : ℕ
+mostSteps = 1024
+
+-- "`plan=K`, K from 0 to 4,000"
+abbrev pub mostEntries : ℕ
+mostEntries = 4000

@@ -1,0 +1,26 @@
+// The limits of a job, of its compiled job and of a plan. `specs/Limits.antt` has the same numbers, each under its sentence.
+
+// Lines of a job text.
+pub const FACTS: u16 = 12;
+
+pub const FORMULAS: u16 = 255;
+
+pub const MOVES: u16 = 64;
+
+pub const MOVE_EFFECTS: u16 = 16;
+
+pub const EFFECTS: u16 = MOVES * MOVE_EFFECTS;
+
+pub const LAST_CLASS: u16 = 15;
+
+pub const PROGRAM: u16 = 128;
+
+// The compiled job.
+pub const STATES: usize = 4096;
+
+pub const POSITIONS: usize = 256;
+
+pub const STEPS: usize = 1024;
+
+// Entries of a plan.
+pub const ENTRIES: usize = 4000;
