@@ -1,21 +1,26 @@
--- The domain of a well-formed job is bounded.
+-- The domain of a well-formed job is bounded, and has at most so many states.
 -- Assumes nothing.
-use Prim.Native.Nat.{ℕ, _<_}
+use Prim.Native.Nat.{ℕ, _≤_, _<_}
+use mathlib.Core.List.{List}
 use mathlib.Core.Path.{_≡_}
 use mathlib.Core.Bool.{Bool, true, false, cond}
 use mathlib.Core.Option.{Option, none, some}
 use native.Mathlib.Omega.{arith}
 use lib.Dec.{ltb}
 use lib.ListN.{length}
+use Rattle.limits.specs.Limits.{mostStates}
 use Rattle.job.specs.StateCount.{stateCount}
-use Rattle.job.specs.Job.{Job, Move}
+use Rattle.job.specs.Job.{Job, Move, moveAt}
 use Rattle.job.specs.WellFormed.{WellFormed}
+use Rattle.job.specs.Stored.{Stored}
+use Rattle.job.specs.declared.head.Head.{Head}
 use Rattle.semantics.specs.Domain.{Bounded}
 use Rattle.domain.specs.State.{affected}
 use Rattle.domain.specs.Cost.{mostCost}
-use Rattle.domain.specs.Domain.{moveAt, effectsOf, holdsIn, successorOf, costIn, domainOf}
+use Rattle.domain.specs.Domain.{effectsOf, holdsIn, successorOf, costIn, domainOf, domainIn}
 use Rattle.domain.proofs.CostLaws.{cost-within}
 use Rattle.domain.proofs.EffectLaws.{affected-below}
+use Rattle.domain.proofs.FactLaws.{count-within}
 
 -- what holds of all that a test lets through
 let-through : (P : ℕ → Type 0) (b : Bool) (o : Option ℕ) → ((t : ℕ) → o ≡ some t → P t) → (t : ℕ) → cond b o none ≡ some t → P t
@@ -34,3 +39,11 @@ domain-bounded j k = record { start = k .init; successors = stays; costs = λ m 
         let P : ℕ → Type 0 = λ u. u < stateCount (j .scalars .facts) in
         let-through P (ltb m (length (j .moves))) (cond (holdsIn j (x .pre) w) (some y) none)
         (let-through P (holdsIn j (x .pre) w) (some y) (λ u d. let q : y ≡ u = cc in rw q at below)) t e
+
+-- the same of a stored job
+module _ {head : Head} {rows : List ℕ} (s : Stored head rows) where
+  pub stored-bounded : Bounded (domainIn head rows) mostCost
+  stored-bounded = domain-bounded _ (s .job)
+
+  pub states-few : domainIn head rows .states ≤ mostStates
+  states-few = count-within (head .counts .facts) (s .job .facts)

@@ -1,4 +1,4 @@
--- Facts of a world: a true one is worth at most the world, and a world of so many facts stays below their state count as they change.
+-- Facts of a state: a true one is worth at most the state, and a state of so many facts stays below their state count as they change.
 -- Assumes nothing.
 use Prim.Native.Nat.{ℕ, zero, suc, _+_, _-_, _*_, _/_, _%_, _^_, _≤_, _<_}
 use mathlib.Core.Path.{_≡_, refl, ap}
@@ -10,12 +10,13 @@ use lib.Dec.{eqb}
 use borrow.Author.Tests.{eqb-true, eqb-false, eq-eqb, ne-eqb}
 use Rattle.laws.proofs.Tests.{cond-has}
 use Rattle.job.specs.StateCount.{stateCount}
+use Rattle.limits.specs.Limits.{mostFacts, mostStates}
 use Rattle.domain.specs.State.{fact, putFact}
 
 pub power-positive : (i : ℕ) → 0 < 2 ^ i
 power-positive i = one-le-pow i 2 (omega arith)
 
-pub count-within : (facts : ℕ) → facts ≤ 12 → stateCount facts ≤ 4096
+pub count-within : (facts : ℕ) → facts ≤ mostFacts → stateCount facts ≤ mostStates
 count-within facts h = pow-le-pow-right (omega arith) h
 
 pub fact-within : (w i : ℕ) → fact w i ≡ true → 2 ^ i ≤ w

@@ -2,6 +2,5 @@ pub mod FactLaws
 pub mod ValueLaws
 pub mod EffectLaws
 pub mod CostLaws
-pub mod StoreLaws
 pub mod SuccessorLaws
 pub mod DomainLaws

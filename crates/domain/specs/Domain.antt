@@ -1,22 +1,18 @@
--- The domain of a job: its states are worlds of its facts.
+-- The domain of a job: a state is a set of facts, as a number (document 01: world).
 use Prim.Native.Nat.{ℕ}
 use mathlib.Core.Path.{_≡_}
 use mathlib.Core.Bool.{Bool, false, cond}
 use mathlib.Core.Option.{Option, none, some}
-use mathlib.Core.List.{List, []}
+use mathlib.Core.List.{List}
 use lib.Dec.{ltb}
 use lib.ListN.{length, getD, take, drop}
 use Rattle.job.specs.StateCount.{stateCount}
-use Rattle.job.specs.Job.{Job, Move, Effect, moveOf, effectOf}
+use Rattle.job.specs.Job.{Job, Move, Effect, moveAt}
+use Rattle.job.specs.Store.{jobOf}
+use Rattle.job.specs.declared.head.Head.{Head}
 use Rattle.semantics.specs.Domain.{Domain}
 use Rattle.domain.specs.State.{values, affected}
 use Rattle.domain.specs.Cost.{classCost}
-
-abbrev pub moveAt : Job → ℕ → Move
-moveAt j m = getD (j .moves) m (moveOf 0 [])
-
-abbrev pub effectAt : Job → ℕ → Effect
-effectAt j k = getD (j .effects) k (effectOf [])
 
 -- the lines `e=` of a move
 abbrev pub effectsOf : Job → Move → List Effect
@@ -45,6 +41,10 @@ domainOf j = record {
   goal = holdsIn j (j .scalars .goal);
 }
 
+-- the domain of a stored job
+abbrev pub domainIn : Head → List ℕ → Domain
+domainIn head rows = domainOf (jobOf head rows)
+
 -- a list of truth values that tells each formula's in a state
-abbrev pub Tells : Job → ℕ → List Bool → Type 0
-Tells j w vs = (a : ℕ) → getD vs a false ≡ domainOf j .holds a w
+abbrev pub Tells : Domain → ℕ → List Bool → Type 0
+Tells D s vs = (a : ℕ) → getD vs a false ≡ D .holds a s

@@ -1,4 +1,4 @@
--- "A world is a whole number; its bit i (worth 2^i) says that fact i is true." Formulas and effects in such a world.
+-- "A world is a whole number; its bit i (worth 2^i) says that fact i is true." Formulas and effects in such a state.
 use Prim.Native.Nat.{ℕ, _+_, _-_, _/_, _%_, _^_}
 use mathlib.Core.Bool.{Bool, true, false, not, _&&_, _||_, cond}
 use mathlib.Core.List.{List, [], _∷_, _++_, foldl}

@@ -1,15 +1,14 @@
 // Effects of moves on a state.
 ghost use mathlib.Core.Path.{_≡_};
 ghost use mathlib.Core.Bool.{cond};
-ghost use Prim.Native.Nat.{_+_, _*_, _≤_, _<_};
-ghost use lib.ListN.{length, take, drop};
-ghost use Rattle.job.specs.StateCount.{stateCount};
-ghost use Rattle.job.specs.Store.{allRows, jobOf};
-ghost use Rattle.job.specs.WellFormed.{WellFormed};
+ghost use Prim.Native.Nat.{_+_, _≤_, _<_};
+ghost use lib.ListN.{take, drop};
+ghost use Rattle.job.specs.Job.{effectAt};
+ghost use Rattle.job.specs.Store.{jobOf};
+ghost use Rattle.job.specs.Stored.{Stored};
 ghost use Rattle.domain.specs.State.{afterEffect, applied};
-ghost use Rattle.domain.specs.Domain.{effectAt};
+ghost use Rattle.domain.specs.Domain.{domainIn};
 use job::head::Head;
-use job::rows::EFFECTS;
 
 // 1 for true, 0 for false.
 fn bit(b: bool) -> u16
@@ -20,16 +19,14 @@ fn bit(b: bool) -> u16
 
 // The state after effect k, where it holds by the formulas' values and gives its fact the value v.
 fn apply_effect(head: Head, rows: &[u16], values: &[bool], v: u16, k: u16, state: u16) -> u16
-    requires { ⌜ length (now rows) ≡ allRows * 4 ⌝ }
-    requires { ⌜ WellFormed (jobOf head (now rows)) ⌝ }
-    requires { ⌜ (k < head .counts .effects) × (state < stateCount (head .counts .facts)) ⌝ }
+    requires { ⌜ Stored head (now rows) ⌝ }
+    requires { ⌜ (k < head .counts .effects) × (state < domainIn head (now rows) .states) ⌝ }
     ensures { λ r. ⌜ r ≡ afterEffect (now (values .entry)) v state (effectAt (jobOf head (now (rows .entry))) k) ⌝ }
 {
-    // condition, fact, value
-    let row = job::rows::row_at(rows, EFFECTS + k);
-    let on = crate::formulas::value_at(values, row.a);
-    let times = bit(on) * bit(row.c == v);
-    crate::facts::put_fact(times, state, row.b, v)
+    let effect = job::stored::effect_at(head, rows, k);
+    let on = crate::formulas::value_at(values, effect.cond);
+    let times = bit(on) * bit(effect.value == v);
+    crate::facts::put_fact(times, state, effect.fact, v)
 }
 
 // The state after so many effects from number `first` on, of which those are made that hold by the formulas' values and give their fact the value v.
@@ -42,9 +39,8 @@ pub fn apply_effects(
     count: u16,
     state: u16,
 ) -> u16
-    requires { ⌜ length (now rows) ≡ allRows * 4 ⌝ }
-    requires { ⌜ WellFormed (jobOf head (now rows)) ⌝ }
-    requires { ⌜ (first + count ≤ head .counts .effects) × (state < stateCount (head .counts .facts)) ⌝ }
+    requires { ⌜ Stored head (now rows) ⌝ }
+    requires { ⌜ (first + count ≤ head .counts .effects) × (state < domainIn head (now rows) .states) ⌝ }
     ensures { λ r. ⌜ r ≡ applied (now (values .entry)) v (take count (drop first (jobOf head (now (rows .entry)) .effects))) state ⌝ }
 {
     let mut reached = state;

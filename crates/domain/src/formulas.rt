@@ -1,13 +1,18 @@
 // The formulas' values in a state, all at once.
 ghost use mathlib.Core.Path.{_≡_};
 ghost use mathlib.Core.Bool.{false};
-ghost use Prim.Native.Nat.{_*_, _<_};
-ghost use lib.ListN.{length, getD};
-ghost use Rattle.job.specs.Store.{allRows, jobOf};
-ghost use Rattle.job.specs.WellFormed.{WellFormed};
+ghost use Prim.Native.Nat.{_<_};
+ghost use lib.ListN.{getD};
+ghost use Rattle.limits.specs.Limits.{mostFacts};
+ghost use Rattle.job.specs.Store.{formulaIn};
+ghost use Rattle.job.specs.Stored.{Stored};
 ghost use Rattle.domain.specs.State.{value as valueIn};
-ghost use Rattle.domain.specs.Domain.{Tells};
+ghost use Rattle.domain.specs.Domain.{domainIn, Tells};
 use job::head::Head;
+use job::stored::Formula;
+
+// How many values there may be, one a formula.
+pub const VALUES: usize = limits::FORMULAS as usize;
 
 // The value at an index; false where there is none.
 pub fn value_at(values: &[bool], a: u16) -> bool
@@ -21,33 +26,32 @@ pub fn value_at(values: &[bool], a: u16) -> bool
 }
 
 // The value of a formula in a state, from those of the formulas before it.
-fn value(state: u16, values: &[bool], kind: u16, a: u16, b: u16) -> bool
-    requires { ⌜ (kind ≡ 2 → a < 12) ⌝ }
-    ensures { λ r. ⌜ r ≡ valueIn state (now (values .entry)) (record { kind = kind; a = a; b = b }) ⌝ }
+fn value(state: u16, values: &[bool], formula: Formula) -> bool
+    requires { ⌜ (formula .kind ≡ 2 → formula .a < mostFacts) ⌝ }
+    ensures { λ r. ⌜ r ≡ valueIn state (now (values .entry)) (formulaIn formula) ⌝ }
 {
+    let kind = formula.kind;
     match kind {
         0 => false,
         1 => true,
-        2 => crate::facts::fact(state, a),
-        3 => !value_at(values, a),
-        4 => value_at(values, a) && value_at(values, b),
-        _ => value_at(values, a) || value_at(values, b),
+        2 => crate::facts::fact(state, formula.a),
+        3 => !value_at(values, formula.a),
+        4 => value_at(values, formula.a) && value_at(values, formula.b),
+        _ => value_at(values, formula.a) || value_at(values, formula.b),
     }
 }
 
 // The values of all formulas of a job in a state.
-pub fn formula_values(head: Head, rows: &[u16], state: u16) -> [bool; 255]
-    requires { ⌜ length (now rows) ≡ allRows * 4 ⌝ }
-    requires { ⌜ WellFormed (jobOf head (now rows)) ⌝ }
-    ensures { λ r. ⌜ Tells (jobOf head (now (rows .entry))) state r ⌝ }
+pub fn formula_values(head: Head, rows: &[u16], state: u16) -> [bool; VALUES]
+    requires { ⌜ Stored head (now rows) ⌝ }
+    ensures { λ r. ⌜ Tells (domainIn head (now (rows .entry))) state r ⌝ }
 {
     let n = head.counts.formulas;
-    let mut values = [false; 255];
+    let mut values = [false; VALUES];
     let mut k: u16 = 0;
     while k < n {
-        // kind, a, b
-        let row = job::rows::row_at(rows, k);
-        let v = value(state, &values, row.a, row.b, row.c);
+        let formula = job::stored::formula_at(head, rows, k);
+        let v = value(state, &values, formula);
         let i = k as usize;
         values[i] = v;
         k += 1;

@@ -1,8 +1,10 @@
-// A job's domain in code: formulas' values in a state, a move's successor and cost. Here alone a state is a set of bits, one a fact.
+// A stored job's domain in code: states, start and goal, formulas' values in a state, a move's successor and cost. Here alone a state is a set of bits, one a
+// fact.
 pub mod effects;
 pub mod facts;
 pub mod formulas;
 pub mod moves;
+pub mod states;
 
 // The state after a move, where it is applicable.
 pub enum Successor {

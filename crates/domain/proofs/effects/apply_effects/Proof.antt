@@ -2,12 +2,10 @@ use mathlib.Core.Path.{_≡_, refl}
 use Prim.Native.Nat.{_≤_, _-_}
 use native.Mathlib.Omega.{arith}
 use lib.ListN.{take, drop}
-use Rattle.job.specs.Job.{effectOf}
-use Rattle.job.specs.Store.{effectsFrom, jobOf}
-use Rattle.job.proofs.StoreLaws.{rows-length}
+use Rattle.job.specs.Store.{jobOf}
+use Rattle.job.proofs.StoredLaws.{limited, effect-count}
 use Rattle.domain.specs.State.{applied}
 use Rattle.domain.proofs.EffectLaws.{applied-more, applied-below}
-use Rattle.domain.proofs.StoreLaws.{counts-within}
 use borrow.Author.Needs.{needs}
 use Rattle.domain.proofs.effects.apply_effects.Statement.{statement}
 use Rattle.domain.proofs.effects.apply_effects.Tie as tie
@@ -26,21 +24,21 @@ add-apply-effect : tie.Need-add-apply-effect Inv-loop μ-loop
 add-apply-effect c =
     let a = c .before .before .before .before .args in
     let p = c .before .before .before .before .pre in
-    omega (arith, p .1 .1 .0, counts-within (a .head) (a .rows .now) (p .1 .0) .2)
+    omega (arith, p .1 .0, limited (p .0) .effects)
 
 apply-effect-requires : tie.Need-apply-effect-requires Inv-loop μ-loop
 apply-effect-requires c κs =
     let a = c .before .before .before .before .args in
     let p = c .before .before .before .before .pre in
-    let below = applied-below (jobOf (a .head) (a .rows .now)) (p .1 .0) (a .first) (c .before .loop .k) (a .values .now) (a .v) (a .state) (p .1 .1 .1) in
-    (p .0, (p .1 .0, (omega (arith, p .1 .1 .0), rw (c .before .loop .inv .1) below)))
+    let below = applied-below (jobOf (a .head) (a .rows .now)) (p .0 .job) (a .first) (c .before .loop .k) (a .values .now) (a .v) (a .state) (p .1 .1) in
+    (p .0, (omega (arith, p .1 .0), rw (c .before .loop .inv .1) below))
 
 loop-again : tie.Need-loop-again Inv-loop μ-loop
 loop-again c =
     let a = c .before .before .before .before .before .args in
     let p = c .before .before .before .before .before .pre in
-    let n = rows-length effectOf (a .rows .now) effectsFrom (a .head .counts .effects) in
-    let more = applied-more (a .values .now) (jobOf (a .head) (a .rows .now) .effects) (a .first) (a .v) (c .before .before .loop .k) (a .state) (c .before .before .loop .reached) _ (omega (arith, p .1 .1 .0)) (c .before .before .loop .inv .1) (c .apply-effect .ensures) in
+    let n = effect-count (a .head) (a .rows .now) in
+    let more = applied-more (a .values .now) (jobOf (a .head) (a .rows .now) .effects) (a .first) (a .v) (c .before .before .loop .k) (a .state) (c .before .before .loop .reached) _ (omega (arith, p .1 .0)) (c .before .before .loop .inv .1) (c .apply-effect .ensures) in
     (omega arith, more)
 
 returns : tie.Need-returns Inv-loop μ-loop

@@ -1,6 +1,7 @@
 use Prim.Native.Nat.{_-_, _*_, _/_, _%_, _^_, _≤_}
 use native.Mathlib.Omega.{arith}
 use Rattle.domain.proofs.FactLaws.{count-within, times-within, cleared-within, set-within, clears, sets-fact}
+use Rattle.limits.specs.Limits.{mostStates}
 use borrow.Author.Needs.{needs}
 use Rattle.domain.proofs.facts.put_fact.Statement.{statement}
 use Rattle.domain.proofs.facts.put_fact.Tie as tie
@@ -8,7 +9,7 @@ use Rattle.domain.proofs.facts.put_fact.Tie as tie
 mul-p : tie.Need-mul-p
 mul-p c =
     let a = c .before .args in
-    let small : a .times * c .worth .result ≤ 4096 = rw (c .worth .ensures) (omega (arith, times-within (a .times) (a .w) (a .i) (c .before .pre .0), count-within (a .i) (omega arith))) in
+    let small : a .times * c .worth .result ≤ mostStates = rw (c .worth .ensures) (omega (arith, times-within (a .times) (a .w) (a .i) (c .before .pre .0), count-within (a .i) (omega arith))) in
     record { fits = omega (arith, small) }
 
 mul-result : tie.Need-mul-result
@@ -26,13 +27,13 @@ returns c = let a = c .before .before .args in rw (c .before .worth .ensures, c 
 mul-result-2 : tie.Need-mul-result-2
 mul-result-2 c =
     let a = c .before .before .args in
-    let small : a .times * c .before .worth .result * (1 - a .w / 2 ^ (a .i) % 2) ≤ 4096 = rw (c .before .worth .ensures) (omega (arith, set-within (a .times) (a .w) (a .i) (c .before .before .pre .0), count-within (a .i) (omega arith))) in
+    let small : a .times * c .before .worth .result * (1 - a .w / 2 ^ (a .i) % 2) ≤ mostStates = rw (c .before .worth .ensures) (omega (arith, set-within (a .times) (a .w) (a .i) (c .before .before .pre .0), count-within (a .i) (omega arith))) in
     record { fits = omega (arith, small) }
 
 add-result : tie.Need-add-result
 add-result c =
     let a = c .before .before .args in
-    let small : a .times * c .before .worth .result * (1 - a .w / 2 ^ (a .i) % 2) ≤ 4096 = rw (c .before .worth .ensures) (omega (arith, set-within (a .times) (a .w) (a .i) (c .before .before .pre .0), count-within (a .i) (omega arith))) in
+    let small : a .times * c .before .worth .result * (1 - a .w / 2 ^ (a .i) % 2) ≤ mostStates = rw (c .before .worth .ensures) (omega (arith, set-within (a .times) (a .w) (a .i) (c .before .before .pre .0), count-within (a .i) (omega arith))) in
     record { fits = omega (arith, small, c .before .before .pre .2) }
 
 returns-2 : tie.Need-returns-2
