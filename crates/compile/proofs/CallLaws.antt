@@ -4,9 +4,8 @@ use Prim.Native.Nat.{ℕ, _+_, _*_, _≤_, _<_}
 use mathlib.Core.Path.{_≡_, refl, sym, ap, subst}
 use mathlib.Core.List.{List}
 use native.Mathlib.Omega.{arith}
-use lib.ListN.{length}
-use Rattle.job.specs.Store.{allRows, jobOf}
-use Rattle.job.specs.WellFormed.{WellFormed}
+use Rattle.job.specs.Store.{jobOf}
+use Rattle.job.specs.Stored.{Stored}
 use Rattle.job.specs.declared.head.Head.{Head}
 use Rattle.semantics.specs.Label.{Label}
 use Rattle.semantics.specs.Program.{Program, any, seq}
@@ -36,18 +35,18 @@ module _ (h : Head) (l : List ℕ) where
 
   -- what a call for row i asks; it holds of the call that is being made
   abbrev pub Fit : ℕ → Cursor → ℕ → Type 0
-  Fit i from places = (length l ≡ allRows * 4) × (WellFormed (jobOf h l) × ((i < h .counts .program) × Enough M (of i) from places))
+  Fit i from places = Stored h l × ((i < h .counts .program) × Enough M (of i) from places)
 
   pub at-next : (i t : ℕ) {places : ℕ} (from : Cursor) {f : Cursor} → f ≡ next from → (i < t) × Fit i (next from) places → (i < t) × Fit i f places
   at-next i t {places} from e x = subst (λ (c : Cursor). (i < t) × Fit i c places) (sym e) x
 
   module _ {i t places : ℕ} {from : Cursor} (p : (i ≡ t) × Fit i from places) where
     room : Enough M (of i) from places
-    room = p .1 .1 .1 .1
+    room = p .1 .1 .1
 
     -- a call for an earlier row
     call : {j z : ℕ} {c : Cursor} → j < i → z ≡ places → Enough M (of j) c places → (j < t) × Fit j c z
-    call {j} {z} {c} g e r = (omega (arith, g, p .0), (p .1 .0, (p .1 .1 .0, (omega (arith, g, p .1 .1 .1 .0), rw e r))))
+    call {j} {z} {c} g e r = (omega (arith, g, p .0), (p .1 .0, (omega (arith, g, p .1 .1 .0), rw e r)))
 
     pub leaf-ok : {x : Label} → Leaf M (of i) x → (from .at + 4 ≤ places) × (from .position < 65535)
     leaf-ok s = (omega (arith, room .room, s .sizes (stepWeights M)), omega (arith, room .positions))

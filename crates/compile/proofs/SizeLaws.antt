@@ -48,10 +48,10 @@ steps-size M (star a) n = simp length-append (omega (arith, steps-size M a (suc 
 
 -- the capped sizes of the rows before row i stand in a list
 abbrev pub Sized : Weights → List Row → ℕ → List ℕ → Type 0
-Sized w rows i sizes = (k : ℕ) → k < i → getD sizes k 0 ≡ capped (size w (rowProgram rows k))
+Sized w program i sizes = (k : ℕ) → k < i → getD sizes k 0 ≡ capped (size w (rowProgram program k))
 
-module _ (w : Weights) (rows : List Row) (i : ℕ) (sizes : List ℕ) (s : Sized w rows i sizes) where
-  built-size : (r : Construct) → Earlier i r → sizeIn w sizes r ≡ capped (size w (programIn (rowProgram rows) r))
+module _ (w : Weights) (program : List Row) (i : ℕ) (sizes : List ℕ) (s : Sized w program i sizes) where
+  built-size : (r : Construct) → Earlier i r → sizeIn w sizes r ≡ capped (size w (programIn (rowProgram program) r))
   unfolding size
   built-size Nil e = refl
   built-size (Move a) e = refl
@@ -64,8 +64,8 @@ module _ (w : Weights) (rows : List Row) (i : ℕ) (sizes : List ℕ) (s : Sized
   built-size (Star a) e = omega (arith, s a e)
 
   -- one row more
-  pub sized-more : (r : Construct) (v : ℕ) → (rowProgram rows i ≡ programIn (rowProgram rows) r) × Earlier i r → v ≡ sizeIn w sizes r → i < length sizes
-      → Sized w rows (i + 1) (set sizes i v)
+  pub sized-more : (r : Construct) (v : ℕ) → (rowProgram program i ≡ programIn (rowProgram program) r) × Earlier i r → v ≡ sizeIn w sizes r → i < length sizes
+      → Sized w program (i + 1) (set sizes i v)
   sized-more r v e q h k l = elim (decLt k i) [
     | yes y ↦ getD-set-other sizes i k v 0 (λ z. omega arith) ∙ s k y
     | no y ↦ (let z : k ≡ i = omega arith in

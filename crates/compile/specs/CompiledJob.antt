@@ -4,6 +4,7 @@ use mathlib.Core.Bool.{Bool, _&&_}
 use mathlib.Core.List.{List}
 use lib.Dec.{leb}
 use lib.ListN.{length}
+use Rattle.limits.specs.Limits.{mostPositions, mostSteps}
 use Rattle.job.specs.Job.{Job}
 use Rattle.semantics.specs.CompilingTable.{Step, end, steps}
 use Rattle.compile.specs.Program.{programOf}
@@ -20,4 +21,4 @@ stepCount j = length (stepsOf j)
 
 -- "At most 256 positions and 1,024 steps."
 unfoldable pub fits : Job → Bool
-fits j = leb (positionCount j) 256 && leb (stepCount j) 1024
+fits j = leb (positionCount j) mostPositions && leb (stepCount j) mostSteps

@@ -1,9 +1,10 @@
 -- Numbers laid over a list, and the steps of a program laid so.
-use Prim.Native.Nat.{ℕ, _+_, _*_, _≤_}
+use Prim.Native.Nat.{ℕ, _+_, _*_, _≤_, _<_}
 use mathlib.Core.Path.{_≡_}
 use mathlib.Core.List.{List}
 use lib.ListN.{length}
 use lib.Seq.{sets}
+use Rattle.limits.specs.Limits.{mostPositions}
 use Rattle.semantics.specs.Program.{Program}
 use Rattle.semantics.specs.CompilingTable.{end, steps, flat}
 use Rattle.compile.specs.Size.{size, positionWeights, stepWeights}
@@ -21,5 +22,5 @@ pub record Wrote (moves : ℕ) (σ : Program) (old : List ℕ) (from : Cursor) (
 
 -- there are positions and places left for all of them
 pub record Enough (moves : ℕ) (σ : Program) (from : Cursor) (places : ℕ) : Type 0 where
-  pub positions : from .position + size positionWeights σ ≤ 255
+  pub positions : from .position + size positionWeights σ < mostPositions
   pub room : from .at + size (stepWeights moves) σ * 4 ≤ places

@@ -21,11 +21,11 @@ build ps r =
     (star (getD ps (r .a) nil)))))))))
 
 unfoldable pub programs : List Row → List Program
-programs rows = foldl (λ ps r. ps ++ (build ps r ∷ [])) [] rows
+programs program = foldl (λ ps r. ps ++ (build ps r ∷ [])) [] program
 
 -- the program of row i
 abbrev pub rowProgram : List Row → ℕ → Program
-rowProgram rows i = getD (programs rows) i nil
+rowProgram program i = getD (programs program) i nil
 
 -- "The last is the recipe."
 abbrev pub programOf : Job → Program

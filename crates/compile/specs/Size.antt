@@ -1,7 +1,8 @@
 -- Sizes of programs. Positions and steps are one count with other weights.
-use Prim.Native.Nat.{ℕ, _+_, min}
+use Prim.Native.Nat.{ℕ, suc, _+_, min}
 use mathlib.Core.List.{List}
 use lib.ListN.{getD}
+use Rattle.limits.specs.Limits.{mostSteps}
 use Rattle.semantics.specs.Program.{Program, nil, move, any, test, seq, ifElse, choice, while, star}
 use Rattle.compile.specs.declared.rows.Construct.{Construct}
 use Rattle.compile.specs.declared.rows.Construct.the-variants.{Nil, Move, Any, Test, Seq, IfElse, Choice, While, Star}
@@ -27,7 +28,7 @@ stepWeights moves = record { any = moves; branch = 4; repeat = 3 }
 
 -- sizes above the limits are all the same
 abbrev pub capped : ℕ → ℕ
-capped n = min n 1025
+capped n = min n (suc mostSteps)
 
 -- a row's size, from a list of capped sizes of the rows before it
 abbrev pub sizeIn : Weights → List ℕ → Construct → ℕ

@@ -4,8 +4,8 @@ ghost use mathlib.Core.Bool.{true};
 ghost use Prim.Native.Nat.{_+_, _*_, _≤_, _<_};
 ghost use lib.ListN.{length};
 ghost use lib.Seq.{sets};
-ghost use Rattle.job.specs.Store.{allRows, jobOf};
-ghost use Rattle.job.specs.WellFormed.{WellFormed};
+ghost use Rattle.job.specs.Store.{jobOf};
+ghost use Rattle.job.specs.Stored.{Stored};
 ghost use Rattle.semantics.specs.CompilingTable.{flat};
 ghost use Rattle.compile.specs.Program.{rowProgram};
 ghost use Rattle.compile.specs.CompiledJob.{stepsOf, stepCount, fits};
@@ -27,8 +27,7 @@ fn behind(from: Cursor) -> Cursor
 
 // Writes the steps of row i, compiled from the cursor's position, at its place in the list.
 fn compile_row(head: Head, rows: &[u16], i: u16, list: &mut [u16], from: Cursor) -> Cursor
-    requires { ⌜ length (now rows) ≡ allRows * 4 ⌝ }
-    requires { ⌜ WellFormed (jobOf head (now rows)) ⌝ }
+    requires { ⌜ Stored head (now rows) ⌝ }
     requires { ⌜ i < head .counts .program ⌝ }
     requires { ⌜ Enough (head .counts .moves) (rowProgram (jobOf head (now rows) .program) i) from (length (now list)) ⌝ }
     ensures { λ r. ⌜ Wrote (head .counts .moves) (rowProgram (jobOf head (now (rows .entry)) .program) i) (now (list .entry)) from (now (list .exit)) r ⌝ }
@@ -68,8 +67,7 @@ fn compile_row(head: Head, rows: &[u16], i: u16, list: &mut [u16], from: Cursor)
 
 // Writes the steps of the job's program over the front of the list.
 pub fn compile(head: Head, rows: &[u16], list: &mut [u16])
-    requires { ⌜ length (now rows) ≡ allRows * 4 ⌝ }
-    requires { ⌜ WellFormed (jobOf head (now rows)) ⌝ }
+    requires { ⌜ Stored head (now rows) ⌝ }
     requires { ⌜ (fits (jobOf head (now rows)) ≡ true) × (stepCount (jobOf head (now rows)) * 4 ≤ length (now list)) ⌝ }
     ensures { λ _. ⌜ now (list .exit) ≡ sets (now (list .entry)) 0 (flat (stepsOf (jobOf head (now (rows .entry))))) ⌝ }
 {

@@ -1,14 +1,21 @@
 // Sizes of program rows, capped so that rows which double each other neither overflow nor take long.
 ghost use mathlib.Core.Path.{_≡_};
-ghost use Prim.Native.Nat.{_+_, _-_, _*_, _<_, min};
-ghost use lib.ListN.{length, getD};
-ghost use Rattle.job.specs.Store.{allRows, jobOf};
-ghost use Rattle.job.specs.WellFormed.{WellFormed};
+ghost use Prim.Native.Nat.{_+_, _-_, _<_};
+ghost use lib.ListN.{getD};
+ghost use Rattle.job.specs.Store.{jobOf};
+ghost use Rattle.job.specs.Stored.{Stored};
 ghost use Rattle.compile.specs.Program.{programOf};
 ghost use Rattle.compile.specs.CompiledJob.{positionCount, stepCount};
 ghost use Rattle.compile.specs.Size.{size, capped as cap, sizeIn};
 use crate::rows::Construct;
 use job::head::Head;
+use limits::PROGRAM;
+use limits::STEPS;
+
+// A size that is above both limits, as which all such sizes are counted.
+const CAP: usize = STEPS + 1;
+
+const ROWS: usize = PROGRAM as usize;
 
 // What an `any` row counts, and what a row of two branches and one that repeats its part add.
 pub struct Weights {
@@ -21,11 +28,11 @@ pub struct Weights {
 fn capped(x: u16, y: u16, z: u16) -> u16
     ensures { λ r. ⌜ r ≡ cap (x + y + z) ⌝ }
 {
-    let s = (x as u32) + (y as u32) + (z as u32);
-    if s < 1025 {
+    let s = (x as usize) + (y as usize) + (z as usize);
+    if s < CAP {
         return s as u16;
     }
-    1025
+    CAP as u16
 }
 
 // The entry at an index; 0 where there is none.
@@ -58,12 +65,11 @@ fn construct_size(construct: Construct, sizes: &[u16], w: Weights) -> u16
 
 // The size of the job's program, which is its last row.
 fn program_size(head: Head, rows: &[u16], w: Weights) -> u16
-    requires { ⌜ length (now rows) ≡ allRows * 4 ⌝ }
-    requires { ⌜ WellFormed (jobOf head (now rows)) ⌝ }
+    requires { ⌜ Stored head (now rows) ⌝ }
     ensures { λ r. ⌜ r ≡ cap (size w (programOf (jobOf head (now (rows .entry))))) ⌝ }
 {
     let n = head.counts.program;
-    let mut sizes = [0u16; 128];
+    let mut sizes = [0u16; ROWS];
     let mut i: u16 = 0;
     while i < n {
         let construct = crate::rows::construct_at(head, rows, i);
@@ -81,11 +87,10 @@ pub struct Sizes {
     pub steps: u16,
 }
 
-// The sizes of the compiled job; beyond the limits they are only known to be so.
+// The sizes of the compiled job, capped.
 pub fn measure(head: Head, rows: &[u16]) -> Sizes
-    requires { ⌜ length (now rows) ≡ allRows * 4 ⌝ }
-    requires { ⌜ WellFormed (jobOf head (now rows)) ⌝ }
-    ensures { λ r. ⌜ (r .positions ≡ min (positionCount (jobOf head (now (rows .entry)))) 1026) × (r .steps ≡ cap (stepCount (jobOf head (now (rows .entry))))) ⌝ }
+    requires { ⌜ Stored head (now rows) ⌝ }
+    ensures { λ r. ⌜ (r .positions ≡ cap (positionCount (jobOf head (now (rows .entry))))) × (r .steps ≡ cap (stepCount (jobOf head (now (rows .entry))))) ⌝ }
 {
     let positions = Weights {
         any: 1,
@@ -98,7 +103,7 @@ pub fn measure(head: Head, rows: &[u16]) -> Sizes
         repeat: 3,
     };
     Sizes {
-        positions: program_size(head, rows, positions) + 1,
+        positions: capped(program_size(head, rows, positions), 1, 0),
         steps: program_size(head, rows, steps),
     }
 }

@@ -12,13 +12,14 @@ use lib.ListN.{length, getD, take, drop, set}
 use lib.Seq.{length-take-le, take-suc-set, take-nil}
 use borrow.Author.Tests.{lt-ltb, le-ltb, ltb-true}
 use Rattle.laws.proofs.Tests.{cond-has}
+use Rattle.limits.specs.Limits.{mostEntries}
 use Rattle.text.specs.Bytes.{bytes}
 use Rattle.text.specs.Lines.{lines, lineLength, hasKey, valueOf}
 use Rattle.text.specs.Numbers.{numbers}
 use Rattle.text.specs.Progress.{answered}
 use Rattle.text.proofs.LineLaws.{lines-at, lines-past}
 use Rattle.text.proofs.LineText.{line-sound}
-use Rattle.plans.specs.PlanText.{PlanOutcome, listed, refused, mostEntries, below, entryIn, readEntries, readLines, readPlan}
+use Rattle.plans.specs.PlanText.{PlanOutcome, listed, refused, below, entryIn, readEntries, readLines, readPlan}
 
 abbrev pub countIn : List ℕ → Option ℕ
 countIn line = entryIn (bytes "plan") (suc mostEntries) line

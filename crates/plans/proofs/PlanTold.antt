@@ -7,12 +7,13 @@ use mathlib.Core.Option.{Option, none, some}
 use native.Mathlib.Omega.{arith}
 use lib.ListN.{length, getD, length-append}
 use Rattle.laws.proofs.Lists.{every-more}
+use Rattle.limits.specs.Limits.{mostEntries}
 use Rattle.text.specs.Bytes.{bytes}
 use Rattle.text.specs.Lines.{lines}
 use Rattle.text.specs.Written.{lineText}
 use Rattle.text.proofs.LineLaws.{flatten-lines}
 use Rattle.text.proofs.LineText.{line-sound}
-use Rattle.plans.specs.PlanText.{listed, refused, mostEntries, entryIn, readEntries, readLines, readPlan, planText}
+use Rattle.plans.specs.PlanText.{listed, refused, entryIn, readEntries, readLines, readPlan, planText}
 use Rattle.plans.proofs.PlanLaws.{countIn, count-right, count-wrong, line-right, line-wrong, entry-number}
 
 not-listed : {A : Type 0} (line : ℕ) (es : List ℕ) → refused line ≡ listed es → A

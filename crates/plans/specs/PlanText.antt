@@ -5,6 +5,7 @@ use mathlib.Core.List.{List, [], _∷_, _++_, map, flatten}
 use mathlib.Core.Option.{Option, none, some}
 use lib.Dec.{ltb}
 use lib.ListN.{length, getD, take}
+use Rattle.limits.specs.Limits.{mostEntries}
 use Rattle.text.specs.Bytes.{bytes}
 use Rattle.text.specs.Lines.{lines, valueOf}
 use Rattle.text.specs.Numbers.{numbers}
@@ -18,9 +19,6 @@ use Rattle.plans.specs.declared.plan_text.PlanEntry.the-variants.{Number
 pub data PlanOutcome : Type 0 where
   listed : List ℕ → PlanOutcome
   refused : ℕ → PlanOutcome
-
-abbrev pub mostEntries : ℕ
-mostEntries = 4000
 
 abbrev pub below : ℕ → Option (List ℕ) → Option ℕ
 below limit none = none

@@ -4,7 +4,9 @@ ghost use mathlib.Core.List.{[]};
 ghost use Prim.Native.Nat.{_≤_};
 ghost use lib.ListN.{length, drop};
 ghost use Rattle.text.specs.Lines.{lines};
-ghost use Rattle.plans.specs.PlanText.{entryCount, entryIn, entryOf, mostEntries, planOf, readEntries, readPlan};
+ghost use Rattle.limits.specs.Limits.{mostEntries};
+ghost use Rattle.plans.specs.PlanText.{entryCount, entryIn, entryOf, planOf, readEntries, readPlan};
+use limits::ENTRIES;
 
 // How many entries a plan has; or the line at which its text is refused.
 pub enum PlanAnswer {
@@ -18,8 +20,8 @@ pub enum PlanEntry {
     Wrong,
 }
 
-// The room that a plan's entries need.
-pub const ENTRIES: usize = 4000;
+// How many entries a plan has is below this number.
+const COUNTS: u16 = (ENTRIES as u16) + 1;
 
 // The one number of a line with this key, where it is below a limit.
 fn read_entry(line: &[u8], key: &[u8], limit: u16) -> PlanEntry
@@ -76,7 +78,7 @@ pub fn read_plan(text: &[u8], key: &[u8], bound: u16, entries: &mut [u16]) -> Pl
     ensures { λ r. ⌜ (planOf r (now (entries .exit)) ≡ readPlan (now (key .entry)) bound (now (text .entry))) × (entryCount r ≤ mostEntries) ⌝ }
 {
     let e = text::lines::line_end(text, 0);
-    let first = read_entry(&text[0..e], b"plan", 4001);
+    let first = read_entry(&text[0..e], b"plan", COUNTS);
     let PlanEntry::Number(count) = first else {
         return PlanAnswer::Refused(1);
     };

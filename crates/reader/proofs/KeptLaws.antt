@@ -10,6 +10,7 @@ use lib.ListN.{length, getD, length-append}
 use borrow.Author.Tests.{leb-true, ltb-true}
 use Rattle.laws.proofs.Tests.{never, and-left, and-right, cond-has}
 use Rattle.laws.proofs.Lists.{every-more}
+use Rattle.limits.specs.Limits.{lastClass, mostMoveEffects}
 use Rattle.job.specs.StateCount.{stateCount}
 use Rattle.job.specs.Job as J
 use Rattle.job.specs.Job.{countsOf, formulaOf, moveOf, effectOf, rowOf}
@@ -109,9 +110,9 @@ module _ (s : Reading) (r : List ℕ) where
         formula = f .formula;
         move = every-more (moveOf 0 []) (λ i m. MoveFits (length (j .formulas)) m) (j .moves) m (f .move)
             (record {
-              pre = ltb-true (getD r 0 0) (c .formulas) (and-left (ltb (getD r 0 0) (c .formulas)) (leb (getD r 1 0) 15) (x .fields));
-              class = leb-true (getD r 1 0) 15 (and-right (ltb (getD r 0 0) (c .formulas)) (leb (getD r 1 0) 15) (x .fields));
-              count = leb-true (getD r 2 0) 16 (x .range);
+              pre = ltb-true (getD r 0 0) (c .formulas) (and-left (ltb (getD r 0 0) (c .formulas)) (leb (getD r 1 0) lastClass) (x .fields));
+              class = leb-true (getD r 1 0) lastClass (and-right (ltb (getD r 0 0) (c .formulas)) (leb (getD r 1 0) lastClass) (x .fields));
+              count = leb-true (getD r 2 0) mostMoveEffects (x .range);
             });
         tiled = tiled-more 0 (length (j .effects)) (j .moves) m (subst (Tiled 0 (j .moves)) e (f .tiled)) refl;
         effect = f .effect;

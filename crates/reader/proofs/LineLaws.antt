@@ -3,20 +3,19 @@
 use Prim.Native.Nat.{ℕ, _≤_}
 use mathlib.Core.Path.{_≡_, ap}
 use mathlib.Core.Bool.{Bool, true, false}
-use mathlib.Core.List.{List, [], _∷_, _++_}
+use mathlib.Core.List.{List}
 use mathlib.Core.Option.{some}
 use native.Mathlib.Omega.{arith}
-use lib.ListN.{length, getD, take}
 use Rattle.text.specs.Lines.{valueOf}
 use Rattle.text.specs.Progress.{answered}
 use Rattle.job.specs.Line.{formOf}
-use Rattle.job.specs.Store.{listOf, numbersOf}
+use Rattle.job.specs.Store.{width, listOf, numbersOf}
 use Rattle.job.specs.declared.line.Line.{Line}
 use Rattle.job.specs.declared.line.Line.the-variants.{Job, Facts, Init, Formulas, Formula, Moves, Move, Effect, Goal, Program, Row, End}
 use Rattle.job.specs.declared.line.LineNumbers.{LineNumbers}
 
--- at most four numbers
-pub width-within : (next : Line) → formOf next .width ≤ 4
+-- at most as many numbers as a row
+pub width-within : (next : Line) → formOf next .width ≤ width
 width-within Job = omega arith
 width-within Facts = omega arith
 width-within Init = omega arith
@@ -33,16 +32,6 @@ width-within End = omega arith
 -- the value after the key of the sort that comes next
 pub value-of : {next : Line} (k : Line) {v : List ℕ} (line : List ℕ) → next ≡ k → v ≡ valueOf (formOf k .key) line → v ≡ valueOf (formOf next .key) line
 value-of k line e h = rw e h
-
--- four numbers, of which the first were filled
-pub filled-front : (out rest : List ℕ) (w : ℕ) → length out ≡ w → w ≤ 4
-    → take w (getD (out ++ rest) 0 0 ∷ getD (out ++ rest) 1 0 ∷ getD (out ++ rest) 2 0 ∷ getD (out ++ rest) 3 0 ∷ []) ≡ out
-filled-front [] rest w e h = rw (← e)
-filled-front (a ∷ []) rest w e h = rw (← e)
-filled-front (a ∷ b ∷ []) rest w e h = rw (← e)
-filled-front (a ∷ b ∷ c ∷ []) rest w e h = rw (← e)
-filled-front (a ∷ b ∷ c ∷ d ∷ []) rest w e h = rw (← e)
-filled-front (a ∷ b ∷ c ∷ d ∷ x ∷ out) rest w e h = absurd (omega arith)
 
 -- the numbers of a line, as the fill answered
 module _ (next : Line) (r : LineNumbers) (out : List ℕ) where

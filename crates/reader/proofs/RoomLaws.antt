@@ -10,6 +10,7 @@ use lib.Dec.{eqb, leb}
 use lib.ListN.{length, getD, length-append}
 use borrow.Author.Tests.{eqb-true, eqb-false, leb-true}
 use Rattle.laws.proofs.Tests.{never, and-left, and-right, cond-has}
+use Rattle.limits.specs.Limits.{mostFacts, mostFormulas, mostMoves, mostMoveEffects, mostEffects, mostProgram}
 use Rattle.job.specs.Job as J
 use Rattle.job.specs.Job.{countsOf, formulaOf, moveOf, effectOf, rowOf}
 use Rattle.job.specs.Fault.{criteria, fault}
@@ -48,8 +49,8 @@ moves-has P m e f g h = cond-has P (eqb e 0) (cond (eqb m 0) Goal Move) Effect
     (λ z. cond-has P (eqb m 0) Goal Move (λ y. f (eqb-true e 0 z) (eqb-true m 0 y)) (λ y. g (eqb-true e 0 z) (eqb-false m 0 y)))
     (λ z. h (eqb-false e 0 z))
 
-moves-room : (c : Counts) (m e : ℕ) → c .facts ≤ 12 → c .formulas ≤ 255 → c .moves + m ≤ 64 → c .effects + (e + 16 * m) ≤ 1024 → c .program + 128 ≤ 128
-    → Room (afterMoves m e) m e c
+moves-room : (c : Counts) (m e : ℕ) → c .facts ≤ mostFacts → c .formulas ≤ mostFormulas → c .moves + m ≤ mostMoves
+    → c .effects + (e + mostMoveEffects * m) ≤ mostEffects → c .program + mostProgram ≤ mostProgram → Room (afterMoves m e) m e c
 moves-room c m e h f a b p = moves-has (λ k. Room k m e c) m e
     (λ y z. record { facts = h; formulas = omega arith; moves = omega arith; effects-room = omega arith; program = p; owed = y })
     (λ y z. record { facts = h; formulas = omega arith; moves = a; effects-room = omega arith; program = p; owed = (omega (arith, z), y) })
@@ -69,7 +70,7 @@ module _ (s : Reading) (r : List ℕ) where
     owed = tt;
   }
   room-at Facts x h = record {
-    facts = leb-true (getD r 0 0) 12 (x .range);
+    facts = leb-true (getD r 0 0) mostFacts (x .range);
     formulas = h .formulas;
     moves = h .moves;
     effects-room = h .effects-room;
@@ -85,7 +86,7 @@ module _ (s : Reading) (r : List ℕ) where
     owed = tt;
   }
   room-at Formulas x h =
-      let n = one-to (getD r 0 0) 255 (x .range) in
+      let n = one-to (getD r 0 0) mostFormulas (x .range) in
       record {
         facts = h .facts;
         formulas = omega (arith, h .formulas, n .1);
@@ -114,11 +115,11 @@ module _ (s : Reading) (r : List ℕ) where
         owed = omega (arith, eqb-false (s .due - 1) 0 z);
       })
   room-at Moves x h =
-      let n = leb-true (getD r 0 0) 64 (x .range) in
+      let n = leb-true (getD r 0 0) mostMoves (x .range) in
       moves-room c (getD r 0 0) 0 (h .facts) (omega (arith, h .formulas)) (omega (arith, h .moves)) (omega (arith, h .effects-room)) (h .program)
   room-at Move x h =
       let l = length-append (s .job .moves) (moveOf (length (s .job .effects)) r ∷ []) in
-      let n = leb-true (getD r 2 0) 16 (x .range) in
+      let n = leb-true (getD r 2 0) mostMoveEffects (x .range) in
       moves-room (countsOf (J.addMove (s .job) (moveOf (length (s .job .effects)) r))) (s .due - 1) (getD r 2 0) (h .facts)
       (omega (arith, h .formulas)) (omega (arith, h .moves, h .owed .0, l)) (omega (arith, h .effects-room, h .owed .0)) (h .program)
   room-at Effect x h =
@@ -134,7 +135,7 @@ module _ (s : Reading) (r : List ℕ) where
     owed = h .owed;
   }
   room-at Program x h =
-      let n = one-to (getD r 0 0) 128 (x .range) in
+      let n = one-to (getD r 0 0) mostProgram (x .range) in
       record {
         facts = h .facts;
         formulas = h .formulas;

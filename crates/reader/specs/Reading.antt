@@ -26,7 +26,7 @@ withNumbers h facts init goal = record {
 abbrev pub readingOf : State → List ℕ → Reading
 readingOf s l = on (s .next) (s .due) (s .effects) (jobOf (s .head) l)
 
--- the paper's number and values for each case of the answer, with the rows that the table holds
+-- the paper's number and values for each case of the answer, with the rows as they are stored
 abbrev pub outcomeOf : Answer → List ℕ → Outcome
 outcomeOf (Read n h) l = read n (jobOf h l)
 outcomeOf (Refused r) l = refused (r .number) (r .place)

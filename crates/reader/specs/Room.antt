@@ -1,6 +1,7 @@
 -- What holds while a job is read: there is room for the rows that may still come.
 use Prim.Native.Nat.{ℕ, _+_, _*_, _≤_, _<_}
 use mathlib.Core.Path.{_≡_}
+use Rattle.limits.specs.Limits.{mostFacts, mostFormulas, mostMoves, mostMoveEffects, mostEffects, mostProgram}
 use Rattle.job.specs.declared.head.Counts.{Counts}
 use Rattle.job.specs.declared.line.Line.{Line}
 use Rattle.job.specs.declared.line.Line.the-variants.{Job, Facts, Init, Formulas, Formula, Moves, Move, Effect, Goal, Program, Row, End}
@@ -17,16 +18,16 @@ may formulas moves effects program = record { formulas = formulas; moves = moves
 
 -- by the line that comes next, with so many rows of its sort due and so many effects of the last move
 abbrev pub ahead : Line → ℕ → ℕ → Ahead
-ahead Job due effects = may 255 64 1024 128
-ahead Facts due effects = may 255 64 1024 128
-ahead Init due effects = may 255 64 1024 128
-ahead Formulas due effects = may 255 64 1024 128
-ahead Formula due effects = may due 64 1024 128
-ahead Moves due effects = may 0 64 1024 128
-ahead Move due effects = may 0 due (16 * due) 128
-ahead Effect due effects = may 0 due (effects + 16 * due) 128
-ahead Goal due effects = may 0 0 0 128
-ahead Program due effects = may 0 0 0 128
+ahead Job due effects = may mostFormulas mostMoves mostEffects mostProgram
+ahead Facts due effects = may mostFormulas mostMoves mostEffects mostProgram
+ahead Init due effects = may mostFormulas mostMoves mostEffects mostProgram
+ahead Formulas due effects = may mostFormulas mostMoves mostEffects mostProgram
+ahead Formula due effects = may due mostMoves mostEffects mostProgram
+ahead Moves due effects = may 0 mostMoves mostEffects mostProgram
+ahead Move due effects = may 0 due (mostMoveEffects * due) mostProgram
+ahead Effect due effects = may 0 due (effects + mostMoveEffects * due) mostProgram
+ahead Goal due effects = may 0 0 0 mostProgram
+ahead Program due effects = may 0 0 0 mostProgram
 ahead Row due effects = may 0 0 0 due
 ahead End due effects = may 0 0 0 0
 
@@ -46,9 +47,9 @@ Due Row due effects = (0 < due) × (effects ≡ 0)
 Due End due effects = effects ≡ 0
 
 pub record Room (next : Line) (due effects : ℕ) (c : Counts) : Type 0 where
-  pub facts : c .facts ≤ 12
-  pub formulas : c .formulas + ahead next due effects .formulas ≤ 255
-  pub moves : c .moves + ahead next due effects .moves ≤ 64
-  pub effects-room : c .effects + ahead next due effects .effects ≤ 1024
-  pub program : c .program + ahead next due effects .program ≤ 128
+  pub facts : c .facts ≤ mostFacts
+  pub formulas : c .formulas + ahead next due effects .formulas ≤ mostFormulas
+  pub moves : c .moves + ahead next due effects .moves ≤ mostMoves
+  pub effects-room : c .effects + ahead next due effects .effects ≤ mostEffects
+  pub program : c .program + ahead next due effects .program ≤ mostProgram
   pub owed : Due next due effects

@@ -1,3 +1,3 @@
-// A job text, read line by line into a head of numbers and a table of rows.
+// A job text, read line by line into a head of numbers and rows.
 pub mod line;
 pub mod reading;

@@ -5,6 +5,7 @@ ghost use Rattle.job.specs.Line.{formOf, rowNumbers};
 ghost use Rattle.job.specs.Store.{numbersOf};
 use job::line::Line;
 use job::line::LineNumbers;
+use job::rows::WIDTH;
 
 // How many numbers a line has.
 fn width(next: Line) -> usize
@@ -50,15 +51,12 @@ fn value(next: Line, line: &[u8]) -> &[u8]
 pub fn read_line(next: Line, line: &[u8]) -> LineNumbers
     ensures { λ r. ⌜ numbersOf next r ≡ rowNumbers next (now (line .entry)) ⌝ }
 {
-    let mut n = [0u16; 4];
+    let mut n = [0u16; WIDTH];
     let w = width(next);
     let v = value(next, line);
     let formed = text::numbers::read_numbers(v, &mut n[0..w]);
     LineNumbers {
         formed: formed,
-        a: n[0],
-        b: n[1],
-        c: n[2],
-        d: n[3],
+        numbers: n,
     }
 }

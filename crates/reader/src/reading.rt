@@ -1,11 +1,11 @@
 // Reading a job text, line by line.
 ghost use mathlib.Core.Path.{_≡_};
 ghost use mathlib.Core.List.{List};
-ghost use Prim.Native.Nat.{ℕ, _*_, _+_, _^_, _<_};
+ghost use Prim.Native.Nat.{ℕ, _^_, _<_};
 ghost use lib.ListN.{length};
 ghost use Rattle.job.specs.ReadJob.{afterFormulas, afterMoves, afterRows, begun, taken, takenAt, ended, readJob};
 ghost use Rattle.job.specs.ReadJob.{isEnd as atEnd};
-ghost use Rattle.job.specs.Store.{allRows, listOf};
+ghost use Rattle.job.specs.Store.{storeSize, listOf};
 ghost use Rattle.reader.specs.Reading.{readingOf, outcomeOf, readRefusal, withNumbers};
 ghost use Rattle.reader.specs.Room.{Room};
 use job::head::Counts;
@@ -13,9 +13,10 @@ use job::head::Head;
 use job::head::Refusal;
 use job::line::Line;
 use job::line::LineNumbers;
-use job::rows::EFFECTS;
-use job::rows::MOVES;
-use job::rows::PROGRAM;
+use job::rows::EFFECTS_FROM;
+use job::rows::MOVES_FROM;
+use job::rows::PROGRAM_FROM;
+use job::rows::WIDTH;
 
 // A text that is being read: the line that comes next, the rows of its sort and the effects of the last move that are due, and the head so far.
 pub struct State {
@@ -25,7 +26,7 @@ pub struct State {
     pub head: Head,
 }
 
-// The number of lines and the head of the job, whose rows the table then holds; or the refusal.
+// The number of lines and the head of the job, whose rows are then stored; or the refusal.
 pub enum Answer {
     Read(usize, Head),
     Refused(Refusal),
@@ -111,61 +112,64 @@ fn with_counts(head: Head, c: Counts) -> Head
     }
 }
 
-// Each line that is a row adds it to the table, behind the earlier rows of its sort.
-fn add_formula(s: State, row: LineNumbers, rows: &mut [u16]) -> State
+// Each line that is a row adds it to the rows, behind the earlier rows of its sort.
+fn add_formula(s: State, numbers: [u16; WIDTH], rows: &mut [u16]) -> State
     requires { ⌜ Room Line.Formula (s .due) (s .effects) (s .head .counts) ⌝ }
-    requires { ⌜ length (now rows) ≡ allRows * 4 ⌝ }
-    ensures { λ r. ⌜ readingOf r (now (rows .exit)) ≡ takenAt Line.Formula (readingOf s (now (rows .entry))) (listOf Line.Formula row) ⌝ }
+    requires { ⌜ length (now rows) ≡ storeSize ⌝ }
+    ensures { λ r. ⌜ readingOf r (now (rows .exit)) ≡ takenAt Line.Formula (readingOf s (now (rows .entry))) numbers ⌝ }
 {
     let head = s.head;
     let mut c = head.counts;
     let i = c.formulas;
-    job::rows::put_row(rows, i, row.a, row.b, row.c, 0);
+    job::rows::put_row(rows, i, numbers);
     c.formulas = i + 1;
     let h = with_counts(head, c);
     let due = s.due - 1;
     on(after_formulas(due), due, s.effects, h)
 }
 
-fn add_move(s: State, row: LineNumbers, rows: &mut [u16]) -> State
+fn add_move(s: State, numbers: [u16; WIDTH], rows: &mut [u16]) -> State
     requires { ⌜ Room Line.Move (s .due) (s .effects) (s .head .counts) ⌝ }
-    requires { ⌜ length (now rows) ≡ allRows * 4 ⌝ }
-    ensures { λ r. ⌜ readingOf r (now (rows .exit)) ≡ takenAt Line.Move (readingOf s (now (rows .entry))) (listOf Line.Move row) ⌝ }
+    requires { ⌜ length (now rows) ≡ storeSize ⌝ }
+    ensures { λ r. ⌜ readingOf r (now (rows .exit)) ≡ takenAt Line.Move (readingOf s (now (rows .entry))) numbers ⌝ }
 {
     let head = s.head;
     let mut c = head.counts;
     let i = c.moves;
-    job::rows::put_row(rows, MOVES + i, row.a, row.b, row.c, c.effects);
+    let mut n = numbers;
+    n[WIDTH - 1] = c.effects;
+    job::rows::put_row(rows, MOVES_FROM + i, n);
     c.moves = i + 1;
     let h = with_counts(head, c);
     let due = s.due - 1;
-    on(after_moves(due, row.c), due, row.c, h)
+    let effects = numbers[2];
+    on(after_moves(due, effects), due, effects, h)
 }
 
-fn add_effect(s: State, row: LineNumbers, rows: &mut [u16]) -> State
+fn add_effect(s: State, numbers: [u16; WIDTH], rows: &mut [u16]) -> State
     requires { ⌜ Room Line.Effect (s .due) (s .effects) (s .head .counts) ⌝ }
-    requires { ⌜ length (now rows) ≡ allRows * 4 ⌝ }
-    ensures { λ r. ⌜ readingOf r (now (rows .exit)) ≡ takenAt Line.Effect (readingOf s (now (rows .entry))) (listOf Line.Effect row) ⌝ }
+    requires { ⌜ length (now rows) ≡ storeSize ⌝ }
+    ensures { λ r. ⌜ readingOf r (now (rows .exit)) ≡ takenAt Line.Effect (readingOf s (now (rows .entry))) numbers ⌝ }
 {
     let head = s.head;
     let mut c = head.counts;
     let i = c.effects;
-    job::rows::put_row(rows, EFFECTS + i, row.a, row.b, row.c, 0);
+    job::rows::put_row(rows, EFFECTS_FROM + i, numbers);
     c.effects = i + 1;
     let h = with_counts(head, c);
     let effects = s.effects - 1;
     on(after_moves(s.due, effects), s.due, effects, h)
 }
 
-fn add_row(s: State, row: LineNumbers, rows: &mut [u16]) -> State
+fn add_row(s: State, numbers: [u16; WIDTH], rows: &mut [u16]) -> State
     requires { ⌜ Room Line.Row (s .due) (s .effects) (s .head .counts) ⌝ }
-    requires { ⌜ length (now rows) ≡ allRows * 4 ⌝ }
-    ensures { λ r. ⌜ readingOf r (now (rows .exit)) ≡ takenAt Line.Row (readingOf s (now (rows .entry))) (listOf Line.Row row) ⌝ }
+    requires { ⌜ length (now rows) ≡ storeSize ⌝ }
+    ensures { λ r. ⌜ readingOf r (now (rows .exit)) ≡ takenAt Line.Row (readingOf s (now (rows .entry))) numbers ⌝ }
 {
     let head = s.head;
     let mut c = head.counts;
     let i = c.program;
-    job::rows::put_row(rows, PROGRAM + i, row.a, row.b, row.c, row.d);
+    job::rows::put_row(rows, PROGRAM_FROM + i, numbers);
     c.program = i + 1;
     let h = with_counts(head, c);
     let due = s.due - 1;
@@ -175,7 +179,7 @@ fn add_row(s: State, row: LineNumbers, rows: &mut [u16]) -> State
 // The numbers of a right line taken in.
 fn take_line(s: State, row: LineNumbers, rows: &mut [u16]) -> State
     requires { ⌜ Room (s .next) (s .due) (s .effects) (s .head .counts) ⌝ }
-    requires { ⌜ length (now rows) ≡ allRows * 4 ⌝ }
+    requires { ⌜ length (now rows) ≡ storeSize ⌝ }
     ensures { λ r. ⌜ readingOf r (now (rows .exit)) ≡ taken (readingOf s (now (rows .entry))) (listOf (s .next) row) ⌝ }
 {
     let next = s.next;
@@ -183,33 +187,35 @@ fn take_line(s: State, row: LineNumbers, rows: &mut [u16]) -> State
     let due = s.due;
     let effects = s.effects;
     let facts = h.counts.facts;
+    let numbers = row.numbers;
+    let first = numbers[0];
     match next {
         Line::Job => on(Line::Facts, due, effects, h),
         Line::Facts => on(
             Line::Init,
             due,
             effects,
-            with_scalars(h, row.a, h.init, h.goal),
+            with_scalars(h, first, h.init, h.goal),
         ),
         Line::Init => on(
             Line::Formulas,
             due,
             effects,
-            with_scalars(h, facts, row.a, h.goal),
+            with_scalars(h, facts, first, h.goal),
         ),
-        Line::Formulas => on(Line::Formula, row.a, effects, h),
-        Line::Formula => add_formula(s, row, rows),
-        Line::Moves => on(after_moves(row.a, 0), row.a, 0, h),
-        Line::Move => add_move(s, row, rows),
-        Line::Effect => add_effect(s, row, rows),
+        Line::Formulas => on(Line::Formula, first, effects, h),
+        Line::Formula => add_formula(s, numbers, rows),
+        Line::Moves => on(after_moves(first, 0), first, 0, h),
+        Line::Move => add_move(s, numbers, rows),
+        Line::Effect => add_effect(s, numbers, rows),
         Line::Goal => on(
             Line::Program,
             due,
             effects,
-            with_scalars(h, facts, h.init, row.a),
+            with_scalars(h, facts, h.init, first),
         ),
-        Line::Program => on(Line::Row, row.a, effects, h),
-        Line::Row => add_row(s, row, rows),
+        Line::Program => on(Line::Row, first, effects, h),
+        Line::Row => add_row(s, numbers, rows),
         Line::End => s,
     }
 }
@@ -264,9 +270,9 @@ fn finish(s: State, n: usize) -> Answer
     refused(1, n + 1)
 }
 
-// Reads a text as a job, whose rows go into the table.
+// Reads a text as a job, whose rows are stored.
 pub fn read_job(text: &[u8], rows: &mut [u16]) -> Answer
-    requires { ⌜ length (now rows) ≡ allRows * 4 ⌝ }
+    requires { ⌜ length (now rows) ≡ storeSize ⌝ }
     ensures { λ r. ⌜ outcomeOf r (now (rows .exit)) ≡ readJob (now (text .entry)) ⌝ }
 {
     let mut s = start();

@@ -11,8 +11,9 @@ use lib.Dec.{eqb}
 use lib.ListN.{length, getD, set, replicate, length-set, length-replicate}
 use lib.Seq.{getD-set-same, getD-set-other}
 use borrow.Author.Tests.{eqb-true, eqb-false}
+use Rattle.limits.specs.Limits.{mostPositions, mostSteps}
 use Rattle.laws.proofs.Tests.{cond-has}
-use Rattle.validate.specs.Adjacency.{lastFrom, Adjacency}
+use Rattle.validate.specs.Adjacency.{lastFrom, Adjacency, adjacencySize}
 
 module _ (list : List ℕ) (p : ℕ) where
   abbrev from : ℕ → ℕ
@@ -39,35 +40,35 @@ module _ (list : List ℕ) (p : ℕ) where
       (λ t x. elim (decLt k n) [ yes y ↦ last-alone n k x y e | no y ↦ (let z : n ≡ k = omega arith in eqb-false (from n) p t (ap from z ∙ e)) ]) l
 
 -- one step more
-module _ (list adjacency : List ℕ) (k q : ℕ) (x : Adjacency list k adjacency) (room : k < 1024) (starts : q ≡ getD list (k * 4 + 1) 0) (inside : q < 256) where
+module _ (list adjacency : List ℕ) (k q : ℕ) (x : Adjacency list k adjacency) (room : k < mostSteps) (starts : q ≡ getD list (k * 4 + 1) 0) (inside : q < mostPositions) where
   abbrev old : List ℕ
-  old = set adjacency (256 + k) (getD adjacency q 0)
+  old = set adjacency (mostPositions + k) (getD adjacency q 0)
 
   abbrev all : List ℕ
   all = set old q (k + 1)
 
-  old-size : length old ≡ 1280
-  old-size = length-set adjacency (256 + k) (getD adjacency q 0) ∙ x .size
+  old-size : length old ≡ adjacencySize
+  old-size = length-set adjacency (mostPositions + k) (getD adjacency q 0) ∙ x .size
 
   -- a link elsewhere
-  kept : (i : ℕ) → (i ≡ q → ⊥) → (i ≡ 256 + k → ⊥) → getD all i 0 ≡ getD adjacency i 0
-  kept i f g = getD-set-other old q i (k + 1) 0 f ∙ getD-set-other adjacency (256 + k) i (getD adjacency q 0) 0 g
+  kept : (i : ℕ) → (i ≡ q → ⊥) → (i ≡ mostPositions + k → ⊥) → getD all i 0 ≡ getD adjacency i 0
+  kept i f g = getD-set-other old q i (k + 1) 0 f ∙ getD-set-other adjacency (mostPositions + k) i (getD adjacency q 0) 0 g
 
-  last-by : (p : ℕ) → p < 256 → (b : Bool) → eqb q p ≡ b → getD all p 0 ≡ cond b (k + 1) (lastFrom list p k)
+  last-by : (p : ℕ) → p < mostPositions → (b : Bool) → eqb q p ≡ b → getD all p 0 ≡ cond b (k + 1) (lastFrom list p k)
   last-by p h true e = let y : p ≡ q = sym (eqb-true q p e) in ap (λ i. getD all i 0) y ∙ getD-set-same old q (k + 1) 0 (rw old-size (omega arith))
   last-by p h false e = kept p (λ y. eqb-false q p e (sym y)) (λ y. omega arith) ∙ x .last p h
 
-  before-by : (i : ℕ) → i < k + 1 → (b : Bool) → eqb i k ≡ b → getD all (256 + i) 0 ≡ lastFrom list (getD list (i * 4 + 1) 0) i
+  before-by : (i : ℕ) → i < k + 1 → (b : Bool) → eqb i k ≡ b → getD all (mostPositions + i) 0 ≡ lastFrom list (getD list (i * 4 + 1) 0) i
   before-by i h true e =
       let y : i ≡ k = eqb-true i k e in
-      rw y (getD-set-other old q (256 + k) (k + 1) 0 (λ z. omega arith) ∙ getD-set-same adjacency (256 + k) (getD adjacency q 0) 0 (rw (x .size) (omega arith)) ∙ x .last q inside ∙ ap (λ p. lastFrom list p k) starts)
-  before-by i h false e = let y : i < k = omega (arith, eqb-false i k e) in kept (256 + i) (λ z. omega arith) (λ z. omega arith) ∙ x .before i y
+      rw y (getD-set-other old q (mostPositions + k) (k + 1) 0 (λ z. omega arith) ∙ getD-set-same adjacency (mostPositions + k) (getD adjacency q 0) 0 (rw (x .size) (omega arith)) ∙ x .last q inside ∙ ap (λ p. lastFrom list p k) starts)
+  before-by i h false e = let y : i < k = omega (arith, eqb-false i k e) in kept (mostPositions + i) (λ z. omega arith) (λ z. omega arith) ∙ x .before i y
 
   last-more : (p : ℕ) → lastFrom list p (k + 1) ≡ cond (eqb q p) (k + 1) (lastFrom list p k)
   unfolding lastFrom
   last-more p = rw (add-one k, starts)
 
-  pub links-more : Adjacency list (k + 1) (set (set adjacency (256 + k) (getD adjacency q 0)) q (k + 1))
+  pub links-more : Adjacency list (k + 1) (set (set adjacency (mostPositions + k) (getD adjacency q 0)) q (k + 1))
   links-more = record {
     size = length-set old q (k + 1) ∙ old-size;
     last = λ p h. last-by p h (eqb q p) refl ∙ sym (last-more p);
@@ -79,10 +80,10 @@ none-at zero p = refl
 none-at (suc n) zero = refl
 none-at (suc n) (suc p) = none-at n p
 
-pub links-none : (list : List ℕ) → Adjacency list 0 (replicate 1280 0)
+pub links-none : (list : List ℕ) → Adjacency list 0 (replicate adjacencySize 0)
 unfolding lastFrom
 links-none list = record {
-  size = length-replicate {A = ℕ} 1280 0;
-  last = λ p h. none-at 1280 p;
+  size = length-replicate {A = ℕ} adjacencySize 0;
+  last = λ p h. none-at adjacencySize p;
   before = λ k h. absurd (omega arith);
 }

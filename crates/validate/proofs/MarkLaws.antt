@@ -9,6 +9,7 @@ use native.Mathlib.Omega.{arith}
 use native.Mathlib.Decide.{decLt}
 use lib.ListN.{length, getD, set, length-set}
 use lib.Seq.{getD-set-same, getD-set-other, set-getD}
+use Rattle.limits.specs.Limits.{mostPositions}
 use Rattle.semantics.specs.PositionSets.{Marked}
 use Rattle.semantics.proofs.Marks.{set-keeps, set-from, count-le, count-new}
 use Rattle.validate.specs.Positions.{Counted, Marking}
@@ -20,11 +21,11 @@ module _ (S : List Bool) (ms : List ℕ) (n q : ℕ) (x : Counted S ms n) where
   pub mark-old : {w : Bool} → w ≡ true → Marked S q → Marking w q S ms n S ms n
   mark-old e m = record { counted = x; kept = λ i h. refl; more = omega arith; is = rw e (sym (ap (λ b. set S q b) (sym m) ∙ set-getD S q false)) }
 
-  module _ (inside : q < 256) (free : getD S q false ≡ false) where
+  module _ (inside : q < mostPositions) (free : getD S q false ≡ false) where
     within : q < length S
     within = omega (arith, x .size)
 
-    pub mark-room : n < 256
+    pub mark-room : n < mostPositions
     mark-room = omega (arith, x .counted, count-new S q within free, count-le (set S q true), length-set S q true, x .size)
 
     abbrev ns : List ℕ

@@ -7,8 +7,8 @@ use mathlib.Core.Option.{some}
 use mathlib.Core.List.{List, _∷_}
 use native.Mathlib.Omega.{arith}
 use lib.ListN.{length, getD, set, replicate, drop}
+use Rattle.limits.specs.Limits.{mostPositions, mostFormulas}
 use Rattle.job.specs.Job.{Job}
-use Rattle.job.specs.StateCount.{stateCount}
 use Rattle.job.specs.Store.{jobOf}
 use Rattle.job.specs.declared.head.Head.{Head}
 use Rattle.semantics.specs.Domain.{Domain}
@@ -17,7 +17,8 @@ use Rattle.semantics.specs.Verdict.{Verdict, blocked}
 use Rattle.semantics.specs.PositionSets.{closure, spread, isMove, silentIn, anyMark, firstSet, nextSet, onward, finished, verdictFrom, verdictBy}
 use Rattle.semantics.proofs.Marks.{count-zero, count-some}
 use Rattle.semantics.proofs.SetVerdict.{verdict-none, verdict-stuck, verdict-onward}
-use Rattle.domain.specs.Domain.{domainOf, Tells}
+use Rattle.domain.specs.Cost.{mostCost}
+use Rattle.domain.specs.Domain.{domainIn, Tells}
 use Rattle.domain.specs.Successor.{successorIn}
 use Rattle.domain.specs.declared.Successor.{Successor}
 use Rattle.domain.specs.declared.Successor.the-variants.{To, Inapplicable}
@@ -29,14 +30,14 @@ use Rattle.validate.specs.Ready.{Ready}
 use Rattle.validate.specs.declared.position_set.PositionSet.{PositionSet}
 use Rattle.validate.proofs.VerdictLaws.{Left, left-start, left-blocked, left-more, left-end}
 use Rattle.validate.proofs.WantedLaws.{silent-told}
-use Rattle.validate.proofs.ReadyLaws.{init-below, job-bounded, last-final}
+use Rattle.validate.proofs.ReadyLaws.{job-bounded, last-final}
 
 module _ (head : Head) (rows list : List ℕ) (plan : List ℕ) where
   abbrev j : Job
   j = jobOf head rows
 
   abbrev D : Domain
-  D = domainOf (jobOf head rows)
+  D = domainIn head rows
 
   abbrev L : List Step
   L = stepsOf (jobOf head rows)
@@ -46,32 +47,36 @@ module _ (head : Head) (rows list : List ℕ) (plan : List ℕ) where
 
   -- after i moves at this cost, in this state, where its formulas have these values and the program may be at the positions of S
   pub record Checking (state : ℕ) (values : List Bool) (S : PositionSet) (cost i : ℕ) : Type 0 where
-    pub left : Left plan (verdictBy 256 (domainOf (jobOf head rows)) (programOf (jobOf head rows)) plan)
-        (verdictFrom (domainOf (jobOf head rows)) (stepsOf (jobOf head rows)) (end (programOf (jobOf head rows)) 0) state (S .marks)) cost i
+    pub left : Left plan (verdictBy mostPositions (domainIn head rows) (programOf (jobOf head rows)) plan)
+        (verdictFrom (domainIn head rows) (stepsOf (jobOf head rows)) (end (programOf (jobOf head rows)) 0) state (S .marks)) cost i
     pub counted : CountedSet S
-    pub told : Tells (jobOf head rows) state values
-    pub room : length values ≡ 255
-    pub state-below : state < stateCount (head .counts .facts)
-    pub cost-within : cost ≤ 3600 * i
+    pub told : Tells (domainIn head rows) state values
+    pub room : length values ≡ mostFormulas
+    pub state-below : state < domainIn head rows .states
+    pub cost-within : cost ≤ mostCost * i
 
   -- the verdict on the whole list
   abbrev whole : Verdict
-  whole = verdictBy 256 D (programOf j) plan
+  whole = verdictBy mostPositions D (programOf j) plan
 
   module _ {positions : ℕ} (r : Ready head rows list positions) where
     -- marks as the code closes them
-    closed-is : (values T : List Bool) {U : List Bool} (s : ℕ) → Tells j s values → U ≡ closure (silentBy values) (stepsOn list) T → U ≡ closure (silentIn D s) L T
+    closed-is : (values T : List Bool) {U : List Bool} (s : ℕ) → Tells D s values → U ≡ closure (silentBy values) (stepsOn list) T → U ≡ closure (silentIn D s) L T
     closed-is values T s told f = f ∙ rw (silent-told D s values told, r .steps)
 
-    module _ (values : List Bool) (told : Tells j (head .init) values) (room : length values ≡ 255) (S : PositionSet) (T : List Bool) (counted : CountedSet S) where
-      pub checking-start : T ≡ set (replicate 256 false) 0 true → S .marks ≡ closure (silentBy values) (stepsOn list) T → Checking (head .init) values S 0 0
+    module _ (state : ℕ) (start : state ≡ D .start) (values : List Bool) (told : Tells D state values) (room : length values ≡ mostFormulas) (S : PositionSet)
+        (T : List Bool) (counted : CountedSet S) where
+      begins : T ≡ set (replicate mostPositions false) 0 true → S .marks ≡ closure (silentBy values) (stepsOn list) T → verdictFrom D L e state (S .marks) plan ≡ whole
       unfolding verdictBy firstSet
+      begins f g = rw (closed-is values T state told g, f, start)
+
+      pub checking-start : T ≡ set (replicate mostPositions false) 0 true → S .marks ≡ closure (silentBy values) (stepsOn list) T → Checking state values S 0 0
       checking-start f g = record {
-        left = left-start plan whole (verdictFrom D L e (head .init) (S .marks)) (ap (λ U. verdictFrom D L e (head .init) U plan) (sym (closed-is values T (head .init) told g ∙ rw f)));
+        left = left-start plan whole (verdictFrom D L e state (S .marks)) (sym (begins f g));
         counted = counted;
         told = told;
         room = room;
-        state-below = init-below r;
+        state-below = rw start (job-bounded r .start);
         cost-within = omega arith;
       }
 
@@ -90,8 +95,8 @@ module _ (head : Head) (rows list : List ℕ) (plan : List ℕ) where
         pub checking-none : {a : Successor} → a ≡ Inapplicable → successorIn a ≡ D .successor m state → blocked i ≡ whole
         checking-none f g = stops (verdict-none D L e state m (S .marks) rest (sym g ∙ ap successorIn f))
 
-        module _ {a : Successor} {next : ℕ} (to : a ≡ To next) (after : successorIn a ≡ D .successor m state) (told : List Bool) (tells : Tells j next told)
-            (A : List Bool) (B : PositionSet) (advanced : A ≡ spread (isMove m) (stepsOn list) (S .marks) (replicate 256 false))
+        module _ {a : Successor} {next : ℕ} (to : a ≡ To next) (after : successorIn a ≡ D .successor m state) (told : List Bool) (tells : Tells D next told)
+            (A : List Bool) (B : PositionSet) (advanced : A ≡ spread (isMove m) (stepsOn list) (S .marks) (replicate mostPositions false))
             (closed : B .marks ≡ closure (silentBy told) (stepsOn list) A) (counted : CountedSet B) where
           made : D .successor m state ≡ some next
           made = sym after ∙ ap successorIn to
@@ -110,7 +115,7 @@ module _ (head : Head) (rows list : List ℕ) (plan : List ℕ) where
               verdict-onward D L e state m (S .marks) rest next made (ap anyMark (sym is-next) ∙ count-some (B .marks) (omega (arith, counted .counted, f)))
               ∙ ap (λ T. onward (D .cost m state) (verdictFrom D L e next T rest)) (sym is-next)
 
-          pub checking-more : (B .count ≡ 0 → ⊥) → {c : ℕ} → c ≡ D .cost m state → c ≤ 3600 → length told ≡ 255 → Checking next told B (cost + c) (i + 1)
+          pub checking-more : (B .count ≡ 0 → ⊥) → {c : ℕ} → c ≡ D .cost m state → c ≤ mostCost → length told ≡ mostFormulas → Checking next told B (cost + c) (i + 1)
           checking-more f {c} g k room = record {
             left = rw g (left-more plan whole (x .left) h (verdictFrom D L e next (B .marks)) (D .cost m state) (goes-on f));
             counted = counted;
@@ -121,8 +126,8 @@ module _ (head : Head) (rows list : List ℕ) (plan : List ℕ) where
           }
 
       -- all moves are made
-      pub checking-end : length plan ≤ i → {complete goal : Bool} → complete ≡ getD (S .marks) (positions - 1) false → goal ≡ getD values (head .goal) false
-          → onward cost (finished complete goal) ≡ verdictBy 256 D (programOf j) plan
+      pub checking-end : length plan ≤ i → {complete goal : Bool} → complete ≡ getD (S .marks) (positions - 1) false → goal ≡ D .goal state
+          → onward cost (finished complete goal) ≡ verdictBy mostPositions D (programOf j) plan
       unfolding verdictFrom
       checking-end h {complete} {goal} f g =
-          left-end plan whole (x .left) h complete goal (rw (f, g, last-final r, x .told (head .goal)))
+          left-end plan whole (x .left) h complete goal (rw (f, g, last-final r))

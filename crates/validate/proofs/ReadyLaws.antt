@@ -5,8 +5,8 @@ use mathlib.Core.Path.{_≡_}
 use mathlib.Core.List.{List}
 use native.Mathlib.Omega.{arith}
 use lib.ListN.{length, getD}
+use Rattle.limits.specs.Limits.{mostSteps, mostPositions}
 use Rattle.job.specs.Job.{Job}
-use Rattle.job.specs.StateCount.{stateCount}
 use Rattle.job.specs.Store.{jobOf}
 use Rattle.job.specs.declared.head.Head.{Head}
 use Rattle.semantics.specs.Domain.{Bounded}
@@ -15,8 +15,8 @@ use Rattle.semantics.proofs.Compiled.{compiled}
 use Rattle.semantics.proofs.FlatLaws.{steps-at}
 use Rattle.semantics.proofs.Part.{Range}
 use Rattle.domain.specs.Cost.{mostCost}
-use Rattle.domain.specs.Domain.{domainOf}
-use Rattle.domain.proofs.DomainLaws.{domain-bounded}
+use Rattle.domain.specs.Domain.{domainOf, domainIn}
+use Rattle.domain.proofs.DomainLaws.{stored-bounded}
 use Rattle.compile.specs.Program.{programOf}
 use Rattle.compile.proofs.FitLaws.{few-positions, few-steps}
 use Rattle.validate.specs.Adjacency.{Listed}
@@ -26,22 +26,19 @@ module _ {head : Head} {rows list : List ℕ} {positions : ℕ} (r : Ready head 
   abbrev j : Job
   j = jobOf head rows
 
-  pub init-below : head .init < stateCount (head .counts .facts)
-  init-below = r .job .init
-
-  pub job-bounded : Bounded (domainOf (jobOf head rows)) mostCost
-  job-bounded = domain-bounded j (r .job)
+  pub job-bounded : Bounded (domainIn head rows) mostCost
+  job-bounded = stored-bounded (r .stored)
 
   pub last-final : positions - 1 ≡ end (programOf (jobOf head rows)) 0
   last-final = omega (arith, r .positions)
 
-  pub final-below : end (programOf (jobOf head rows)) 0 < 256
+  pub final-below : end (programOf (jobOf head rows)) 0 < mostPositions
   final-below = omega (arith, few-positions j (r .fit))
 
   pub some-position : 1 ≤ positions
   some-position = omega (arith, r .positions)
 
-  list-short : length list ≤ 4096
+  list-short : length list ≤ mostSteps * 4
   list-short = omega (arith, r .whole, few-steps j (r .fit))
 
   step-range : (k : ℕ) → k < length list / 4 → Range 0 (end (programOf j) 0) (getD list (k * 4 + 1) 0) (getD list (k * 4 + 2) 0)

@@ -7,6 +7,7 @@ use mathlib.Core.List.{List}
 use native.Mathlib.Omega.{arith}
 use native.Mathlib.Decide.{decLt}
 use lib.ListN.{length, getD, set, replicate, length-replicate}
+use Rattle.limits.specs.Limits.{mostPositions}
 use Rattle.semantics.specs.Label.{Label}
 use Rattle.semantics.specs.CompilingTable.{Step}
 use Rattle.semantics.specs.Path.{StepAt}
@@ -19,23 +20,23 @@ use Rattle.validate.specs.Positions.{Counted, old, new, Followed}
 use Rattle.validate.proofs.MarkLaws.{mark-new}
 
 -- no position
-pub empty-counted : (ms : List ℕ) → length ms ≡ 256 → Counted (replicate 256 false) ms 0
+pub empty-counted : (ms : List ℕ) → length ms ≡ mostPositions → Counted (replicate mostPositions false) ms 0
 empty-counted ms e = record {
-  size = length-replicate 256 false;
+  size = length-replicate mostPositions false;
   room = e;
-  counted = sym (count-none 256);
+  counted = sym (count-none mostPositions);
   marked = λ i h. absurd (omega arith);
-  listed = λ q m. none-marked 256 q m;
+  listed = λ q m. none-marked mostPositions q m;
 }
 
 -- position 0 alone
-pub first-counted : Counted (set (replicate 256 false) 0 true) (replicate 256 0) 1
-first-counted = mark-new (replicate 256 false) (replicate 256 0) 0 0 (empty-counted (replicate 256 0) (length-replicate {A = ℕ} 256 0)) (omega arith) refl refl .counted
+pub first-counted : Counted (set (replicate mostPositions false) 0 true) (replicate mostPositions 0) 1
+first-counted = mark-new (replicate mostPositions false) (replicate mostPositions 0) 0 0 (empty-counted (replicate mostPositions 0) (length-replicate {A = ℕ} mostPositions 0)) (omega arith) refl refl .counted
 
-pub counted-few : {S : List Bool} {ms : List ℕ} {n : ℕ} → Counted S ms n → n ≤ 256
+pub counted-few : {S : List Bool} {ms : List ℕ} {n : ℕ} → Counted S ms n → n ≤ mostPositions
 counted-few {S} x = omega (arith, x .counted, count-le S, x .size)
 
-pub member-inside : {S : List Bool} {ms : List ℕ} {n : ℕ} → Counted S ms n → (i : ℕ) → i < n → getD ms i 0 < 256
+pub member-inside : {S : List Bool} {ms : List ℕ} {n : ℕ} → Counted S ms n → (i : ℕ) → i < n → getD ms i 0 < mostPositions
 member-inside {S} {ms} x i h = omega (arith, x .size, marked-below S (getD ms i 0) (x .marked i h))
 
 module _ (on : Label → Bool) (list : List ℕ) where
@@ -43,7 +44,7 @@ module _ (on : Label → Bool) (list : List ℕ) where
   L = stepsOn list
 
   -- the steps lead below 256
-  below : Listed list → {k p q : ℕ} {l : Label} → StepAt L k p l q → q < 256
+  below : Listed list → {k p q : ℕ} {l : Label} → StepAt L k p l q → q < mostPositions
   below sound s = let z = steps-only (length list / 4) list s in omega (arith, z .to, sound .to _ (z .below))
 
   -- the steps from member i lead to marks
@@ -76,7 +77,7 @@ module _ (on : Label → Bool) (list : List ℕ) where
       done = λ i h. absurd (omega arith);
     }
 
-    module _ (sound : Listed list) (wide : length S ≡ 256) {T U : List Bool} {ms us : List ℕ} {n u at : ℕ} (x : Closing T ms n at) (h : at < n) (y : Followed on (stepsOn list) (getD ms at 0) 0 T ms n U us u) where
+    module _ (sound : Listed list) (wide : length S ≡ mostPositions) {T U : List Bool} {ms us : List ℕ} {n u at : ℕ} (x : Closing T ms n at) (h : at < n) (y : Followed on (stepsOn list) (getD ms at 0) 0 T ms n U us u) where
       reached-more : (q : ℕ) → Marked U q → Marked (closure on L S) q
       reached-more q m = elim (y .only q m) [
         | old a ↦ x .reached q a
@@ -95,7 +96,7 @@ module _ (on : Label → Bool) (list : List ℕ) where
         done = done-more;
       }
 
-    pub closing-end : length S ≡ 256 → {T : List Bool} {ms : List ℕ} {n at : ℕ} → Closing T ms n at → n ≤ at → T ≡ closure on (stepsOn list) S
+    pub closing-end : length S ≡ mostPositions → {T : List Bool} {ms : List ℕ} {n at : ℕ} → Closing T ms n at → n ≤ at → T ≡ closure on (stepsOn list) S
     closing-end wide {T} {ms} {n} {at} x h =
         closure-is on L S T (x .counted .size ∙ sym wide) (x .grown)
         (λ k p q l s o m. let v = x .counted .listed p m in x .done (v .0) (omega (arith, v .1)) k q l (subst (λ r. StepAt L k r l q) (sym (v .2)) s) o)
@@ -118,11 +119,11 @@ module _ (on : Label → Bool) (list : List ℕ) where
       pub came : (q : ℕ) → Marked T q → Came q
       pub done : (i : ℕ) → i < at → Done ms T i
 
-    pub advancing-start : (ts : List ℕ) → length ts ≡ 256 → Advancing (replicate 256 false) ts 0 0
+    pub advancing-start : (ts : List ℕ) → length ts ≡ mostPositions → Advancing (replicate mostPositions false) ts 0 0
     advancing-start ts e = record {
       counted = empty-counted ts e;
       within = omega arith;
-      came = λ q m. none-marked 256 q m;
+      came = λ q m. none-marked mostPositions q m;
       done = λ i h. absurd (omega arith);
     }
 
@@ -136,8 +137,8 @@ module _ (on : Label → Bool) (list : List ℕ) where
       pub advancing-more : Advancing U us u (at + 1)
       advancing-more = record { counted = y .counted; within = omega arith; came = came-more; done = done-also ms at (x .done) y }
 
-    pub advancing-end : {S T : List Bool} {ts : List ℕ} {m at : ℕ} → Counted S ms n → Advancing T ts m at → n ≤ at → T ≡ spread on (stepsOn list) S (replicate 256 false)
+    pub advancing-end : {S T : List Bool} {ts : List ℕ} {m at : ℕ} → Counted S ms n → Advancing T ts m at → n ≤ at → T ≡ spread on (stepsOn list) S (replicate mostPositions false)
     advancing-end {S} {T} {ts} {m} {at} from x h =
-        spread-is on L S T 256 (x .counted .size)
+        spread-is on L S T mostPositions (x .counted .size)
         (λ q a. let v = x .came q a in record { number = v .number; from = getD ms (v .member) 0; label = v .label; step = v .step; passes = v .passes; marked = from .marked (v .member) (v .listed) })
         (λ k p q l s o a. let v = from .listed p a in x .done (v .0) (omega (arith, v .1)) k q l (subst (λ r. StepAt L k r l q) (sym (v .2)) s) o)

@@ -4,6 +4,7 @@ use mathlib.Core.Path.{_≡_}
 use mathlib.Core.Bool.{Bool, true, false, not, cond}
 use mathlib.Core.List.{List}
 use lib.ListN.{length, getD, set}
+use Rattle.limits.specs.Limits.{mostPositions}
 use Rattle.semantics.specs.Label.{Label, noop, holds, fails, make}
 use Rattle.semantics.specs.CompilingTable.{Step}
 use Rattle.semantics.specs.Path.{StepAt}
@@ -14,8 +15,8 @@ use Rattle.validate.specs.declared.position_set.Wanted.the-variants.{Sil
 
 -- 256 marks, n of them set, and the first n members are the marked positions
 pub record Counted (marks : List Bool) (members : List ℕ) (n : ℕ) : Type 0 where
-  pub size : length marks ≡ 256
-  pub room : length members ≡ 256
+  pub size : length marks ≡ mostPositions
+  pub room : length members ≡ mostPositions
   pub counted : n ≡ count marks
   pub marked : (i : ℕ) → i < n → Marked marks (getD members i 0)
   pub listed : (q : ℕ) → Marked marks q → (i : ℕ) × (i < n) × (getD members i 0 ≡ q)

@@ -4,22 +4,22 @@ use mathlib.Core.Path.{_≡_}
 use mathlib.Core.Bool.{true}
 use mathlib.Core.List.{List}
 use lib.ListN.{length, getD}
-use Rattle.job.specs.Store.{allRows, jobOf}
-use Rattle.job.specs.WellFormed.{WellFormed}
+use Rattle.limits.specs.Limits.{mostEntries}
+use Rattle.job.specs.Store.{jobOf}
+use Rattle.job.specs.Stored.{Stored}
 use Rattle.job.specs.declared.head.Head.{Head}
 use Rattle.compile.specs.CompiledJob.{stepsOf, positionCount, fits}
 use Rattle.validate.specs.Adjacency.{stepsOn}
 
--- a job whose compiled job is within the limits, as head and table, and a list that holds its steps and nothing else
+-- a job whose compiled job is within the limits, as head and rows, and a list that holds its steps and nothing else
 pub record Ready (head : Head) (rows list : List ℕ) (count : ℕ) : Type 0 where
-  pub size : length rows ≡ allRows * 4
-  pub job : WellFormed (jobOf head rows)
+  pub stored : Stored head rows
   pub fit : fits (jobOf head rows) ≡ true
   pub whole : length list ≡ length (stepsOf (jobOf head rows)) * 4
   pub steps : stepsOn list ≡ stepsOf (jobOf head rows)
   pub positions : count ≡ positionCount (jobOf head rows)
 
--- at most 4,000 entries, each below the bound
+-- at most so many entries, each below the bound
 pub record EntriesBelow (plan : List ℕ) (bound : ℕ) : Type 0 where
-  pub few : length plan ≤ 4000
+  pub few : length plan ≤ mostEntries
   pub below : (i : ℕ) → i < length plan → getD plan i 0 < bound

@@ -3,15 +3,17 @@ ghost use mathlib.Core.Path.{_≡_};
 ghost use mathlib.Core.Bool.{true, false};
 ghost use Prim.Native.Nat.{_/_, _<_};
 ghost use lib.ListN.{length, getD, set, replicate};
+ghost use Rattle.limits.specs.Limits.{mostPositions};
 ghost use Rattle.semantics.specs.CompilingTable.{labelIn};
 ghost use Rattle.semantics.specs.PositionSets.{closure, spread, isMove};
 ghost use Rattle.validate.specs.Adjacency.{stepsOn, Listed, Adjacency};
 ghost use Rattle.validate.specs.Positions.{Counted, CountedSet, silentBy, wantedBy, Followed, Marking};
+use limits::POSITIONS;
 
 // One mark a position, how many are set, and the marked positions in the order in which they were marked.
 pub struct PositionSet {
-    pub marks: [bool; 256],
-    pub members: [u16; 256],
+    pub marks: [bool; POSITIONS],
+    pub members: [u16; POSITIONS],
     pub count: usize,
 }
 
@@ -49,7 +51,7 @@ fn is_wanted(wanted: Wanted, values: &[bool], kind: u16, arg: u16) -> bool
 
 // Marks position q, where that is wanted; answers how many are marked then.
 fn mark(marks: &mut [bool], members: &mut [u16], count: usize, wanted: bool, q: u16) -> usize
-    requires { ⌜ Counted (now marks) (now members) count × (q < 256) ⌝ }
+    requires { ⌜ Counted (now marks) (now members) count × (q < mostPositions) ⌝ }
     ensures { λ r. ⌜ Marking wanted q (now (marks .entry)) (now (members .entry)) count (now (marks .exit)) (now (members .exit)) r ⌝ }
 {
     if wanted {
@@ -75,7 +77,7 @@ fn follow(
     wanted: Wanted,
     p: u16,
 ) -> usize
-    requires { ⌜ Counted (now marks) (now members) count × (p < 256) ⌝ }
+    requires { ⌜ Counted (now marks) (now members) count × (p < mostPositions) ⌝ }
     requires { ⌜ Listed (now list) × Adjacency (now list) (length (now list) / 4) (now adjacency) ⌝ }
     ensures { λ r. ⌜ Followed (wantedBy wanted (now (values .entry))) (stepsOn (now (list .entry))) p 0 (now (marks .entry)) (now (members .entry)) count (now (marks .exit)) (now (members .exit)) r ⌝ }
 {
@@ -86,7 +88,7 @@ fn follow(
         let k = h - 1;
         let on = is_wanted(wanted, values, list[k * 4], list[k * 4 + 3]);
         n = mark(marks, members, n, on, list[k * 4 + 2]);
-        h = adjacency[256 + k] as usize;
+        h = adjacency[POSITIONS + k] as usize;
     }
     n
 }
@@ -94,13 +96,13 @@ fn follow(
 impl PositionSet {
     // Position 0 alone.
     pub fn start() -> PositionSet
-        ensures { λ r. ⌜ (r .marks ≡ set (replicate 256 false) 0 true) × CountedSet r ⌝ }
+        ensures { λ r. ⌜ (r .marks ≡ set (replicate mostPositions false) 0 true) × CountedSet r ⌝ }
     {
-        let mut marks = [false; 256];
+        let mut marks = [false; POSITIONS];
         marks[0] = true;
         PositionSet {
             marks: marks,
-            members: [0u16; 256],
+            members: [0u16; POSITIONS],
             count: 1,
         }
     }
@@ -140,14 +142,14 @@ impl PositionSet {
     pub fn advanced(self, list: &[u16], adjacency: &[u16], m: u16) -> PositionSet
         requires { ⌜ CountedSet self ⌝ }
         requires { ⌜ Listed (now list) × Adjacency (now list) (length (now list) / 4) (now adjacency) ⌝ }
-        ensures { λ r. ⌜ (r .marks ≡ spread (isMove m) (stepsOn (now (list .entry))) (self .marks) (replicate 256 false)) × CountedSet r ⌝ }
+        ensures { λ r. ⌜ (r .marks ≡ spread (isMove m) (stepsOn (now (list .entry))) (self .marks) (replicate mostPositions false)) × CountedSet r ⌝ }
     {
         let old = self.members;
         let n = self.count;
         // no formula is looked at
         let values = [false; 1];
-        let mut marks = [false; 256];
-        let mut members = [0u16; 256];
+        let mut marks = [false; POSITIONS];
+        let mut members = [0u16; POSITIONS];
         let mut count: usize = 0;
         let mut i: usize = 0;
         while i < n {

@@ -4,13 +4,12 @@ ghost use mathlib.Core.Bool.{cond};
 ghost use mathlib.Core.Option.{none};
 ghost use Prim.Native.Nat.{_+_, _-_, _*_, _≤_, _<_};
 ghost use lib.ListN.{length};
-ghost use Rattle.job.specs.StateCount.{stateCount};
-ghost use Rattle.job.specs.Store.{allRows, jobOf};
-ghost use Rattle.job.specs.WellFormed.{WellFormed};
+ghost use Rattle.job.specs.Store.{jobOf};
+ghost use Rattle.job.specs.Stored.{Stored};
 ghost use Rattle.semantics.specs.CompilingTable.{labelIn};
 ghost use Rattle.semantics.specs.Label.{make};
 ghost use Rattle.semantics.specs.StepVerdict.{arrives, made, stays, stepVerdict};
-ghost use Rattle.domain.specs.Domain.{domainOf, Tells};
+ghost use Rattle.domain.specs.Domain.{domainIn, Tells};
 ghost use Rattle.compile.specs.CompiledJob.{stepsOf};
 ghost use Rattle.validate.specs.Adjacency.{stepsOn};
 ghost use Rattle.validate.specs.Ready.{Ready, EntriesBelow};
@@ -22,7 +21,7 @@ use job::head::Head;
 
 // Where a step leads: the state, the position, and what it costs. Nowhere, where it can't be made.
 pub enum Arrival {
-    At(u16, u16, u16),
+    At(u16, u16, u32),
     Nowhere,
 }
 
@@ -38,18 +37,16 @@ fn silently(on: bool, state: u16, to: u16) -> Arrival
 
 // A step that makes move m; past the last move there is none.
 fn by_move(head: Head, rows: &[u16], values: &[bool], state: u16, to: u16, m: u16) -> Arrival
-    requires { ⌜ length (now rows) ≡ allRows * 4 ⌝ }
-    requires { ⌜ WellFormed (jobOf head (now rows)) ⌝ }
-    requires { ⌜ Tells (jobOf head (now rows)) state (now values) ⌝ }
-    requires { ⌜ state < stateCount (head .counts .facts) ⌝ }
-    ensures { λ r. ⌜ arrivalOf r ≡ arrives (domainOf (jobOf head (now (rows .entry)))) (make m) state to ⌝ }
+    requires { ⌜ Stored head (now rows) × Tells (domainIn head (now rows)) state (now values) ⌝ }
+    requires { ⌜ state < domainIn head (now rows) .states ⌝ }
+    ensures { λ r. ⌜ arrivalOf r ≡ arrives (domainIn head (now (rows .entry))) (make m) state to ⌝ }
 {
-    if m < head.counts.moves {
+    if m < domain::moves::move_count(head, rows) {
         let after = domain::moves::successor(head, rows, values, m, state);
         let Successor::To(next) = after else {
             return Arrival::Nowhere;
         };
-        let cost = domain::moves::cost(head, rows, m, state);
+        let cost = domain::moves::cost(head, rows, values, m, state);
         return Arrival::At(next, to, cost);
     }
     Arrival::Nowhere
@@ -57,10 +54,9 @@ fn by_move(head: Head, rows: &[u16], values: &[bool], state: u16, to: u16, m: u1
 
 // A step of a kind, made in a state.
 fn arrive(head: Head, rows: &[u16], state: u16, kind: u16, to: u16, arg: u16) -> Arrival
-    requires { ⌜ length (now rows) ≡ allRows * 4 ⌝ }
-    requires { ⌜ WellFormed (jobOf head (now rows)) ⌝ }
-    requires { ⌜ state < stateCount (head .counts .facts) ⌝ }
-    ensures { λ r. ⌜ arrivalOf r ≡ arrives (domainOf (jobOf head (now (rows .entry)))) (labelIn kind arg) state to ⌝ }
+    requires { ⌜ Stored head (now rows) ⌝ }
+    requires { ⌜ state < domainIn head (now rows) .states ⌝ }
+    ensures { λ r. ⌜ arrivalOf r ≡ arrives (domainIn head (now (rows .entry))) (labelIn kind arg) state to ⌝ }
 {
     let values = domain::formulas::formula_values(head, rows, state);
     let holds = domain::formulas::value_at(&values, arg);
@@ -74,10 +70,9 @@ fn arrive(head: Head, rows: &[u16], state: u16, kind: u16, to: u16, arg: u16) ->
 
 // Step i of the list, made at a position in a state.
 fn make_step(head: Head, rows: &[u16], list: &[u16], i: u16, state: u16, position: u16) -> Arrival
-    requires { ⌜ length (now rows) ≡ allRows * 4 ⌝ }
-    requires { ⌜ WellFormed (jobOf head (now rows)) ⌝ }
-    requires { ⌜ (i * 4 + 4 ≤ length (now list)) × (state < stateCount (head .counts .facts)) ⌝ }
-    ensures { λ r. ⌜ arrivalOf r ≡ made (domainOf (jobOf head (now (rows .entry)))) (stepsOn (now (list .entry))) i state position ⌝ }
+    requires { ⌜ Stored head (now rows) ⌝ }
+    requires { ⌜ (i * 4 + 4 ≤ length (now list)) × (state < domainIn head (now rows) .states) ⌝ }
+    ensures { λ r. ⌜ arrivalOf r ≡ made (domainIn head (now (rows .entry))) (stepsOn (now (list .entry))) i state position ⌝ }
 {
     let at = (i as usize) * 4;
     let from = list[at + 1];
@@ -91,9 +86,9 @@ fn make_step(head: Head, rows: &[u16], list: &[u16], i: u16, state: u16, positio
 pub fn check_steps(head: Head, rows: &[u16], list: &[u16], positions: u16, plan: &[u16]) -> Verdict
     requires { ⌜ Ready head (now rows) (now list) positions ⌝ }
     requires { ⌜ EntriesBelow (now plan) (length (stepsOf (jobOf head (now rows)))) ⌝ }
-    ensures { λ r. ⌜ verdictOf r ≡ stepVerdict (domainOf (jobOf head (now (rows .entry)))) (stepsOf (jobOf head (now (rows .entry)))) (positions - 1) (now (plan .entry)) ⌝ }
+    ensures { λ r. ⌜ verdictOf r ≡ stepVerdict (domainIn head (now (rows .entry))) (stepsOf (jobOf head (now (rows .entry)))) (positions - 1) (now (plan .entry)) ⌝ }
 {
-    let mut state = head.init;
+    let mut state = domain::states::start(head, rows);
     let mut position: u16 = 0;
     let mut cost: u32 = 0;
     let mut i: usize = 0;
@@ -105,10 +100,10 @@ pub fn check_steps(head: Head, rows: &[u16], list: &[u16], positions: u16, plan:
         };
         state = next;
         position = to;
-        cost += spent as u32;
+        cost += spent;
         i += 1;
     }
     let values = domain::formulas::formula_values(head, rows, state);
-    let goal = domain::formulas::value_at(&values, head.goal);
+    let goal = domain::states::goal_holds(head, rows, &values, state);
     crate::verdict::finish(position == positions - 1, goal, cost)
 }

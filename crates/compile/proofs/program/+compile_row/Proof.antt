@@ -36,7 +36,7 @@ claims t =
     (construct-at-reads.Asked, construct-at-reads.Learnt, behind-reads.Asked, behind-reads.Learnt, leaf-step-reads.Asked, leaf-step-reads.Learnt, any-steps-reads.Asked, any-steps-reads.Learnt, compile-row-below t, compile-row.Post, if-steps-reads.Asked, if-steps-reads.Learnt, choice-steps-reads.Asked, choice-steps-reads.Learnt, while-steps-reads.Asked, while-steps-reads.Learnt, star-steps-reads.Asked, star-steps-reads.Learnt)
 
 compile-row-construct-at-requires : (t : ℕ) → compile-row-lts.Need-construct-at-requires (claims t) (compile-row-at t) compile-row.Post
-compile-row-construct-at-requires t c κs = (c .before .before .pre .1 .0, (c .before .before .pre .1 .1 .0, c .before .before .pre .1 .1 .1 .0))
+compile-row-construct-at-requires t c κs = (c .before .before .pre .1 .0, c .before .before .pre .1 .1 .0)
 
 compile-row-behind-requires : (t : ℕ) → compile-row-lts.Need-behind-requires (claims t) (compile-row-at t) compile-row.Post
 compile-row-behind-requires t c κs =

@@ -4,7 +4,9 @@ use Rattle.compile.proofs.sizes.measure.Statement.{statement}
 use Rattle.compile.proofs.sizes.measure.Tie as tie
 
 returns : tie.Need-returns
-returns c = measured (c .before .before .before .args .head) (c .before .before .before .args .rows .now) _ _ (c .before .program-size .ensures) (c .program-size2 .ensures)
+returns c =
+    let a = c .before .before .before .before .args in
+    measured (a .head) (a .rows .now) _ _ _ (c .before .before .program-size .ensures) (c .before .capped .ensures) (c .program-size2 .ensures)
 
 pub measure-spec : {M : Type 1} → statement M
-measure-spec = tie.close (tie.spec (λ c κs. search needs) (λ c. search needs) (λ c κs. search needs) returns)
+measure-spec = tie.close (tie.spec (λ c κs. search needs) (λ c κs. search needs) (λ c κs. search needs) returns)

@@ -4,17 +4,16 @@ use native.Mathlib.Omega.{arith}
 use mathlib.Core.Path.{_≡_, _∙_}
 use Prim.Native.Nat.{_≤_, _-_}
 use lib.ListN.{length, length-set}
-use Rattle.job.specs.Job.{rowOf}
-use Rattle.job.specs.Store.{programFrom, jobOf}
-use Rattle.job.proofs.StoreLaws.{rows-length}
-use Rattle.compile.proofs.ProgramLaws.{program-rows}
+use Rattle.limits.specs.Limits.{mostProgram}
+use Rattle.job.specs.Store.{jobOf}
+use Rattle.job.proofs.StoredLaws.{limited, row-count}
 use Rattle.compile.proofs.SizeLaws.{Sized, sized-more, sized-last}
 use borrow.Author.Needs.{needs}
 use Rattle.compile.proofs.sizes.program_size.Statement.{statement}
 use Rattle.compile.proofs.sizes.program_size.Tie as tie
 
 abbrev Inv-loop : tie.InvT-loop
-Inv-loop head rows w n sizes₀ i₀ sizes i = (i ≤ n) × (length sizes ≡ 128) × Sized w (jobOf head rows .program) i sizes
+Inv-loop head rows w n sizes₀ i₀ sizes i = (i ≤ n) × (length sizes ≡ mostProgram) × Sized w (jobOf head rows .program) i sizes
 
 abbrev μ-loop : tie.MeasureT-loop
 μ-loop head rows w n sizes₀ i₀ sizes i = n - i
@@ -23,19 +22,30 @@ loop-holds : tie.Need-loop-holds Inv-loop μ-loop
 loop-holds c = (omega arith, search needs, λ k h. absurd (omega arith))
 
 array-write-sizes : tie.Need-array-write-sizes Inv-loop μ-loop
-array-write-sizes c = omega (arith, c .before .before .before .loop-test .taken, program-rows (c .before .before .before .before .before .before .args .head) (c .before .before .before .before .before .before .args .rows .now) (c .before .before .before .before .before .before .pre .1))
+array-write-sizes c =
+    let o = c .before .before .before .before .before .before in
+    omega (arith, c .before .before .before .loop-test .taken, limited (o .pre) .program)
 
 loop-again : tie.Need-loop-again Inv-loop μ-loop
-loop-again c = (omega arith, simp length-set (c .before .before .before .before .loop .inv .1), sized-more (c .before .before .before .before .before .before .args .w) _ _ _ (c .before .before .before .before .loop .inv .2) (c .before .before .construct-at .result) _ (c .before .before .construct-at .ensures) (c .construct-size .ensures) (omega (arith, c .before .before .before .before .loop .inv .1, program-rows (c .before .before .before .before .before .before .args .head) (c .before .before .before .before .before .before .args .rows .now) (c .before .before .before .before .before .before .pre .1))))
+loop-again c =
+    let o = c .before .before .before .before .before .before in
+    let n = c .before .before .before .before .loop .inv in
+    let r = c .before .before .construct-at in
+    let more = sized-more (o .args .w) _ _ _ (n .2) (r .result) _ (r .ensures) (c .construct-size .ensures) (omega (arith, n .1, limited (o .pre) .program)) in
+    (omega arith, simp length-set (n .1), more)
 
 sub-entry : tie.Need-sub-entry Inv-loop μ-loop
-sub-entry c = omega (arith, program-rows (c .before .before .before .before .args .head) (c .before .before .before .before .args .rows .now) (c .before .before .before .before .pre .1))
+sub-entry c = omega (arith, limited (c .before .before .before .before .pre) .last)
 
 returns : tie.Need-returns Inv-loop μ-loop
-returns c = let e : c .before .before .before .loop .i ≡ c .before .before .before .before .before .args .head .counts .program = omega (arith, c .before .before .before .loop .inv .0, c .before .before .loop-test .left) in
-    c .entry .ensures ∙ sized-last (c .before .before .before .before .before .args .w) (jobOf (c .before .before .before .before .before .args .head) (c .before .before .before .before .before .args .rows .now)) (c .before .before .before .before .before .args .head .counts .program) (c .before .before .before .loop .sizes)
-    (sym (rows-length rowOf (c .before .before .before .before .before .args .rows .now) programFrom (c .before .before .before .before .before .args .head .counts .program))) (program-rows (c .before .before .before .before .before .args .head) (c .before .before .before .before .before .args .rows .now) (c .before .before .before .before .before .pre .1) .0)
-    (subst (λ (k : ℕ). Sized (c .before .before .before .before .before .args .w) (jobOf (c .before .before .before .before .before .args .head) (c .before .before .before .before .before .args .rows .now) .program) k (c .before .before .before .loop .sizes)) e (c .before .before .before .loop .inv .2))
+returns c =
+    let o = c .before .before .before .before .before in
+    let j = jobOf (o .args .head) (o .args .rows .now) in
+    let n = o .args .head .counts .program in
+    let s = c .before .before .before .loop in
+    let e : s .i ≡ n = omega (arith, s .inv .0, c .before .before .loop-test .left) in
+    c .entry .ensures ∙ sized-last (o .args .w) j n (s .sizes) (sym (row-count (o .args .head) (o .args .rows .now))) (limited (o .pre) .last)
+    (subst (λ (k : ℕ). Sized (o .args .w) (j .program) k (s .sizes)) e (s .inv .2))
 
 pub program-size-spec : {M : Type 1} → statement M
 program-size-spec =

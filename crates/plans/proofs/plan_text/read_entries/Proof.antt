@@ -3,9 +3,10 @@ use mathlib.Core.Path.{_≡_, sym, _∙_, ap}
 use mathlib.Core.List.{[]}
 use native.Mathlib.Omega.{arith}
 use lib.ListN.{length, take, drop, length-set}
+use Rattle.limits.specs.Limits.{mostEntries}
 use Rattle.text.specs.Lines.{lines}
 use Rattle.text.proofs.LineLaws.{line-within}
-use Rattle.plans.specs.PlanText.{mostEntries, entryOf, readEntries}
+use Rattle.plans.specs.PlanText.{entryOf, readEntries}
 use Rattle.plans.proofs.PlanLaws.{entry-more, entry-wrong, entry-extra, entry-missing, entries-all}
 use borrow.Author.Needs.{needs}
 use Rattle.plans.proofs.plan_text.read_entries.Statement.{statement}

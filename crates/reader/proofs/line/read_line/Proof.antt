@@ -3,26 +3,31 @@ use native.Mathlib.Omega.{arith}
 use Prim.Native.Nat.{_≤_}
 use mathlib.Core.List.{[], _∷_}
 use lib.ListN.{length}
+use lib.Seq.{take-at}
 use borrow.Rule.Slice.PartMut.{mid-len}
 use Rattle.text.specs.Numbers.{numbers}
 use Rattle.job.specs.Line.{formOf, rowNumbers}
-use Rattle.reader.proofs.LineLaws.{width-within, filled-front, numbers-answered}
+use Rattle.job.specs.Store.{width}
+use Rattle.reader.proofs.LineLaws.{width-within, numbers-answered}
 use borrow.Author.Needs.{needs}
 use Rattle.reader.proofs.line.read_line.Statement.{statement}
 use Rattle.reader.proofs.line.read_line.Tie as tie
 
 part-n-end : tie.Need-part-n-end
-part-n-end c = let h : c .before .width .result ≤ 4 = omega (arith, c .before .width .ensures, width-within (c .before .before .before .args .next)) in h
+part-n-end c = let h : c .before .width .result ≤ width = omega (arith, c .before .width .ensures, width-within (c .before .before .before .args .next)) in h
 
 returns : tie.Need-returns
 unfolding rowNumbers
 returns c =
     let next = c .before .before .before .before .before .before .args .next in
+    let e = c .before .before .before .before .width .ensures in
     let w = c .before .before .before .before .width .result in
-    let h : w ≤ 4 = omega (arith, c .before .before .before .before .width .ensures, width-within next) in
-    let k : length (c .before .read-numbers .last .1 .0) ≡ formOf next .width = c .before .read-numbers .kept .1 .0 ∙ mid-len 0 w (0 ∷ 0 ∷ 0 ∷ 0 ∷ []) h ∙ omega (arith, c .before .before .before .before .width .ensures) in
-    numbers-answered next _ (c .before .read-numbers .last .1 .0) (c .before .read-numbers .result) refl (filled-front _ _ (formOf next .width) k (width-within next))
-    ∙ c .before .read-numbers .ensures ∙ ap (λ n. numbers n (c .before .before .before .value .result .now)) (sym (c .before .read-numbers .kept .1 .0) ∙ k) ∙ ap (numbers (formOf next .width)) (c .before .before .before .value .ensures)
+    let h : w ≤ width = omega (arith, e, width-within next) in
+    let r = c .before .read-numbers in
+    let v = c .before .before .before .value in
+    let k : length (r .last .1 .0) ≡ formOf next .width = r .kept .1 .0 ∙ mid-len 0 w (0 ∷ 0 ∷ 0 ∷ 0 ∷ 0 ∷ 0 ∷ 0 ∷ 0 ∷ []) h ∙ omega (arith, e) in
+    numbers-answered next _ (r .last .1 .0) (r .result) refl (take-at _ _ (formOf next .width) k)
+    ∙ r .ensures ∙ ap (λ n. numbers n (v .result .now)) (sym (r .kept .1 .0) ∙ k) ∙ ap (numbers (formOf next .width)) (v .ensures)
 
 pub read-line-spec : {M : Type 1} → statement M
 read-line-spec =
@@ -34,8 +39,4 @@ read-line-spec =
     (λ c. search needs)
     part-n-end
     (λ c κs. search needs)
-    (λ c. search needs)
-    (λ c. search needs)
-    (λ c. search needs)
-    (λ c. search needs)
     returns)

@@ -1,4 +1,7 @@
+use mathlib.Core.Path.{_≡_}
 use native.Mathlib.Omega.{arith}
+use lib.ListN.{length}
+use Rattle.job.specs.Store.{width}
 use Rattle.reader.proofs.AddLaws.{reading-of, rows-within, formula-added}
 use borrow.Author.Needs.{needs}
 use Rattle.reader.proofs.reading.add_formula.Statement.{statement}
@@ -6,9 +9,12 @@ use Rattle.reader.proofs.reading.add_formula.Tie as tie
 
 returns : tie.Need-returns
 returns c =
-    let a = c .before .before .before .before .before .before .before .before .before .before .before .args in
+    let b = c .before .before .before .before .before .before .before .before .before .before .before in
+    let a = b .args in
+    let n : length (a .numbers) ≡ width = search needs in
     reading-of _ _ _ _ _ _ _ _ (c .on .ensures) (c .before .before .before .before .before .before .put-row .ensures) (c .before .after-formulas .ensures)
-    (c .before .before .before .with-counts .ensures) (formula-added (a .s .head) (a .rows .now) _ _ _ _ (c .before .before .before .before .before .before .before .before .before .before .before .pre .1) (rows-within (c .before .before .before .before .before .before .before .before .before .before .before .pre .0)) (omega (arith, c .before .before .before .before .before .before .before .before .before .before .before .pre .0)))
+    (c .before .before .before .with-counts .ensures)
+    (formula-added (a .s .head) (a .rows .now) (a .numbers) (b .pre .1) n (rows-within (b .pre .0)) (omega (arith, b .pre .0)))
 
 pub add-formula-spec : {M : Type 1} → statement M
 add-formula-spec =

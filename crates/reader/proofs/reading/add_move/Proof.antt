@@ -1,5 +1,7 @@
-use mathlib.Core.Path.{refl}
+use mathlib.Core.Path.{_≡_}
 use native.Mathlib.Omega.{arith}
+use lib.ListN.{length}
+use Rattle.job.specs.Store.{width}
 use Rattle.reader.proofs.AddLaws.{reading-of, rows-within, move-added}
 use borrow.Author.Needs.{needs}
 use Rattle.reader.proofs.reading.add_move.Statement.{statement}
@@ -7,18 +9,25 @@ use Rattle.reader.proofs.reading.add_move.Tie as tie
 
 returns : tie.Need-returns
 returns c =
-    let a = c .before .before .before .before .before .before .before .before .before .before .before .args in
+    let b = c .before .before .before .before .before .before .before .before .before .before .before in
+    let a = b .args in
+    let n : length (a .t2) ≡ width = search needs in
     reading-of _ _ _ _ _ _ _ _ (c .on .ensures) (c .before .before .before .before .before .before .put-row .ensures) (c .before .after-moves .ensures)
-    (c .before .before .before .with-counts .ensures) (move-added (a .s .head) (a .rows .now) _ _ _ _ (c .before .before .before .before .before .before .before .before .before .before .before .pre .1) (rows-within (c .before .before .before .before .before .before .before .before .before .before .before .pre .0)) (omega (arith, c .before .before .before .before .before .before .before .before .before .before .before .pre .0)) refl)
+    (c .before .before .before .with-counts .ensures)
+    (move-added (a .s .head) (a .rows .now) (a .t2) (b .pre .1) n (rows-within (b .pre .0)) (omega (arith, b .pre .0)))
 
 pub add-move-spec : {M : Type 1} → statement M
 add-move-spec =
     tie.close
     (tie.spec
     (λ c. search needs)
+    (λ c. search needs)
+    (λ c. search needs)
+    (λ c. search needs)
     (λ c κs. search needs)
     (λ c. search needs)
     (λ c κs. search needs)
+    (λ c. search needs)
     (λ c. search needs)
     (λ c κs. search needs)
     (λ c κs. search needs)

@@ -1,11 +1,11 @@
-use Prim.Native.Nat.{_+_, _-_, _*_, _≤_}
+use Prim.Native.Nat.{_+_, _-_, _≤_}
 use mathlib.Core.Path.{_≡_, sym, _∙_, ap, subst}
 use native.Mathlib.Omega.{arith}
 use lib.ListN.{length, drop}
 use Rattle.text.specs.Lines.{lines}
 use Rattle.text.proofs.LineLaws.{line-within}
 use Rattle.job.specs.ReadJob.{refused, readFrom, readJob}
-use Rattle.job.specs.Store.{allRows}
+use Rattle.job.specs.Store.{storeSize}
 use Rattle.reader.specs.Reading.{readingOf, outcomeOf}
 use Rattle.reader.proofs.KeptLaws.{Kept, taken-kept, begun-kept}
 use Rattle.reader.proofs.ReadLaws.{read-on, read-refused, read-ended, reason-of, row-of, right-of, room-of}
@@ -14,7 +14,7 @@ use Rattle.reader.proofs.reading.read_job.Statement.{statement}
 use Rattle.reader.proofs.reading.read_job.Tie as tie
 
 abbrev Inv-loop : tie.InvT-loop
-Inv-loop text rows₀ s₀ at₀ n₀ rows s at n = (at ≤ length text) × (n ≤ at) × (length rows ≡ allRows * 4) × Kept (readingOf s rows) × (readJob text ≡ readFrom n (readingOf s rows) (lines (drop at text)))
+Inv-loop text rows₀ s₀ at₀ n₀ rows s at n = (at ≤ length text) × (n ≤ at) × (length rows ≡ storeSize) × Kept (readingOf s rows) × (readJob text ≡ readFrom n (readingOf s rows) (lines (drop at text)))
 
 abbrev μ-loop : tie.MeasureT-loop
 μ-loop text rows₀ s₀ at₀ n₀ rows s at n = length text - at

@@ -1,6 +1,7 @@
 use Prim.Native.Nat.{_-_, _+_, _*_}
 use native.Mathlib.Omega.{arith}
 use lib.ListN.{getD}
+use Rattle.limits.specs.Limits.{mostPositions}
 use Rattle.validate.specs.Positions.{wantedBy}
 use Rattle.validate.proofs.AdjacencyLaws.{last-within}
 use Rattle.validate.proofs.FollowLaws.{Following, follow-start, follow-end, follow-more}
@@ -24,7 +25,7 @@ mark-requires : tie.Need-mark-requires Inv-loop μ-loop
 mark-requires c κs = (c .before .before .before .before .before .before .before .loop .inv .followed .counted, c .before .before .before .before .before .before .before .before .before .before .before .before .before .before .pre .1 .0 .to _ (omega (arith, c .before .before .before .before .before .before .loop-test .taken, c .before .before .before .before .before .before .before .loop .inv .within)))
 
 cast-h-2 : tie.Need-cast-h-2 Inv-loop μ-loop
-cast-h-2 c = record { fits = omega (arith, c .before .before .before .before .before .before .before .before .before .before .before .before .before .before .before .before .shared-slice-known2 .given (256 + (c .before .before .before .before .before .before .before .before .before .before .before .before .before .loop .h - 1))) }
+cast-h-2 c = record { fits = omega (arith, c .before .before .before .before .before .before .before .before .before .before .before .before .before .before .before .before .shared-slice-known2 .given (mostPositions + (c .before .before .before .before .before .before .before .before .before .before .before .before .before .loop .h - 1))) }
 
 loop-less : tie.Need-loop-less Inv-loop μ-loop
 loop-less c = let k = c .before .before .before .before .before .before .before .before .before .before .before .before .before .loop .h - 1 in omega (arith, c .before .before .before .before .before .before .before .before .before .before .before .before .loop-test .taken, c .before .before .before .before .before .before .before .before .before .before .before .before .before .before .before .before .before .before .before .before .pre .1 .1 .before k (omega (arith, c .before .before .before .before .before .before .before .before .before .before .before .before .loop-test .taken, c .before .before .before .before .before .before .before .before .before .before .before .before .before .loop .inv .within)), last-within (c .before .before .before .before .before .before .before .before .before .before .before .before .before .before .before .before .before .before .before .before .args .list .now) (getD (c .before .before .before .before .before .before .before .before .before .before .before .before .before .before .before .before .before .before .before .before .args .list .now) (k * 4 + 1) 0) k)

@@ -4,7 +4,7 @@ use native.Mathlib.Omega.{arith}
 use lib.ListN.{length}
 use Rattle.job.specs.Store.{jobOf}
 use Rattle.domain.specs.Cost.{mostCost}
-use Rattle.domain.specs.Domain.{domainOf}
+use Rattle.domain.specs.Domain.{domainIn}
 use Rattle.compile.specs.CompiledJob.{stepsOf}
 use Rattle.validate.proofs.ReadyLaws.{job-bounded}
 use Rattle.validate.proofs.StepLaws.{Stepping, stepping-start, stepping-blocked, stepping-more, stepping-end}
@@ -14,38 +14,37 @@ use Rattle.validate.proofs.steps.check_steps.Tie as tie
 
 abbrev Inv-loop : tie.InvT-loop
 Inv-loop head rows list positions plan state₀ position₀ cost₀ i₀ state position cost i =
-    Stepping (domainOf (jobOf head rows)) mostCost (stepsOf (jobOf head rows)) (positions - 1) plan state position cost i
+    Stepping (domainIn head rows) mostCost (stepsOf (jobOf head rows)) (positions - 1) plan state position cost i
 
 abbrev μ-loop : tie.MeasureT-loop
 μ-loop head rows list positions plan state₀ position₀ cost₀ i₀ state position cost i = length plan - i
 
 loop-holds : tie.Need-loop-holds Inv-loop μ-loop
-loop-holds c = stepping-start (job-bounded (c .before .before .before .pre .0))
+loop-holds c = stepping-start (job-bounded (c .before .before .before .before .pre .0))
 
 make-step-requires : tie.Need-make-step-requires Inv-loop μ-loop
 make-step-requires c κs =
-    let p = c .before .before .before .before .before .before .pre in
+    let p = c .before .before .before .before .before .before .before .pre in
     let r = p .0 in
     let below = p .1 .below _ (c .before .loop-test .taken) in
-    (r .size, (r .job, (omega (arith, below, r .whole), c .before .before .loop .inv .state)))
+    (r .stored, (omega (arith, below, r .whole), c .before .before .loop .inv .state))
 
 returns : tie.Need-returns Inv-loop μ-loop
 returns c =
-    let r = c .before .before .before .before .before .before .before .before .before .pre .0 in
+    let r = c .before .before .before .before .before .before .before .before .before .before .pre .0 in
     let made = rw (c .enum-told .given .1, r .steps) at (c .before .before .make-step .ensures) in
     stepping-blocked (c .before .before .before .before .before .loop .inv) (c .before .before .before .before .loop-test .taken) made
 
 loop-again : tie.Need-loop-again Inv-loop μ-loop
 loop-again c =
-    let r = c .before .before .before .before .before .before .before .before .before .before .pre .0 in
+    let r = c .before .before .before .before .before .before .before .before .before .before .before .pre .0 in
     let made = rw (c .before .step .given .1, r .steps) at (c .before .before .before .make-step .ensures) in
     stepping-more (c .before .before .before .before .before .before .loop .inv) (c .before .before .before .before .before .loop-test .taken) (job-bounded r) made
 
 returns-2 : tie.Need-returns-2 Inv-loop μ-loop
 returns-2 c =
-    let told = c .before .value-at .ensures ∙ c .before .before .before .formula-values .ensures _ in
     let end = stepping-end (c .before .before .before .before .before .loop .inv) (c .before .before .before .before .loop-test .left) in
-    c .finish .ensures ∙ rw told end
+    c .finish .ensures ∙ rw (c .before .goal-holds .ensures) end
 
 pub check-steps-spec : {M : Type 1} → statement M
 check-steps-spec =
@@ -53,6 +52,7 @@ check-steps-spec =
     (tie.spec
     Inv-loop
     μ-loop
+    (λ c κs. search needs)
     loop-holds
     (λ c. search needs)
     (λ c. search needs)
@@ -60,7 +60,6 @@ check-steps-spec =
     (λ c. search needs)
     (λ c. search needs)
     returns
-    (λ c. search needs)
     (λ c. search needs)
     (λ c. search needs)
     (λ c. search needs)

@@ -1,6 +1,7 @@
 use Prim.Native.Nat.{ℕ, _-_}
 use native.Mathlib.Omega.{arith}
 use lib.ListN.{length-replicate}
+use Rattle.limits.specs.Limits.{mostPositions}
 use Rattle.validate.specs.declared.position_set.Wanted.the-variants.{Move}
 use Rattle.validate.specs.Positions.{wantedBy}
 use Rattle.validate.proofs.SetLaws.{Advancing, advancing-start, advancing-more, advancing-end, counted-few, member-inside}
@@ -15,7 +16,7 @@ abbrev μ-loop : tie.MeasureT-loop
 μ-loop list adjacency m old n values marks₀ members₀ count₀ i₀ marks members count i = n - i
 
 loop-holds : tie.Need-loop-holds Inv-loop μ-loop
-loop-holds c = advancing-start _ _ _ _ _ (length-replicate {A = ℕ} 256 0)
+loop-holds c = advancing-start _ _ _ _ _ (length-replicate {A = ℕ} mostPositions 0)
 
 mul-p : tie.Need-mul-p Inv-loop μ-loop
 mul-p c = omega (arith, c .loop-test .taken, counted-few (c .before .before .before .before .before .pre .0))

@@ -1,5 +1,6 @@
 use Prim.Native.Nat.{_-_}
 use native.Mathlib.Omega.{arith}
+use Rattle.limits.specs.Limits.{mostPositions}
 use Rattle.validate.specs.declared.position_set.Wanted.the-variants.{Silent}
 use Rattle.validate.specs.Positions.{wantedBy}
 use Rattle.validate.proofs.SetLaws.{Closing, closing-start, closing-more, closing-end, counted-few, member-inside}
@@ -11,7 +12,7 @@ abbrev Inv-loop : tie.InvT-loop
 Inv-loop list adjacency values marks₀ members₀ count₀ at₀ marks members count at = Closing (wantedBy Silent values) list marks₀ marks members count at
 
 abbrev μ-loop : tie.MeasureT-loop
-μ-loop list adjacency values marks₀ members₀ count₀ at₀ marks members count at = 256 - at
+μ-loop list adjacency values marks₀ members₀ count₀ at₀ marks members count at = mostPositions - at
 
 loop-holds : tie.Need-loop-holds Inv-loop μ-loop
 loop-holds c = closing-start _ _ _ (c .before .before .before .before .before .pre .0)
