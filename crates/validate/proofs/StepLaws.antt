@@ -22,9 +22,9 @@ pub record Stepping (D : Domain) (most : ℕ) (L : List Step) (e : ℕ) (plan : 
   pub cost : c ≤ most * i
 
 module _ {D : Domain} {most : ℕ} {L : List Step} {e : ℕ} {plan : List ℕ} where
-  pub stepping-start : Bounded D most → Stepping D most L e plan (D .start) 0 0 0
+  pub stepping-start : Bounded D most → {s : ℕ} → s ≡ D .start → Stepping D most L e plan s 0 0 0
   unfolding stepVerdict
-  stepping-start b = record { left = left-start plan _ (stepVerdictFrom D L e (D .start) 0) refl; state = b .start; cost = omega arith }
+  stepping-start b {s} f = record { left = left-start plan _ (stepVerdictFrom D L e s 0) (rw f); state = rw f (b .start); cost = omega arith }
 
   module _ {s p c i : ℕ} (x : Stepping D most L e plan s p c i) where
     module _ (h : i < length plan) where

@@ -62,6 +62,9 @@ advanced-requires c κs = (c .before .before .before .before .before .before .be
 slice-aggregate-closed-3 : tie.Need-slice-aggregate-closed-3 Inv-loop μ-loop
 slice-aggregate-closed-3 c = search (needs, c .before .before .before .before .before .before .before .before .before .before .before .before .before .before .before .before .before .before .before .before .adjacency-of .ensures .size)
 
+slice-aggregate-advanced : tie.Need-slice-aggregate-advanced Inv-loop μ-loop
+slice-aggregate-advanced c = search (needs, c .before .before .before .before .before .before .before .before .before .before .before .before .before .before .before .before .before .before .adjacency-of .ensures .size)
+
 closed-requires-2 : tie.Need-closed-requires-2 Inv-loop μ-loop
 closed-requires-2 c κs = (c .before .before .advanced .ensures .1, (ready-listed (c .before .before .before .before .before .before .before .before .before .before .before .before .before .before .before .before .before .before .before .before .before .before .before .before .before .pre .0), c .before .before .before .before .before .before .before .before .before .before .before .before .before .before .before .before .before .before .before .before .before .adjacency-of .ensures))
 
@@ -128,7 +131,7 @@ check-moves-spec =
     slice-aggregate-cost
     cost-requires
     formula-values-requires-2
-    (λ c. search needs)
+    slice-aggregate-advanced
     advanced-requires
     slice-aggregate-closed-3
     (λ c. search needs)

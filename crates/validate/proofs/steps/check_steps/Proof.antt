@@ -20,7 +20,7 @@ abbrev μ-loop : tie.MeasureT-loop
 μ-loop head rows list positions plan state₀ position₀ cost₀ i₀ state position cost i = length plan - i
 
 loop-holds : tie.Need-loop-holds Inv-loop μ-loop
-loop-holds c = stepping-start (job-bounded (c .before .before .before .before .pre .0))
+loop-holds c = stepping-start (job-bounded (c .before .before .before .before .pre .0)) (c .start .ensures)
 
 make-step-requires : tie.Need-make-step-requires Inv-loop μ-loop
 make-step-requires c κs =
@@ -34,6 +34,14 @@ returns c =
     let r = c .before .before .before .before .before .before .before .before .before .before .pre .0 in
     let made = rw (c .enum-told .given .1, r .steps) at (c .before .before .make-step .ensures) in
     stepping-blocked (c .before .before .before .before .before .loop .inv) (c .before .before .before .before .loop-test .taken) made
+
+add-cost : tie.Need-add-cost Inv-loop μ-loop
+add-cost c =
+    let p = c .before .before .before .before .before .before .before .before .before .before .before .pre in
+    let x = c .before .before .before .before .before .before .loop .inv in
+    let made = rw (c .before .step .given .1, p .0 .steps) at (c .before .before .before .make-step .ensures) in
+    let more = stepping-more x (c .before .before .before .before .before .loop-test .taken) (job-bounded (p .0)) made in
+    record { fits = omega (arith, more .cost, c .before .before .before .before .before .loop-test .taken, p .1 .few) }
 
 loop-again : tie.Need-loop-again Inv-loop μ-loop
 loop-again c =
@@ -60,7 +68,7 @@ check-steps-spec =
     (λ c. search needs)
     (λ c. search needs)
     returns
-    (λ c. search needs)
+    add-cost
     (λ c. search needs)
     (λ c. search needs)
     loop-again
