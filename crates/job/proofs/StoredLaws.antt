@@ -1,12 +1,11 @@
 -- Laws of a stored job: how many rows it has of each sort, and what its rows are.
 -- Assumes nothing.
 use Prim.Native.Nat.{ℕ, _+_, _≤_, _<_}
-use mathlib.Core.Path.{_≡_, sym}
+use mathlib.Core.Path.{_≡_}
 use mathlib.Core.List.{List, [], _∷_}
 use native.Mathlib.Omega.{arith}
 use lib.ListN.{length, getD}
 use Rattle.limits.specs.Limits.{mostFacts, mostFormulas, mostMoves, mostEffects, lastClass, mostProgram}
-use Rattle.job.specs.StateCount.{stateCount}
 use Rattle.job.specs.Job.{formulaOf, moveOf, effectOf, rowOf, formulaAt, moveAt, effectAt, programRowAt}
 use Rattle.job.specs.Fields.{Within, formulaFields, rowFields}
 use Rattle.job.specs.Store.{formulasFrom, movesFrom, effectsFrom, programFrom, rowAt, storedMove, jobOf}

@@ -1,42 +1,44 @@
 -- Loading: what is read is refused by 4, or handed on with its sizes.
 -- Assumes nothing.
-use Prim.Native.Nat.{ℕ, _≤_, _<_, min}
+use Prim.Native.Nat.{ℕ, _≤_, _<_}
 use mathlib.Core.Path.{_≡_, refl, sym, _∙_, ap}
 use mathlib.Core.Bool.{Bool, true, false, cond}
 use mathlib.Core.List.{List}
 use native.Mathlib.Omega.{arith}
+use lib.ListN.{length}
 use borrow.Author.Tests.{le-leb, lt-leb}
+use Rattle.limits.specs.Limits.{mostPositions, mostSteps}
 use Rattle.job.specs.Job.{Job}
 use Rattle.job.specs.ReadJob as R
 use Rattle.job.specs.ReadJob.{readJob}
-use Rattle.job.specs.Store.{jobOf}
-use Rattle.job.specs.WellFormed.{WellFormed}
+use Rattle.job.specs.Store.{storeSize, jobOf}
+use Rattle.job.specs.Stored.{Stored}
 use Rattle.job.specs.declared.head.Head.{Head}
 use Rattle.job.specs.declared.head.Refusal.{Refusal}
 use Rattle.reader.specs.Reading as S
 use Rattle.reader.specs.Reading.{outcomeOf}
 use Rattle.reader.specs.declared.reading.Answer.{Answer}
-use Rattle.reader.proofs.ReadLaws.{read-well-formed}
+use Rattle.reader.proofs.ReadLaws.{read-stored}
 use Rattle.compile.specs.CompiledJob.{positionCount, stepCount, fits}
 use Rattle.compile.specs.Size.{capped}
 use Rattle.compile.specs.declared.sizes.Sizes.{Sizes}
 use Rattle.offers.specs.Refusals.{passed, refused, limits, jobIn}
-use Rattle.offers.specs.Load.{checkedOf, Measured, loadRefusal}
+use Rattle.offers.specs.Load.{checkedOf, Sized, Measured, loadRefusal}
 use Rattle.offers.specs.declared.load.Loaded.{Loaded}
 
 -- fitting, as two comparisons
 module _ (j : Job) where
-  unfit-positions : 256 < positionCount j → fits j ≡ false
+  unfit-positions : mostPositions < positionCount j → fits j ≡ false
   unfolding fits
-  unfit-positions h = rw (lt-leb (positionCount j) 256 h)
+  unfit-positions h = rw (lt-leb (positionCount j) mostPositions h)
 
-  unfit-steps : positionCount j ≤ 256 → 1024 < stepCount j → fits j ≡ false
+  unfit-steps : positionCount j ≤ mostPositions → mostSteps < stepCount j → fits j ≡ false
   unfolding fits
-  unfit-steps g h = rw (le-leb (positionCount j) 256 g, lt-leb (stepCount j) 1024 h)
+  unfit-steps g h = rw (le-leb (positionCount j) mostPositions g, lt-leb (stepCount j) mostSteps h)
 
-  pub fit : positionCount j ≤ 256 → stepCount j ≤ 1024 → fits j ≡ true
+  pub fit : positionCount j ≤ mostPositions → stepCount j ≤ mostSteps → fits j ≡ true
   unfolding fits
-  fit g h = rw (le-leb (positionCount j) 256 g, le-leb (stepCount j) 1024 h)
+  fit g h = rw (le-leb (positionCount j) mostPositions g, le-leb (stepCount j) mostSteps h)
 
 module _ (text rows : List ℕ) where
   -- what reading refuses
@@ -53,26 +55,28 @@ module _ (text rows : List ℕ) where
     reads : readJob text ≡ R.read n j
     reads = sym e ∙ ap (λ (x : Answer). outcomeOf x rows) g
 
-    pub load-well-formed : WellFormed j
-    load-well-formed = read-well-formed text n j reads
+    pub load-stored : length rows ≡ storeSize → Stored h rows
+    load-stored size = read-stored text n h rows size (sym reads)
 
     limited : (b : Bool) → fits j ≡ b → cond b (passed j) (refused 4 n) ≡ jobIn text
     unfolding jobIn
     limited b f = ap (λ (x : Bool). cond x (passed j) (refused 4 n)) (sym f) ∙ ap limits (sym reads)
 
-    module _ (positions steps : ℕ) (m : (positions ≡ min (positionCount j) 1026) × (steps ≡ capped (stepCount j))) where
-      pub load-positions : 256 < positions → refused 4 n ≡ jobIn text
+    module _ (s : Sizes) (m : (s .positions ≡ capped (positionCount j)) × (s .steps ≡ capped (stepCount j))) where
+      pub load-positions : mostPositions < s .positions → refused 4 n ≡ jobIn text
       load-positions k = limited false (unfit-positions j (omega (arith, m .0)))
 
-      module _ (k : positions ≤ 256) where
-        few : positionCount j ≤ 256
+      module _ (k : s .positions ≤ mostPositions) where
+        few : positionCount j ≤ mostPositions
         few = omega (arith, m .0, k)
 
-        pub load-steps : 1024 < steps → refused 4 n ≡ jobIn text
+        pub load-steps : mostSteps < s .steps → refused 4 n ≡ jobIn text
         load-steps l = limited false (unfit-steps j few (omega (arith, m .1)))
 
-        pub load-ready : steps ≤ 1024 → (passed j ≡ jobIn text) × ((positions ≡ positionCount j) × (steps ≡ stepCount j))
-        load-ready l = (limited true (fit j few (omega (arith, m .1, l))), (omega (arith, m .0, k), omega (arith, m .1, l)))
+        pub load-ready : s .steps ≤ mostSteps → length rows ≡ storeSize → (passed j ≡ jobIn text) × Sized h rows s
+        load-ready l size =
+            let f = fit j few (omega (arith, m .1, l)) in
+            (limited true f, record { stored = load-stored size; fit = f; positions = omega (arith, m .0, k); steps = omega (arith, m .1, l) })
 
 -- what is handed on was read, and fits
 module _ (text : List ℕ) (j : Job) where
@@ -88,9 +92,6 @@ module _ (text : List ℕ) (j : Job) where
   unfolding jobIn
   passed-read e = within (readJob text) e
 
-  pub passed-right : jobIn text ≡ passed j → WellFormed j × (fits j ≡ true)
-  passed-right e = let r = passed-read e in (read-well-formed text (r .0) j (r .1), r .2)
-
 -- what a caller of loading knows
 module _ (text rows : List ℕ) (a : Loaded) (e : checkedOf a rows ≡ jobIn text) where
   pub loaded-refused : {q r : Refusal} → a ≡ Loaded.Refused q → r ≡ loadRefusal a → refused (r .number) (r .place) ≡ jobIn text
@@ -100,5 +101,5 @@ module _ (text rows : List ℕ) (a : Loaded) (e : checkedOf a rows ≡ jobIn tex
     pub loaded-passed : passed (jobOf h rows) ≡ jobIn text
     loaded-passed = ap (λ (x : Loaded). checkedOf x rows) (sym g) ∙ e
 
-    pub loaded-sized : Measured a rows → (s .positions ≡ positionCount (jobOf h rows)) × (s .steps ≡ stepCount (jobOf h rows))
+    pub loaded-sized : Measured a rows → Sized h rows s
     loaded-sized m = rw g at m

@@ -4,21 +4,20 @@ use Prim.Native.Nat.{ℕ, _≤_}
 use mathlib.Core.Path.{_≡_, refl, sym, _∙_, ap, subst}
 use mathlib.Core.List.{List}
 use native.Mathlib.Omega.{arith}
-use lib.ListN.{length}
+use Rattle.limits.specs.Limits.{mostEntries}
 use Rattle.job.specs.Job.{Job}
 use Rattle.job.specs.Store.{jobOf}
 use Rattle.job.specs.declared.head.Head.{Head}
-use Rattle.job.specs.declared.head.Counts.{Counts}
 use Rattle.job.specs.declared.head.Refusal.{Refusal}
-use Rattle.job.proofs.StoreLaws.{counts-of}
-use Rattle.compile.specs.CompiledJob.{positionCount, stepCount}
+use Rattle.domain.specs.Domain.{domainIn}
+use Rattle.compile.specs.CompiledJob.{stepCount}
 use Rattle.compile.specs.declared.sizes.Sizes.{Sizes}
 use Rattle.plans.specs.PlanText as P
-use Rattle.plans.specs.PlanText.{PlanOutcome, mostEntries, readPlan, planOf, entryCount}
+use Rattle.plans.specs.PlanText.{PlanOutcome, readPlan, planOf, entryCount}
 use Rattle.plans.specs.declared.plan_text.PlanAnswer.{PlanAnswer}
 use Rattle.offers.specs.Refusals.{Checked, passed, refused, next, jobIn, Offer, offered, keyFor, boundFor, offerIn}
 use Rattle.offers.specs.Load as L
-use Rattle.offers.specs.Load.{checkedOf, Measured}
+use Rattle.offers.specs.Load.{checkedOf, Sized, Measured}
 use Rattle.offers.specs.Offer.{offerOf, countFor, Fitting, planRefusal}
 use Rattle.offers.specs.declared.load.Loaded.{Loaded}
 use Rattle.offers.specs.declared.offer.Sort.{Sort}
@@ -31,12 +30,10 @@ abbrev Post : Sort → List ℕ → List ℕ → Offered → List ℕ → List �
 Post sort text plan answer rows entries = (offerOf answer rows entries ≡ offerIn sort text plan) × Fitting answer rows
 
 -- the job's own counts
-pub moves-of : (h : Head) (rows : List ℕ) → length (jobOf h rows .moves) ≡ h .counts .moves
-moves-of h rows = ap (λ (c : Counts). c .moves) (counts-of h rows)
-
-bound-of : (sort : Sort) (h : Head) (rows : List ℕ) (steps : ℕ) → steps ≡ stepCount (jobOf h rows) → countFor sort (h .counts .moves) steps ≡ boundFor sort (jobOf h rows)
-bound-of Moves h rows steps e = sym (moves-of h rows)
-bound-of Steps h rows steps e = e
+bound-of : (sort : Sort) (h : Head) (rows : List ℕ) (moves steps : ℕ) → moves ≡ domainIn h rows .moves → steps ≡ stepCount (jobOf h rows)
+    → countFor sort moves steps ≡ boundFor sort (jobOf h rows)
+bound-of Moves h rows moves steps d e = d
+bound-of Steps h rows moves steps d e = e
 
 module _ (sort : Sort) (text plan rows entries : List ℕ) (a : Loaded) (e : checkedOf a rows ≡ jobIn text) where
   with-plan : (c : Checked Job) → c ≡ jobIn text → next c (λ j. offered j (readPlan (keyFor sort) (boundFor sort j) plan)) ≡ offerIn sort text plan
@@ -50,13 +47,14 @@ module _ (sort : Sort) (text plan rows entries : List ℕ) (a : Loaded) (e : che
     abbrev j : Job
     j = jobOf h rows
 
-    sized : (s .positions ≡ positionCount j) × (s .steps ≡ stepCount j)
+    sized : Sized h rows s
     sized = loaded-sized text rows a e h s g m
 
-    module _ (p : PlanAnswer) (read : (planOf p entries ≡ readPlan (keyFor sort) (countFor sort (h .counts .moves) (s .steps)) plan) × (entryCount p ≤ mostEntries)) where
+    module _ {moves : ℕ} (d : moves ≡ domainIn h rows .moves) (p : PlanAnswer)
+        (read : (planOf p entries ≡ readPlan (keyFor sort) (countFor sort moves (s .steps)) plan) × (entryCount p ≤ mostEntries)) where
       offers : (o : PlanOutcome) → planOf p entries ≡ o → offered j o ≡ offerIn sort text plan
       offers o f =
-          ap (offered j) (sym f ∙ read .0 ∙ ap (λ (b : ℕ). readPlan (keyFor sort) b plan) (bound-of sort h rows (s .steps) (sized .1)))
+          ap (offered j) (sym f ∙ read .0 ∙ ap (λ (b : ℕ). readPlan (keyFor sort) b plan) (bound-of sort h rows _ (s .steps) d (sized .steps)))
           ∙ with-plan (passed j) (loaded-passed text rows a e h s g)
 
       pub offer-plan-refused : {line : ℕ} {r : Refusal} → p ≡ PlanAnswer.Refused line → r ≡ planRefusal p → Post sort text plan (Offered.Refused r) rows entries
@@ -66,7 +64,7 @@ module _ (sort : Sort) (text plan rows entries : List ℕ) (a : Loaded) (e : che
       )
 
       pub offer-ready : {n : ℕ} → p ≡ PlanAnswer.Read n → Post sort text plan (Offered.Ready h s n) rows entries
-      offer-ready {n} k = (offers _ (ap (λ (x : PlanAnswer). planOf x entries) k), (sized .0, sized .1, rw k at (read .1)))
+      offer-ready {n} k = (offers _ (ap (λ (x : PlanAnswer). planOf x entries) k), (sized, rw k at (read .1)))
 
 -- what is offered was read from both texts
 module _ (sort : Sort) (text plan : List ℕ) (o : Offer) where

@@ -1,15 +1,14 @@
--- What loading a job text and a plan text answers, beside a table that then holds the job's rows and a list that holds the plan's entries.
+-- What loading a job text and a plan text answers, beside the rows that are then stored and a list that holds the plan's entries.
 use Prim.Native.Nat.{ℕ, _≤_}
-use mathlib.Core.Path.{_≡_}
 use mathlib.Core.List.{List}
 use lib.ListN.{take}
+use Rattle.limits.specs.Limits.{mostEntries}
 use Rattle.job.specs.Store.{jobOf}
 use Rattle.job.specs.declared.head.Refusal.{Refusal}
-use Rattle.compile.specs.CompiledJob.{positionCount, stepCount}
-use Rattle.plans.specs.PlanText.{mostEntries}
 use Rattle.plans.specs.declared.plan_text.PlanAnswer.{PlanAnswer}
 use Rattle.offers.specs.Refusals as C
 use Rattle.offers.specs.Refusals.{Checked, Offer}
+use Rattle.offers.specs.Load.{Sized}
 use Rattle.offers.specs.declared.offer.Sort.{Sort}
 use Rattle.offers.specs.declared.offer.Sort.the-variants.{Moves, Steps}
 use Rattle.offers.specs.declared.offer.Offered.{Offered}
@@ -26,8 +25,7 @@ countFor Steps moves steps = steps
 
 -- the sizes that come with a job are its own, and its entries have room
 abbrev pub Fitting : Offered → List ℕ → Type 0
-Fitting (Ready head sizes n) rows =
-    (sizes .positions ≡ positionCount (jobOf head rows)) × (sizes .steps ≡ stepCount (jobOf head rows)) × (n ≤ mostEntries)
+Fitting (Ready head sizes n) rows = Sized head rows sizes × (n ≤ mostEntries)
 Fitting (Refused r) rows = Unit {0}
 
 -- the refusal that an answer is

@@ -1,16 +1,17 @@
 // A job text loaded: read, and within the limits of the compiled job.
 ghost use mathlib.Core.Path.{_≡_};
-ghost use Prim.Native.Nat.{_*_};
 ghost use lib.ListN.{length};
-ghost use Rattle.job.specs.Store.{allRows};
+ghost use Rattle.job.specs.Store.{storeSize};
 ghost use Rattle.offers.specs.Refusals.{jobIn};
 ghost use Rattle.offers.specs.Load.{checkedOf, Measured, loadRefusal};
 use compile::sizes::Sizes;
 use job::head::Head;
 use job::head::Refusal;
+use limits::POSITIONS;
+use limits::STEPS;
 use reader::reading::Answer;
 
-// The head of the job, whose rows the table then holds, and the sizes of its compiled job; or the refusal.
+// The head of the job, whose rows are then stored, and the sizes of its compiled job; or the refusal.
 pub enum Loaded {
     Ready(Head, Sizes),
     Refused(Refusal),
@@ -31,7 +32,7 @@ pub fn refusal(a: Loaded) -> Refusal
 
 // Reasons 1 to 4.
 pub fn load(text: &[u8], rows: &mut [u16]) -> Loaded
-    requires { ⌜ length (now rows) ≡ allRows * 4 ⌝ }
+    requires { ⌜ length (now rows) ≡ storeSize ⌝ }
     ensures { λ r. ⌜ (checkedOf r (now (rows .exit)) ≡ jobIn (now (text .entry))) × Measured r (now (rows .exit)) ⌝ }
 {
     let answer = reader::reading::read_job(text, rows);
@@ -44,10 +45,10 @@ pub fn load(text: &[u8], rows: &mut [u16]) -> Loaded
         number: 4,
         place: lines,
     };
-    if 256 < sizes.positions {
+    if POSITIONS < (sizes.positions as usize) {
         return Loaded::Refused(large);
     }
-    if 1024 < sizes.steps {
+    if STEPS < (sizes.steps as usize) {
         return Loaded::Refused(large);
     }
     Loaded::Ready(head, sizes)

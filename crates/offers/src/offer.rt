@@ -1,9 +1,10 @@
 // A job text and a plan text loaded: the job read and within the limits, the plan's entries read.
 ghost use mathlib.Core.Path.{_≡_};
-ghost use Prim.Native.Nat.{_*_, _≤_};
+ghost use Prim.Native.Nat.{_≤_};
 ghost use lib.ListN.{length};
-ghost use Rattle.job.specs.Store.{allRows};
-ghost use Rattle.plans.specs.PlanText.{mostEntries, readPlan, planOf, entryCount};
+ghost use Rattle.limits.specs.Limits.{mostEntries};
+ghost use Rattle.job.specs.Store.{storeSize};
+ghost use Rattle.plans.specs.PlanText.{readPlan, planOf, entryCount};
 ghost use Rattle.offers.specs.Refusals.{keyFor, offerIn};
 ghost use Rattle.offers.specs.Offer.{offerOf, Fitting, countFor, offerRefusal, planRefusal};
 use crate::load::Loaded;
@@ -18,7 +19,7 @@ pub enum Sort {
     Steps,
 }
 
-// The head of the job, whose rows the table then holds, the sizes of its compiled job, and how many entries the plan has; or the refusal.
+// The head of the job, whose rows are then stored, the sizes of its compiled job, and how many entries the plan has; or the refusal.
 pub enum Offered {
     Ready(Head, Sizes, usize),
     Refused(Refusal),
@@ -65,7 +66,7 @@ fn read_plan(sort: Sort, plan: &[u8], moves: u16, steps: u16, entries: &mut [u16
 
 // Reasons 1 to 5.
 pub fn offer(sort: Sort, text: &[u8], plan: &[u8], rows: &mut [u16], entries: &mut [u16]) -> Offered
-    requires { ⌜ (length (now rows) ≡ allRows * 4) × (length (now entries) ≡ mostEntries) ⌝ }
+    requires { ⌜ (length (now rows) ≡ storeSize) × (length (now entries) ≡ mostEntries) ⌝ }
     ensures { λ r. ⌜ (offerOf r (now (rows .exit)) (now (entries .exit)) ≡ offerIn sort (now (text .entry)) (now (plan .entry))) × Fitting r (now (rows .exit)) ⌝ }
 {
     let loaded = crate::load::load(text, rows);
@@ -73,7 +74,8 @@ pub fn offer(sort: Sort, text: &[u8], plan: &[u8], rows: &mut [u16], entries: &m
         let r = crate::load::refusal(loaded);
         return Offered::Refused(r);
     };
-    let read = read_plan(sort, plan, head.counts.moves, sizes.steps, entries);
+    let moves = domain::moves::move_count(head, rows);
+    let read = read_plan(sort, plan, moves, sizes.steps, entries);
     let PlanAnswer::Read(n) = read else {
         let r = plan_refusal(read);
         return Offered::Refused(r);

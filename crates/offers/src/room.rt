@@ -1,7 +1,8 @@
 // Refusal 6, and how long a cost table has to be.
 ghost use mathlib.Core.Path.{_≡_};
-ghost use Prim.Native.Nat.{_*_, _≤_};
-ghost use Rattle.job.specs.StateCount.{stateCount};
+ghost use Prim.Native.Nat.{_*_};
+ghost use Rattle.job.specs.Stored.{Stored};
+ghost use Rattle.domain.specs.Domain.{domainIn};
 use job::head::Head;
 use job::head::Refusal;
 
@@ -16,10 +17,10 @@ pub fn too_short(need: usize) -> Refusal
 }
 
 // How many numbers a cost table has, one for each state and position.
-pub fn cells(head: Head, positions: u16) -> usize
-    requires { ⌜ head .counts .facts ≤ 12 ⌝ }
-    ensures { λ r. ⌜ r ≡ stateCount (head .counts .facts) * positions ⌝ }
+pub fn cells(head: Head, rows: &[u16], positions: u16) -> usize
+    requires { ⌜ Stored head (now rows) ⌝ }
+    ensures { λ r. ⌜ r ≡ domainIn head (now (rows .entry)) .states * positions ⌝ }
 {
-    let states = job::states::state_count(head.counts.facts);
+    let states = domain::states::state_count(head, rows);
     (states as usize) * (positions as usize)
 }

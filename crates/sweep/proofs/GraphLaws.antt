@@ -4,6 +4,7 @@ use Prim.Native.Nat.{ℕ, _/_, _≤_, _<_}
 use mathlib.Core.List.{List}
 use native.Mathlib.Omega.{arith}
 use lib.ListN.{length}
+use Rattle.limits.specs.Limits.{mostPositions}
 use Rattle.job.specs.Store.{jobOf}
 use Rattle.job.specs.declared.head.Head.{Head}
 use Rattle.semantics.specs.Label.{Label}
@@ -12,7 +13,7 @@ use Rattle.semantics.specs.Cells.{Closed}
 use Rattle.semantics.proofs.Compiled.{compiled}
 use Rattle.semantics.proofs.FlatLaws.{steps-at}
 use Rattle.domain.specs.Cost.{mostCost}
-use Rattle.domain.specs.Domain.{domainOf}
+use Rattle.domain.specs.Domain.{domainIn}
 use Rattle.compile.specs.Program.{programOf}
 use Rattle.compile.proofs.FitLaws.{few-positions}
 use Rattle.validate.specs.Adjacency.{stepsOn, Adjacency}
@@ -23,17 +24,17 @@ use Rattle.sweep.specs.Scans.{graphOf, Indexed}
 module _ {head : Head} {rows list : List ℕ} {positions : ℕ} (r : Ready head rows list positions) where
   inside : (i p q : ℕ) (l : Label) → StepAt (stepsOn list) i p l q → (p < positions) × (q < positions)
   inside i p q l s =
-      let v = compiled (domainOf (jobOf head rows)) (programOf (jobOf head rows)) 0 .range (rw (r .steps) at s) in
+      let v = compiled (domainIn head rows) (programOf (jobOf head rows)) 0 .range (rw (r .steps) at s) in
       (omega (arith, v .1, r .positions), omega (arith, v .3, r .positions))
 
   pub graph-closed : Closed (graphOf head rows list positions) mostCost
   graph-closed = record { bounded = job-bounded r; within = inside }
 
-  pub positions-few : positions ≤ 256
+  pub positions-few : positions ≤ mostPositions
   positions-few = omega (arith, r .positions, few-positions (jobOf head rows) (r .fit))
 
-  pub steps-laid : {adjacency : List ℕ} → Adjacency list (length list / 4) adjacency → Indexed list adjacency positions
-  steps-laid x = record {
+  pub steps-indexed : {adjacency : List ℕ} → Adjacency list (length list / 4) adjacency → Indexed list adjacency positions
+  steps-indexed x = record {
     listed = ready-listed r;
     linked = x;
     few = positions-few;

@@ -7,6 +7,7 @@ use mathlib.Core.Path.{_≡_, refl, _∙_}
 use mathlib.Core.List.{List}
 use lib.ListN.{getD, set, length-set}
 use lib.Seq.{getD-set-same, getD-set-other}
+use Rattle.limits.specs.Limits.{mostStates}
 use Rattle.semantics.specs.CostTable.{unreached}
 use Rattle.sweep.specs.Queue.{Queue, SameKeys, Lowered, Chosen}
 
@@ -17,10 +18,10 @@ pub queue-kept : {n : ℕ} {old new : List ℕ} → Queue old n → SameKeys old
 queue-kept q s = record { size = s .size ∙ q .size; few = q .few }
 
 -- a node of the order renamed
-pub same-keys-more : {old new : List ℕ} (i x : ℕ) → SameKeys old new → SameKeys old (set new (4096 + i) x)
+pub same-keys-more : {old new : List ℕ} (i x : ℕ) → SameKeys old new → SameKeys old (set new (mostStates + i) x)
 same-keys-more {old} {new} i x s = record {
-  size = length-set new (4096 + i) x ∙ s .size;
-  keys = λ k h. getD-set-other new (4096 + i) k x 0 (λ e. omega arith) ∙ s .keys k h;
+  size = length-set new (mostStates + i) x ∙ s .size;
+  keys = λ k h. getD-set-other new (mostStates + i) k x 0 (λ e. omega arith) ∙ s .keys k h;
 }
 
 pub lowered-stored : {n : ℕ} (s x : ℕ) {old new : List ℕ} → Queue old n → s < n → x < getD old s 0 → SameKeys (set old s x) new → Lowered s x old new

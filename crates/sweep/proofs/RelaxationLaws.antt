@@ -10,8 +10,7 @@ use native.Mathlib.Decide.{decLt, ℕ-discrete}
 use lib.ListN.{length, getD, set, length-set}
 use lib.Seq.{getD-set-same, getD-set-other}
 use Rattle.laws.proofs.Tests.{never}
-use Rattle.job.specs.StateCount.{stateCount}
-use Rattle.job.specs.Store.{jobOf}
+use Rattle.limits.specs.Limits.{mostStates, mostPositions}
 use Rattle.job.specs.declared.head.Head.{Head}
 use Rattle.semantics.specs.Label.{Label}
 use Rattle.semantics.specs.Domain.{Domain}
@@ -23,11 +22,12 @@ use Rattle.semantics.specs.Cells.{cell, Graph, entry, Closed, Edge, Runs, none,
 use Rattle.semantics.proofs.CostLaws.{does-bounded}
 use Rattle.semantics.proofs.FlatLaws.{steps-only}
 use Rattle.semantics.proofs.CellLaws.{cell-below, edge-within, relaxed-store, runs-length, sum-falls}
-use Rattle.domain.specs.Domain.{domainOf}
-use Rattle.domain.proofs.DomainLaws.{domain-bounded}
+use Rattle.domain.specs.Domain.{domainIn}
+use Rattle.domain.proofs.DomainLaws.{stored-bounded}
 use Rattle.domain.specs.Cost.{mostCost}
 use Rattle.validate.specs.Adjacency.{lastFrom}
 use Rattle.validate.specs.Ready.{Ready}
+use Rattle.sweep.specs.declared.Origin.{Origin}
 use Rattle.sweep.specs.Cells.{Idle, followed, low, far, due}
 use Rattle.sweep.specs.Queue.{Queue, Lowered}
 use Rattle.sweep.specs.Successors.{Cached}
@@ -41,30 +41,31 @@ use Rattle.sweep.proofs.PotentialLaws.{store-falls}
 pub cell-room : (positions t q states : ℕ) {size : ℕ} → t < states → q < positions → states * positions ≤ size → cell positions t q < size
 cell-room positions t q states a b h = omega (arith, cell-below positions t q states a b)
 
--- what arriving at a target requires
-pub arrival-fits : {head : Head} {rows : List ℕ} {values : List Bool} {positions state : ℕ} {T queue cache : List ℕ} → Sweep head rows values positions state T queue cache
-    → {l : Label} {t c n q : ℕ} → Leads (domainOf (jobOf head rows)) l state t c → n ≡ stateCount (head .counts .facts) → q < positions → (marks : List Bool) → length marks ≡ 256
-    → Queue queue n × (t < n) × (q < positions) × (positions ≤ 256) × (n * positions ≤ length T) × (length marks ≡ 256)
-arrival-fits {head} {rows} {state = state} x y is inside marks width = rw is (
+-- what relaxing a step to a target requires
+pub relax-fits : {origin : Origin} {rows : List ℕ} {values : List Bool} {T queue cache : List ℕ} → Sweep origin rows values T queue cache
+    → {l : Label} {t c q : ℕ} → Leads (domainIn (origin .head) rows) l (origin .state) t c → q < origin .grid .positions → (marks : List Bool) → length marks ≡ mostPositions
+    → Queue queue (origin .grid .states) × (t < origin .grid .states) × (q < origin .grid .positions) × (origin .grid .positions ≤ mostPositions)
+    × (origin .grid .states * origin .grid .positions ≤ length T) × (length marks ≡ mostPositions)
+relax-fits x y inside marks width = rw (x .states) (
   x .keys,
-  does-bounded (domain-bounded (jobOf head rows) (x .standing .job)) (x .standing .inside) (y .does) .0,
+  does-bounded (stored-bounded (x .standing .stored)) (x .standing .inside) (y .does) .0,
   inside,
   x .few,
   x .room,
   width,
 )
 
--- what is worked out in a state, as more successors become cache
-standing-on : {head : Head} {rows : List ℕ} {values : List Bool} {state : ℕ} {cache known′ : List ℕ} → Standing head rows values state cache
-    → Cached (domainOf (jobOf head rows)) state known′ → Standing head rows values state known′
-standing-on x k = record { size = x .size; job = x .job; told = x .told; inside = x .inside; successors = k }
+-- what is worked out in a state, as more successors are cached
+standing-on : {head : Head} {rows : List ℕ} {values : List Bool} {state : ℕ} {cache cache′ : List ℕ} → Standing head rows values state cache
+    → Cached (domainIn head rows) state cache′ → Standing head rows values state cache′
+standing-on x k = record { stored = x .stored; told = x .told; inside = x .inside; successors = k }
 
--- the state's row after stores
-pub sweep-on : {head : Head} {rows : List ℕ} {values : List Bool} {positions state : ℕ} {T queue cache U queue′ known′ : List ℕ}
-    → Sweep head rows values positions state T queue cache → length U ≡ length T → length queue′ ≡ length queue → Cached (domainOf (jobOf head rows)) state known′
-    → Sweep head rows values positions state U queue′ known′
+-- the origin's row after stores
+pub sweep-on : {origin : Origin} {rows : List ℕ} {values : List Bool} {T queue cache U queue′ cache′ : List ℕ} → Sweep origin rows values T queue cache
+    → length U ≡ length T → length queue′ ≡ length queue → Cached (domainIn (origin .head) rows) (origin .state) cache′ → Sweep origin rows values U queue′ cache′
 sweep-on x a b k = record {
   standing = standing-on (x .standing) k;
+  states = x .states;
   few = x .few;
   room = omega (arith, x .room);
   keys = record { size = b ∙ x .keys .size; few = x .keys .few };
@@ -84,7 +85,7 @@ is-due (far o) e = never (sym e)
 is-due (due o) e = o
 
 -- no key rises
-keys-fall : {t y : ℕ} {queue queue′ : List ℕ} → Lowered t y queue queue′ → (s : ℕ) → s < 4096 → getD queue′ s 0 ≤ getD queue s 0
+keys-fall : {t y : ℕ} {queue queue′ : List ℕ} → Lowered t y queue queue′ → (s : ℕ) → s < mostStates → getD queue′ s 0 ≤ getD queue s 0
 keys-fall {t} {queue = queue} {queue′} x s h = elim (ℕ-discrete s t) [
   | yes f ↦ omega (arith, x .less, ap (λ (o : ℕ). getD queue′ o 0) f, ap (λ (o : ℕ). getD queue o 0) f)
   | no f ↦ omega (arith, x .others s h f)
@@ -94,31 +95,37 @@ keys-fall {t} {queue = queue} {queue′} x s h = elim (ℕ-discrete s t) [
 pub record Scanning (G : Graph) (n w k x p : ℕ) (list T₀ queue₀ T queue : List ℕ) (marks : List Bool) (next h : ℕ) : Type 0 where
   pub runs : Runs G T₀ T
   pub size : length queue ≡ length queue₀
-  pub width : length marks ≡ 256
+  pub width : length marks ≡ mostPositions
   pub key : getD queue w 0 ≤ getD queue₀ w 0
   pub due : k ≤ x
   pub here : entry G T w p ≡ x
   pub link : Link list p h
   pub low : next ≤ p + 1
-  pub falls : sum T * 257 + (p + 1) ≤ sum T₀ * 257 + next
+  pub falls : sum T * suc mostPositions + (p + 1) ≤ sum T₀ * suc mostPositions + next
   pub less : potential n T queue ≤ potential n T₀ queue₀
   pub relaxed : Relaxed G (Only queue w (Processed k next marks p h)) T
 
-module _ {head : Head} {rows list : List ℕ} {values : List Bool} {positions w : ℕ} {T₀ queue₀ cache : List ℕ} (ready : Ready head rows list positions)
-    (row : Sweep head rows values positions w T₀ queue₀ cache) (k p : ℕ) (p-inside : p < positions) where
+module _ {origin : Origin} {rows list : List ℕ} {values : List Bool} {T₀ queue₀ cache : List ℕ} (ready : Ready (origin .head) rows list (origin .grid .positions))
+    (row : Sweep origin rows values T₀ queue₀ cache) (k p : ℕ) (p-inside : p < origin .grid .positions) where
+  abbrev positions : ℕ
+  positions = origin .grid .positions
+
+  abbrev w : ℕ
+  w = origin .state
+
   abbrev D : Domain
-  D = domainOf (jobOf head rows)
+  D = domainIn (origin .head) rows
 
   abbrev G : Graph
-  G = graphOf head rows list positions
+  G = graphOf (origin .head) rows list positions
 
   abbrev n : ℕ
-  n = stateCount (head .counts .facts)
+  n = D .states
 
   inside : Closed G mostCost
   inside = graph-closed ready
 
-  module _ (marks₀ : List Bool) (width : length marks₀ ≡ 256) (R : Relaxed G (Only queue₀ w (Processed k p marks₀ 0 0)) T₀) where
+  module _ (marks₀ : List Bool) (width : length marks₀ ≡ mostPositions) (R : Relaxed G (Only queue₀ w (Processed k p marks₀ 0 0)) T₀) where
     -- there is nothing to follow
     pub scanned-none : {x : ℕ} {on : Bool} → x ≡ getD T₀ (w * positions + p) 0 → Idle (getD marks₀ p false) k x on → on ≡ true → Scanned G n w k p T₀ queue₀ T₀ queue₀ marks₀ (p + 1)
     scanned-none {x} here idle is = record {

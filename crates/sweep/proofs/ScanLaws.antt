@@ -8,6 +8,7 @@ use native.Mathlib.Omega.{arith}
 use native.Mathlib.Decide.{ℕ-discrete}
 use lib.ListN.{length, getD, set, replicate, length-set, length-replicate}
 use lib.Seq.{getD-set-same, getD-set-other}
+use Rattle.limits.specs.Limits.{mostPositions}
 use Rattle.laws.proofs.Tests.{never}
 use Rattle.semantics.specs.CostTable.{unreached}
 use Rattle.semantics.specs.Cells.{Graph, Closed, Runs, none, Relaxed}
@@ -20,7 +21,7 @@ use Rattle.sweep.proofs.PotentialLaws.{key-gap}
 pub record Sweeping (G : Graph) (n w k : ℕ) (T₀ queue₀ T queue : List ℕ) (marks : List Bool) (p : ℕ) : Type 0 where
   pub runs : Runs G T₀ T
   pub size : length queue ≡ length queue₀
-  pub width : length marks ≡ 256
+  pub width : length marks ≡ mostPositions
   pub key : getD queue w 0 ≤ unreached
   pub less : potential n T queue ≤ potential n T₀ queue₀
   pub relaxed : Relaxed G (Only queue w (Processed k p marks 0 0)) T
@@ -34,18 +35,18 @@ blank (suc n) (suc r) = blank n r
 module _ (G : Graph) (n w : ℕ) (T₀ queue₀ : List ℕ) (size : w < length queue₀) where
   -- the key is taken back
   pub sweeping-start : Relaxed G (Keyed queue₀) T₀
-      → Sweeping G n w (getD queue₀ w 0) T₀ (set queue₀ w unreached) T₀ (set queue₀ w unreached) (replicate 256 false) 0
+      → Sweeping G n w (getD queue₀ w 0) T₀ (set queue₀ w unreached) T₀ (set queue₀ w unreached) (replicate mostPositions false) 0
   sweeping-start R = record {
     runs = none;
     size = refl;
-    width = length-replicate {A = Bool} 256 false;
+    width = length-replicate {A = Bool} mostPositions false;
     key = omega (arith, getD-set-same queue₀ w unreached 0 size);
     less = omega arith;
     relaxed = λ i s p t q c l e claim. elim (ℕ-discrete s w) [
       | no a ↦ R i s p t q c l e (omega (arith, claim .0, getD-set-other queue₀ w s unreached 0 a))
       | yes a ↦ elim (claim .1 a) [
         | below y ↦ R i s p t q c l e (omega (arith, y, ap (λ (k : ℕ). getD queue₀ k 0) a))
-        | past y _ ↦ elim y [ passed b _ ↦ absurd (omega arith) | marked b ↦ never (sym (blank 256 p) ∙ b) ]
+        | past y _ ↦ elim y [ passed b _ ↦ absurd (omega arith) | marked b ↦ never (sym (blank mostPositions p) ∙ b) ]
       ]
     ];
   }

@@ -8,25 +8,22 @@ use mathlib.Core.Option.{none, some}
 use mathlib.Core.List.{List}
 use lib.ListN.{set, replicate, length-set, length-replicate, getD-replicate}
 use lib.Seq.{getD-set-same, getD-set-other}
-use Rattle.job.specs.StateCount.{stateCount}
-use Rattle.job.specs.Job.{Job}
-use Rattle.job.specs.Store.{jobOf}
-use Rattle.job.specs.WellFormed.{WellFormed}
+use Rattle.limits.specs.Limits.{mostMoves}
+use Rattle.job.specs.Stored.{Stored}
 use Rattle.job.specs.declared.head.Head.{Head}
+use Rattle.job.proofs.StoredLaws.{limited, move-count}
 use Rattle.semantics.specs.Domain.{Domain}
-use Rattle.domain.specs.Domain.{domainOf}
+use Rattle.domain.specs.Domain.{domainIn}
 use Rattle.domain.specs.Successor.{successorIn}
 use Rattle.domain.specs.declared.Successor.{Successor}
 use Rattle.domain.specs.declared.Successor.the-variants.{To, Inapplicable}
-use Rattle.domain.proofs.DomainLaws.{domain-bounded}
-use Rattle.domain.proofs.FactLaws.{count-within}
-use Rattle.domain.proofs.StoreLaws.{counts-within}
+use Rattle.domain.proofs.DomainLaws.{stored-bounded, states-few}
 use Rattle.sweep.specs.Successors.{Kept, nothing, inapplicable, successor, Cached, noted}
 
-pub known-none : (D : Domain) (s : ℕ) → Cached D s (replicate 64 0)
-known-none D s = record {
-  size = length-replicate {A = ℕ} 64 0;
-  kept = λ m h. subst (Kept D s m) (sym (getD-replicate {A = ℕ} 64 m 0 0 h)) nothing;
+pub cached-none : (D : Domain) (s : ℕ) → Cached D s (replicate mostMoves 0)
+cached-none D s = record {
+  size = length-replicate {A = ℕ} mostMoves 0;
+  kept = λ m h. subst (Kept D s m) (sym (getD-replicate {A = ℕ} mostMoves m 0 0 h)) nothing;
 }
 
 module _ {D : Domain} {s : ℕ} where
@@ -45,9 +42,9 @@ module _ {D : Domain} {s : ℕ} where
   noted-kept Inapplicable e = inapplicable (sym e)
 
   -- one more successor noted
-  pub known-more : (cache : List ℕ) (m x : ℕ) (after : Successor) → m < 64 → Cached D s cache → successorIn after ≡ D .successor m s → x ≡ noted after
+  pub cached-more : (cache : List ℕ) (m x : ℕ) (after : Successor) → m < mostMoves → Cached D s cache → successorIn after ≡ D .successor m s → x ≡ noted after
       → Cached D s (set cache m x)
-  known-more cache m x after h f is e = record {
+  cached-more cache m x after h f is e = record {
     size = length-set cache m x ∙ f .size;
     kept = λ n l. elim (ℕ-discrete n m) [
       | yes z ↦ rw (z, getD-set-same cache m x 0 (omega (arith, f .size)), e) (noted-kept after is)
@@ -55,10 +52,10 @@ module _ {D : Domain} {s : ℕ} where
     ];
   }
 
-pub few-moves : (head : Head) (rows : List ℕ) (m : ℕ) → WellFormed (jobOf head rows) → m < head .counts .moves → m < 64
-few-moves head rows m k h = omega (arith, counts-within head rows k .1)
+module _ {head : Head} {rows : List ℕ} (s : Stored head rows) where
+  pub few-moves : {m : ℕ} → m < domainIn head rows .moves → m < mostMoves
+  few-moves h = omega (arith, h, move-count head rows, limited s .moves)
 
-pub noted-small : (j : Job) → WellFormed j → (m s : ℕ) (after : Successor) → s < stateCount (j .scalars .facts) → successorIn after ≡ domainOf j .successor m s
-    → noted after < 65536
-noted-small j k m s (To t) h e = omega (arith, domain-bounded j k .successors m s t h (sym e), count-within (j .scalars .facts) (k .facts))
-noted-small j k m s Inapplicable h e = omega arith
+  pub noted-small : (m state : ℕ) (after : Successor) → state < domainIn head rows .states → successorIn after ≡ domainIn head rows .successor m state → noted after < 65536
+  noted-small m state (To t) h e = omega (arith, stored-bounded s .successors m state t h (sym e), states-few s)
+  noted-small m state Inapplicable h e = omega arith

@@ -1,25 +1,27 @@
 -- Steps that are followed from a state's row.
-use Prim.Native.Nat.{ℕ, _+_, _*_, _≤_, _<_}
+use Prim.Native.Nat.{ℕ, suc, _+_, _*_, _≤_, _<_}
 use mathlib.Core.Path.{_≡_}
 use mathlib.Core.Bool.{Bool, false}
 use mathlib.Core.List.{List}
 use lib.ListN.{length, getD, set}
-use Rattle.job.specs.StateCount.{stateCount}
-use Rattle.job.specs.declared.head.Head.{Head}
+use Rattle.limits.specs.Limits.{mostPositions}
 use Rattle.semantics.specs.Label.{Label}
 use Rattle.semantics.specs.Domain.{Domain}
 use Rattle.semantics.specs.Path.{Does}
 use Rattle.semantics.specs.Cells.{Graph, cell, Runs, Relaxed, sum}
+use Rattle.domain.specs.Domain.{domainIn}
+use Rattle.sweep.specs.declared.Origin.{Origin}
 use Rattle.sweep.specs.Queue.{Queue, Lowered}
 use Rattle.sweep.specs.Targets.{Standing, Leads}
 use Rattle.sweep.specs.Scans.{Keyed, Only, Processed, potential}
 
--- a state's row, and room for the table and the keys
-pub record Sweep (head : Head) (rows : List ℕ) (values : List Bool) (positions state : ℕ) (T queue cache : List ℕ) : Type 0 where
-  pub standing : Standing head rows values state cache
-  pub few : positions ≤ 256
-  pub room : stateCount (head .counts .facts) * positions ≤ length T
-  pub keys : Queue queue (stateCount (head .counts .facts))
+-- an origin, and room for the table and the keys
+pub record Sweep (origin : Origin) (rows : List ℕ) (values : List Bool) (T queue cache : List ℕ) : Type 0 where
+  pub standing : Standing (origin .head) rows values (origin .state) cache
+  pub states : origin .grid .states ≡ domainIn (origin .head) rows .states
+  pub few : origin .grid .positions ≤ mostPositions
+  pub room : domainIn (origin .head) rows .states * origin .grid .positions ≤ length T
+  pub keys : Queue queue (domainIn (origin .head) rows .states)
 
 -- the cell at v, position q of state t, lowered to x and the cost, where that is less; then in the row of w the position is not marked any more and r is
 -- at most q, and another row's key comes down
@@ -40,10 +42,10 @@ pub data Stepped (D : Domain) (positions : ℕ) (l : Label) (w q x next : ℕ) (
 pub record Scanned (G : Graph) (n w k p : ℕ) (T queue T′ queue′ : List ℕ) (marks′ : List Bool) (r : ℕ) : Type 0 where
   pub runs : Runs G T T′
   pub size : length queue′ ≡ length queue
-  pub width : length marks′ ≡ 256
+  pub width : length marks′ ≡ mostPositions
   pub key : getD queue′ w 0 ≤ getD queue w 0
   pub low : r ≤ p + 1
-  pub falls : sum T′ * 257 + (p + 1) ≤ sum T * 257 + r
+  pub falls : sum T′ * suc mostPositions + (p + 1) ≤ sum T * suc mostPositions + r
   pub less : potential n T′ queue′ ≤ potential n T queue
   pub relaxed : Relaxed G (Only queue′ w (Processed k r marks′ 0 0)) T′
 

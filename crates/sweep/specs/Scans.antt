@@ -1,29 +1,29 @@
 -- A state's row of the cost table while it is swept.
-use Prim.Native.Nat.{ℕ, _*_, _+_, _/_, _-_, _≤_, _<_}
+use Prim.Native.Nat.{ℕ, suc, _*_, _+_, _/_, _-_, _≤_, _<_}
 use mathlib.Core.Path.{_≡_}
 use mathlib.Core.Bool.{Bool, true, false}
 use mathlib.Core.List.{List}
 use lib.ListN.{length, getD}
-use Rattle.job.specs.Store.{jobOf}
+use Rattle.limits.specs.Limits.{mostPositions}
 use Rattle.job.specs.declared.head.Head.{Head}
 use Rattle.semantics.specs.CostTable.{unreached}
 use Rattle.semantics.specs.Cells.{Graph, Claim, total, sum}
-use Rattle.domain.specs.Domain.{domainOf}
+use Rattle.domain.specs.Domain.{domainIn}
 use Rattle.validate.specs.Adjacency.{stepsOn, Listed, Adjacency}
 
 -- the compiled job of a list's steps
 abbrev pub graphOf : Head → List ℕ → List ℕ → ℕ → Graph
-graphOf head rows list positions = record { domain = domainOf (jobOf head rows); steps = stepsOn list; positions = positions }
+graphOf head rows list positions = record { domain = domainIn head rows; steps = stepsOn list; positions = positions }
 
 -- what falls with each sweep: the entries, and where they stay, the distance of the n keys from `unreached`
 abbrev pub potential : ℕ → List ℕ → List ℕ → ℕ
-potential n T queue = sum T * 4294967296 + total (λ x. unreached - x) queue n
+potential n T queue = sum T * suc unreached + total (λ x. unreached - x) queue n
 
--- steps between so many positions, and their links
+-- steps between so many positions, indexed by where they start
 pub record Indexed (list adjacency : List ℕ) (positions : ℕ) : Type 0 where
   pub listed : Listed list
   pub linked : Adjacency list (length list / 4) adjacency
-  pub few : positions ≤ 256
+  pub few : positions ≤ mostPositions
   pub to : (k : ℕ) → k < length list / 4 → getD list (k * 4 + 2) 0 < positions
 
 -- the steps from cells with an entry below their row's key

@@ -4,6 +4,7 @@ use mathlib.Core.Path.{_≡_}
 use mathlib.Core.Option.{none, some}
 use mathlib.Core.List.{List}
 use lib.ListN.{length, getD}
+use Rattle.limits.specs.Limits.{mostMoves}
 use Rattle.semantics.specs.Domain.{Domain}
 use Rattle.domain.specs.declared.Successor.{Successor}
 use Rattle.domain.specs.declared.Successor.the-variants.{To, Inapplicable}
@@ -14,8 +15,8 @@ pub data Kept (D : Domain) (s m : ℕ) : ℕ → Type 0 where
   successor : {t : ℕ} → D .successor m s ≡ some t → Kept D s m (t + 2)
 
 pub record Cached (D : Domain) (s : ℕ) (cache : List ℕ) : Type 0 where
-  pub size : length cache ≡ 64
-  pub kept : (m : ℕ) → m < 64 → Kept D s m (getD cache m 0)
+  pub size : length cache ≡ mostMoves
+  pub kept : (m : ℕ) → m < mostMoves → Kept D s m (getD cache m 0)
 
 abbrev pub noted : Successor → ℕ
 noted (To t) = t + 2

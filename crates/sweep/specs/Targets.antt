@@ -1,27 +1,23 @@
 -- Where steps lead from a state.
-use Prim.Native.Nat.{ℕ, _*_, _<_}
+use Prim.Native.Nat.{ℕ, _<_}
 use mathlib.Core.Path.{_≡_}
 use mathlib.Core.Bool.{Bool, true, false}
 use mathlib.Core.List.{List}
-use lib.ListN.{length}
-use Rattle.job.specs.StateCount.{stateCount}
-use Rattle.job.specs.Store.{allRows, jobOf}
-use Rattle.job.specs.WellFormed.{WellFormed}
+use Rattle.job.specs.Stored.{Stored}
 use Rattle.job.specs.declared.head.Head.{Head}
 use Rattle.semantics.specs.Label.{Label}
 use Rattle.semantics.specs.Domain.{Domain}
 use Rattle.semantics.specs.Path.{Does}
 use Rattle.semantics.specs.Plan.{cost}
-use Rattle.domain.specs.Domain.{domainOf, Tells}
+use Rattle.domain.specs.Domain.{domainIn, Tells}
 use Rattle.sweep.specs.Successors.{Cached}
 
--- a state of a job, with what is worked out in it: the formulas' values and, as far as cache, the moves' successors
+-- a state of a job, with what is worked out in it: the formulas' values and, as far as cached, the moves' successors
 pub record Standing (head : Head) (rows : List ℕ) (values : List Bool) (state : ℕ) (cache : List ℕ) : Type 0 where
-  pub size : length rows ≡ allRows * 4
-  pub job : WellFormed (jobOf head rows)
-  pub told : Tells (jobOf head rows) state values
-  pub inside : state < stateCount (head .counts .facts)
-  pub successors : Cached (domainOf (jobOf head rows)) state cache
+  pub stored : Stored head rows
+  pub told : Tells (domainIn head rows) state values
+  pub inside : state < domainIn head rows .states
+  pub successors : Cached (domainIn head rows) state cache
 
 -- under l, state w leads to t at cost c, and nowhere else
 pub record Leads (D : Domain) (l : Label) (w t c : ℕ) : Type 0 where

@@ -10,5 +10,20 @@ pub mod steps;
 pub mod successors;
 pub mod targets;
 
+use job::head::Head;
+
+// The size of a cost table: a cell for each state and position.
+pub struct Grid {
+    pub states: u16,
+    pub positions: usize,
+}
+
+// Where steps are followed from: a state of a job, whose cost table has this size.
+pub struct Origin {
+    pub head: Head,
+    pub grid: Grid,
+    pub state: u16,
+}
+
 // What a cell holds that is not reached, and the key of a row with nothing to follow.
 pub const UNREACHED: u32 = 4294967295;

@@ -4,17 +4,18 @@
 ghost use mathlib.Core.Path.{_≡_};
 ghost use Prim.Native.Nat.{_*_, _<_};
 ghost use lib.ListN.{length};
-ghost use Rattle.sweep.specs.Queue.{Queue, SameKeys, Lowered, Chosen};
+ghost use Rattle.sweep.specs.Queue.{Queue, queueSize, SameKeys, Lowered, Chosen};
 use crate::UNREACHED;
+use limits::STATES;
 
 // Keys of the states, then the nodes of the order.
-pub const QUEUE: usize = 8192;
+pub const QUEUE: usize = STATES * 2;
 // Where the nodes are; the first of them, which names a state of least key, is node 1.
-const NODES: usize = 4096;
+const NODES: usize = STATES;
 
 // The state that node i names. From n on the nodes are the n states themselves.
 fn named(queue: &[u32], n: usize, i: usize) -> u32
-    requires { ⌜ Queue (now queue) n × (i < 8192) ⌝ }
+    requires { ⌜ Queue (now queue) n × (i < queueSize) ⌝ }
 {
     if i < n {
         return queue[NODES + i];
@@ -24,7 +25,7 @@ fn named(queue: &[u32], n: usize, i: usize) -> u32
 
 // The key of a state; UNREACHED past the last.
 fn key(queue: &[u32], s: u32) -> u32
-    requires { ⌜ length (now queue) ≡ 8192 ⌝ }
+    requires { ⌜ length (now queue) ≡ queueSize ⌝ }
 {
     let i = s as usize;
     if i < NODES {
@@ -35,7 +36,7 @@ fn key(queue: &[u32], s: u32) -> u32
 
 // The one of two states that has the lesser key.
 fn lesser(queue: &[u32], a: u32, b: u32) -> u32
-    requires { ⌜ length (now queue) ≡ 8192 ⌝ }
+    requires { ⌜ length (now queue) ≡ queueSize ⌝ }
 {
     if key(queue, b) < key(queue, a) {
         return b;
@@ -43,7 +44,7 @@ fn lesser(queue: &[u32], a: u32, b: u32) -> u32
     a
 }
 
-// Has the nodes above state s name states of least key again.
+// Has the nodes above state s name states of least key again, from below upward.
 pub fn sift_up(queue: &mut [u32], n: usize, s: usize)
     requires { ⌜ Queue (now queue) n × (s < n) ⌝ }
     ensures { λ _. ⌜ SameKeys (now (queue .entry)) (now (queue .exit)) ⌝ }

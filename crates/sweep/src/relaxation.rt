@@ -1,44 +1,42 @@
-// Steps from the cells of a state's row.
+// Steps from the cells of a state's row, relaxed.
 //
 // A mark on a position says that the steps from its cell are followed. It is taken back when the cell falls.
 ghost use mathlib.Core.Path.{_≡_};
 ghost use Prim.Native.Nat.{_*_, _≤_, _<_};
 ghost use lib.ListN.{length};
-ghost use Rattle.job.specs.StateCount.{stateCount};
-ghost use Rattle.job.specs.Store.{jobOf};
-ghost use Rattle.domain.specs.Domain.{domainOf};
+ghost use Rattle.limits.specs.Limits.{mostPositions};
+ghost use Rattle.domain.specs.Domain.{domainIn};
 ghost use Rattle.semantics.specs.CompilingTable.{labelIn};
 ghost use Rattle.semantics.specs.Cells.{cell, Relaxed};
+ghost use Rattle.validate.specs.Ready.{Ready};
 ghost use Rattle.sweep.specs.Queue.{Queue};
 ghost use Rattle.sweep.specs.Successors.{Cached};
-ghost use Rattle.validate.specs.Ready.{Ready};
 ghost use Rattle.sweep.specs.Scans.{graphOf, Indexed, Only, Processed};
 ghost use Rattle.sweep.specs.Relaxation.{Sweep, Relaxing, Stepped, Scanned};
-use crate::steps::Step;
-use job::head::Head;
+use crate::Origin;
+use crate::steps::OutStep;
+use crate::targets::Target;
+use limits::POSITIONS;
 
-// Lowers the cell at position q of state t to x and the step's cost, where that is less. In the state's own row the steps from q are then to follow, and
-// the answer is the lesser of `next` and q; another row's key comes down, and the answer is `next`.
+// Lowers the target's cell to x and the step's cost, where that is less. In the origin's own row the steps from its position are then to follow, and the
+// answer is the lesser of `next` and that position; another row's key comes down, and the answer is `next`.
 fn relax(
     costs: &mut [u32],
     queue: &mut [u32],
     marks: &mut [bool],
-    states: u16,
-    positions: usize,
-    state: u16,
-    t: u16,
-    q: u16,
+    origin: Origin,
     x: u32,
-    cost: u16,
+    target: Target,
     next: usize,
 ) -> usize
-    requires { ⌜ Queue (now queue) states × (t < states) × (q < positions) × (positions ≤ 256) × (states * positions ≤ length (now costs)) × (length (now marks) ≡ 256) ⌝ }
-    ensures { λ r. ⌜ Relaxing state t q (cell positions t q) x cost next (now (costs .entry)) (now (queue .entry)) (now (marks .entry)) (now (costs .exit)) (now (queue .exit)) (now (marks .exit)) r ⌝ }
+    requires { ⌜ Queue (now queue) (origin .grid .states) × (target .state < origin .grid .states) × (target .position < origin .grid .positions) × (origin .grid .positions ≤ mostPositions) × (origin .grid .states * origin .grid .positions ≤ length (now costs)) × (length (now marks) ≡ mostPositions) ⌝ }
+    ensures { λ r. ⌜ Relaxing (origin .state) (target .state) (target .position) (cell (origin .grid .positions) (target .state) (target .position)) x (target .cost) next (now (costs .entry)) (now (queue .entry)) (now (marks .entry)) (now (costs .exit)) (now (queue .exit)) (now (marks .exit)) r ⌝ }
 {
-    let p = q as usize;
-    let i = crate::steps::cell(t, positions, p);
+    let t = target.state;
+    let p = target.position as usize;
+    let more = target.cost;
+    let i = crate::steps::cell(t, origin.grid.positions, p);
     let old = costs[i];
-    let more = cost as u32;
     if old <= more {
         return next;
     }
@@ -46,8 +44,9 @@ fn relax(
         return next;
     }
     costs[i] = x + more;
-    if t != state {
-        crate::queue::lower(queue, states as usize, t as usize, x + more);
+    if t != origin.state {
+        let states = origin.grid.states as usize;
+        crate::queue::lower(queue, states, t as usize, x + more);
         return next;
     }
     marks[p] = false;
@@ -63,65 +62,46 @@ fn follow(
     queue: &mut [u32],
     cache: &mut [u16],
     marks: &mut [bool],
-    head: Head,
     rows: &[u16],
     values: &[bool],
-    positions: usize,
-    state: u16,
+    origin: Origin,
     x: u32,
-    step: Step,
+    step: OutStep,
     next: usize,
 ) -> usize
-    requires { ⌜ Sweep head (now rows) (now values) positions state (now costs) (now queue) (now cache) × (step .to < positions) × (length (now marks) ≡ 256) ⌝ }
-    ensures { λ r. ⌜ Stepped (domainOf (jobOf head (now (rows .entry)))) positions (labelIn (step .kind) (step .arg)) state (step .to) x next (now (costs .entry)) (now (queue .entry)) (now (marks .entry)) (now (costs .exit)) (now (queue .exit)) (now (marks .exit)) r × Cached (domainOf (jobOf head (now (rows .entry)))) state (now (cache .exit)) ⌝ }
+    requires { ⌜ Sweep origin (now rows) (now values) (now costs) (now queue) (now cache) × (step .to < origin .grid .positions) × (length (now marks) ≡ mostPositions) ⌝ }
+    ensures { λ r. ⌜ Stepped (domainIn (origin .head) (now (rows .entry))) (origin .grid .positions) (labelIn (step .kind) (step .arg)) (origin .state) (step .to) x next (now (costs .entry)) (now (queue .entry)) (now (marks .entry)) (now (costs .exit)) (now (queue .exit)) (now (marks .exit)) r × Cached (domainIn (origin .head) (now (rows .entry))) (origin .state) (now (cache .exit)) ⌝ }
 {
-    let to = crate::targets::lead(head, rows, values, cache, state, step);
-    let made = to.made;
+    let target = crate::targets::lead(rows, values, cache, origin, step);
+    let made = target.made;
     if !made {
         return next;
     }
-    let states = job::states::state_count(head.counts.facts);
-    let t = to.state;
-    let cost = to.cost;
-    relax(
-        costs,
-        queue,
-        marks,
-        states,
-        positions,
-        state,
-        t,
-        step.to,
-        x,
-        cost,
-        next,
-    )
+    relax(costs, queue, marks, origin, x, target, next)
 }
 
-// Follows the steps from position p of the row, unless nothing is to follow there. Answers the position to go on from.
+// Follows the steps from position p of the origin's row, unless nothing is to follow there. Answers the position to go on from.
 pub fn scan(
     costs: &mut [u32],
     queue: &mut [u32],
     cache: &mut [u16],
     marks: &mut [bool],
-    head: Head,
     rows: &[u16],
     list: &[u16],
     adjacency: &[u16],
     values: &[bool],
-    positions: usize,
-    state: u16,
-    k: u32,
+    origin: Origin,
+    key: u32,
     p: usize,
 ) -> usize
-    requires { ⌜ Ready head (now rows) (now list) positions × Indexed (now list) (now adjacency) positions ⌝ }
-    requires { ⌜ Sweep head (now rows) (now values) positions state (now costs) (now queue) (now cache) × (p < positions) × (length (now marks) ≡ 256) ⌝ }
-    requires { ⌜ Relaxed (graphOf head (now rows) (now list) positions) (Only (now queue) state (Processed k p (now marks) 0 0)) (now costs) ⌝ }
-    ensures { λ r. ⌜ Scanned (graphOf head (now (rows .entry)) (now (list .entry)) positions) (stateCount (head .counts .facts)) state k p (now (costs .entry)) (now (queue .entry)) (now (costs .exit)) (now (queue .exit)) (now (marks .exit)) r × Cached (domainOf (jobOf head (now (rows .entry)))) state (now (cache .exit)) ⌝ }
+    requires { ⌜ Ready (origin .head) (now rows) (now list) (origin .grid .positions) × Indexed (now list) (now adjacency) (origin .grid .positions) ⌝ }
+    requires { ⌜ Sweep origin (now rows) (now values) (now costs) (now queue) (now cache) × (p < origin .grid .positions) × (length (now marks) ≡ mostPositions) ⌝ }
+    requires { ⌜ Relaxed (graphOf (origin .head) (now rows) (now list) (origin .grid .positions)) (Only (now queue) (origin .state) (Processed key p (now marks) 0 0)) (now costs) ⌝ }
+    ensures { λ r. ⌜ Scanned (graphOf (origin .head) (now (rows .entry)) (now (list .entry)) (origin .grid .positions)) (domainIn (origin .head) (now (rows .entry)) .states) (origin .state) key p (now (costs .entry)) (now (queue .entry)) (now (costs .exit)) (now (queue .exit)) (now (marks .exit)) r × Cached (domainIn (origin .head) (now (rows .entry))) (origin .state) (now (cache .exit)) ⌝ }
 {
-    let x = costs[crate::steps::cell(state, positions, p)];
+    let x = costs[crate::steps::cell(origin.state, origin.grid.positions, p)];
     let mut next = p + 1;
-    if crate::cells::is_idle(marks[p], k, x) {
+    if crate::cells::is_idle(marks[p], key, x) {
         return next;
     }
     marks[p] = true;
@@ -134,16 +114,14 @@ pub fn scan(
             queue,
             cache,
             marks,
-            head,
             rows,
             values,
-            positions,
-            state,
+            origin,
             x,
             step,
             next,
         );
-        h = crate::steps::link_at(adjacency, 256 + s);
+        h = crate::steps::link_at(adjacency, POSITIONS + s);
     }
     next
 }

@@ -1,11 +1,8 @@
-// Successors of a state, each worked out once.
+// Successors of a state, each worked out once and kept in a cache.
 ghost use mathlib.Core.Path.{_≡_};
-ghost use Prim.Native.Nat.{_*_, _<_};
-ghost use lib.ListN.{length};
-ghost use Rattle.job.specs.StateCount.{stateCount};
-ghost use Rattle.job.specs.Store.{allRows, jobOf};
-ghost use Rattle.job.specs.WellFormed.{WellFormed};
-ghost use Rattle.domain.specs.Domain.{domainOf, Tells};
+ghost use Prim.Native.Nat.{_<_};
+ghost use Rattle.job.specs.Stored.{Stored};
+ghost use Rattle.domain.specs.Domain.{domainIn, Tells};
 ghost use Rattle.domain.specs.Successor.{successorIn};
 ghost use Rattle.sweep.specs.Successors.{Cached, noted};
 use domain::Successor;
@@ -22,7 +19,7 @@ fn note(after: Successor) -> u16
     }
 }
 
-// The state after move m, by the formulas' values, as `cache` has it, or worked out and then kept there.
+// The state after move m, by the formulas' values, as the cache has it, or worked out and then kept there.
 pub fn successor(
     head: Head,
     rows: &[u16],
@@ -31,12 +28,10 @@ pub fn successor(
     m: u16,
     state: u16,
 ) -> Successor
-    requires { ⌜ length (now rows) ≡ allRows * 4 ⌝ }
-    requires { ⌜ WellFormed (jobOf head (now rows)) ⌝ }
-    requires { ⌜ Tells (jobOf head (now rows)) state (now values) ⌝ }
-    requires { ⌜ (m < head .counts .moves) × (state < stateCount (head .counts .facts)) ⌝ }
-    requires { ⌜ Cached (domainOf (jobOf head (now rows))) state (now cache) ⌝ }
-    ensures { λ r. ⌜ (successorIn r ≡ domainOf (jobOf head (now (rows .entry))) .successor m state) × Cached (domainOf (jobOf head (now (rows .entry)))) state (now (cache .exit)) ⌝ }
+    requires { ⌜ Stored head (now rows) × Tells (domainIn head (now rows)) state (now values) ⌝ }
+    requires { ⌜ (m < domainIn head (now rows) .moves) × (state < domainIn head (now rows) .states) ⌝ }
+    requires { ⌜ Cached (domainIn head (now rows)) state (now cache) ⌝ }
+    ensures { λ r. ⌜ (successorIn r ≡ domainIn head (now (rows .entry)) .successor m state) × Cached (domainIn head (now (rows .entry))) state (now (cache .exit)) ⌝ }
 {
     let i = m as usize;
     let x = cache[i];

@@ -1,60 +1,62 @@
 // Where steps lead from a state.
-ghost use Rattle.job.specs.Store.{jobOf};
-ghost use Rattle.domain.specs.Domain.{domainOf};
+ghost use mathlib.Core.Path.{_≡_};
+ghost use Rattle.domain.specs.Domain.{domainIn};
 ghost use Rattle.semantics.specs.CompilingTable.{labelIn};
 ghost use Rattle.sweep.specs.Successors.{Cached};
 ghost use Rattle.sweep.specs.Targets.{Standing, Reaches};
-use crate::steps::Step;
+use crate::Origin;
+use crate::steps::OutStep;
 use domain::Successor;
-use job::head::Head;
 
-// The state that a step leads to, and its cost, if the step can be made.
+// The state and the position that a step leads to, and its cost, if the step can be made.
 pub struct Target {
     pub made: bool,
     pub state: u16,
-    pub cost: u16,
+    pub position: u16,
+    pub cost: u32,
 }
 
-// Where a step leads from the state.
+// Where a step leads from the origin's state.
 pub fn lead(
-    head: Head,
     rows: &[u16],
     values: &[bool],
     cache: &mut [u16],
-    state: u16,
-    step: Step,
+    origin: Origin,
+    step: OutStep,
 ) -> Target
-    requires { ⌜ Standing head (now rows) (now values) state (now cache) ⌝ }
-    ensures { λ r. ⌜ Reaches (domainOf (jobOf head (now (rows .entry)))) (labelIn (step .kind) (step .arg)) state (r .made) (r .state) (r .cost) × Cached (domainOf (jobOf head (now (rows .entry)))) state (now (cache .exit)) ⌝ }
+    requires { ⌜ Standing (origin .head) (now rows) (now values) (origin .state) (now cache) ⌝ }
+    ensures { λ r. ⌜ Reaches (domainIn (origin .head) (now (rows .entry))) (labelIn (step .kind) (step .arg)) (origin .state) (r .made) (r .state) (r .cost) × (r .position ≡ step .to) × Cached (domainIn (origin .head) (now (rows .entry))) (origin .state) (now (cache .exit)) ⌝ }
 {
+    let head = origin.head;
+    let state = origin.state;
     if step.kind < 3 {
         let on = validate::position_set::is_silent(values, step.kind, step.arg);
         return Target {
             made: on,
             state: state,
+            position: step.to,
             cost: 0,
         };
     }
+    let nowhere = Target {
+        made: false,
+        state: state,
+        position: step.to,
+        cost: 0,
+    };
     let m = step.arg;
-    if head.counts.moves <= m {
-        return Target {
-            made: false,
-            state: state,
-            cost: 0,
-        };
+    if domain::moves::move_count(head, rows) <= m {
+        return nowhere;
     }
     let after = crate::successors::successor(head, rows, values, cache, m, state);
     let Successor::To(next) = after else {
-        return Target {
-            made: false,
-            state: state,
-            cost: 0,
-        };
+        return nowhere;
     };
-    let cost = domain::moves::cost(head, rows, m, state);
+    let cost = domain::moves::cost(head, rows, values, m, state);
     Target {
         made: true,
         state: next,
+        position: step.to,
         cost: cost,
     }
 }

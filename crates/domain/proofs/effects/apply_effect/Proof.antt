@@ -3,7 +3,6 @@ use mathlib.Core.Path.{ap}
 use native.Mathlib.Omega.{arith}
 use lib.Dec.{eqb}
 use Rattle.job.specs.Job.{Effect}
-use Rattle.job.specs.Store.{effectIn}
 use Rattle.job.proofs.StoredLaws.{effect-fact}
 use Rattle.domain.specs.State.{afterEffect}
 use Rattle.domain.proofs.FactLaws.{bits-once, bits-both}

@@ -1,9 +1,9 @@
-use mathlib.Core.Path.{_≡_, refl, sym, _∙_, ap}
+use mathlib.Core.Path.{_≡_, refl, _∙_, ap}
 use Prim.Native.Nat.{_≤_, _-_, _*_}
 use native.Mathlib.Omega.{arith}
 use lib.ListN.{length, take, length-set}
 use lib.Seq.{sets, length-sets, take-all}
-use Rattle.job.specs.Store.{width, storeSize}
+use Rattle.job.specs.Store.{width}
 use Rattle.job.proofs.StoreLaws.{sets-more}
 use borrow.Author.Needs.{needs}
 use Rattle.job.proofs.rows.put_row.Statement.{statement}

@@ -10,10 +10,10 @@ returns : tie.Need-returns
 returns c = (stays (not-reached (c .before .before .before .lead .ensures .0) (not-true _ (c .if1 .taken))), c .before .before .before .lead .ensures .1)
 
 relax-requires : tie.Need-relax-requires
-relax-requires c κs = arrival-fits (c .before .before .before .before .before .before .before .before .before .before .before .before .before .before .before .pre .0) (reached (c .before .before .before .before .before .before .before .lead .ensures .0) (not-false _ (c .before .before .before .before .if1 .left))) (c .before .before .before .state-count .ensures) (c .before .before .before .before .before .before .before .before .before .before .before .before .before .before .before .pre .1) (c .before .before .before .before .before .before .before .before .before .before .before .before .before .before .before .args .marks .now) (c .before .before .before .before .before .before .before .before .before .before .before .before .before .before .before .pre .2)
+relax-requires c κs = arrival-fits (c .before .before .before .before .before .before .before .before .before .before .before .before .before .before .pre .0) (reached (c .before .before .before .before .before .before .lead .ensures .0) (not-false _ (c .before .before .before .if1 .left))) (c .before .before .before .state-count .ensures) (c .before .before .before .before .before .before .before .before .before .before .before .before .before .before .pre .1) (c .before .before .before .before .before .before .before .before .before .before .before .before .before .before .args .marks .now) (c .before .before .before .before .before .before .before .before .before .before .before .before .before .before .pre .2)
 
 returns-2 : tie.Need-returns-2
-returns-2 c = (leads (reached (c .before .before .before .before .before .before .before .before .before .before .before .before .before .before .lead .ensures .0) (not-false _ (c .before .before .before .before .before .before .before .before .before .before .before .if1 .left))) (c .before .before .before .before .before .before .relax .ensures), c .before .before .before .before .before .before .before .before .before .before .before .before .before .before .lead .ensures .1)
+returns-2 c = (leads (reached (c .before .before .before .before .before .before .before .before .before .before .before .before .before .lead .ensures .0) (not-false _ (c .before .before .before .before .before .before .before .before .before .before .if1 .left))) (c .before .before .before .before .before .before .relax .ensures), c .before .before .before .before .before .before .before .before .before .before .before .before .before .lead .ensures .1)
 
 pub follow-spec : {M : Type 1} → statement M
 follow-spec =

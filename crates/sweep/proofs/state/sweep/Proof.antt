@@ -25,13 +25,13 @@ abbrev μ-loop : tie.MeasureT-loop
 μ-loop costs₀ queue₀ known₀ head rows list adjacency values positions state s k marks₀ p₀ costs queue cache marks p = sum costs * 257 + (positions - p)
 
 loop-holds : tie.Need-loop-holds Inv-loop μ-loop
-loop-holds c = (sweeping-start _ _ _ _ (c .before .before .before .before .before .before .before .before .args .queue .now) (omega (arith, c .before .before .before .before .before .before .before .before .pre .1 .0 .0 .standing .inside, c .before .before .before .before .before .before .before .before .pre .1 .0 .0 .keys .few, c .before .before .before .before .before .before .before .before .pre .1 .0 .0 .keys .size)) (c .before .before .before .before .before .before .before .before .pre .1 .1), c .before .before .before .before .before .before .before .before .pre .1 .0 .0 .standing .successors)
+loop-holds c = (sweeping-start _ _ _ _ (c .before .before .before .before .before .before .before .before .before .args .queue .now) (omega (arith, c .before .before .before .before .before .before .before .before .before .pre .1 .0 .0 .standing .inside, c .before .before .before .before .before .before .before .before .before .pre .1 .0 .0 .keys .few, c .before .before .before .before .before .before .before .before .before .pre .1 .0 .0 .keys .size)) (c .before .before .before .before .before .before .before .before .before .pre .1 .1), c .before .before .before .before .before .before .before .before .before .pre .1 .0 .0 .standing .successors)
 
 slice-aggregate-scan : tie.Need-slice-aggregate-scan Inv-loop μ-loop
 slice-aggregate-scan c = sym (c .before .before .before .before .before .loop .inv .0 .width)
 
 scan-requires : tie.Need-scan-requires Inv-loop μ-loop
-scan-requires c κs = (c .before .before .before .before .before .before .before .before .before .before .before .before .before .before .pre .0, ((sweep-on (c .before .before .before .before .before .before .before .before .before .before .before .before .before .before .pre .1 .0 .0) (runs-length (c .before .before .before .before .before .loop .inv .0 .runs)) (c .before .before .before .before .before .loop .inv .0 .size ∙ length-set (c .before .before .before .before .before .before .before .before .before .before .before .before .before .before .args .queue .now) (c .before .before .before .before .before .before .before .before .before .before .before .before .before .before .args .state) unreached) (c .before .before .before .before .before .loop .inv .1), c .before .before .before .before .loop-test .taken, c .before .before .before .before .before .loop .inv .0 .width), c .before .before .before .before .before .loop .inv .0 .relaxed))
+scan-requires c κs = (c .before .before .before .before .before .before .before .before .before .before .before .before .before .before .before .pre .0, ((sweep-on (c .before .before .before .before .before .before .before .before .before .before .before .before .before .before .before .pre .1 .0 .0) (runs-length (c .before .before .before .before .before .loop .inv .0 .runs)) (c .before .before .before .before .before .loop .inv .0 .size ∙ length-set (c .before .before .before .before .before .before .before .before .before .before .before .before .before .before .before .args .queue .now) (c .before .before .before .before .before .before .before .before .before .before .before .before .before .before .before .args .state) unreached) (c .before .before .before .before .before .loop .inv .1), c .before .before .before .before .loop-test .taken, c .before .before .before .before .before .loop .inv .0 .width), c .before .before .before .before .before .loop .inv .0 .relaxed))
 
 loop-less : tie.Need-loop-less Inv-loop μ-loop
 loop-less c = omega (arith, c .before .before .before .before .before .before .before .scan .ensures .0 .falls, c .before .before .before .before .before .before .before .scan .ensures .0 .low, c .before .before .before .before .before .before .before .before .before .before .before .before .loop-test .taken)
@@ -43,13 +43,13 @@ same-length : tie.Need-same-length Inv-loop μ-loop
 same-length c = runs-length (c .before .loop .inv .0 .runs)
 
 same-length-2 : tie.Need-same-length-2 Inv-loop μ-loop
-same-length-2 c = c .before .loop .inv .0 .size ∙ length-set (c .before .before .before .before .before .before .before .before .before .before .args .queue .now) (c .before .before .before .before .before .before .before .before .before .before .args .state) unreached
+same-length-2 c = c .before .loop .inv .0 .size ∙ length-set (c .before .before .before .before .before .before .before .before .before .before .before .args .queue .now) (c .before .before .before .before .before .before .before .before .before .before .before .args .state) unreached
 
 same-length-3 : tie.Need-same-length-3 Inv-loop μ-loop
-same-length-3 c = c .before .loop .inv .1 .size ∙ sym (c .before .before .before .before .before .before .before .before .before .before .pre .1 .0 .0 .standing .successors .size)
+same-length-3 c = c .before .loop .inv .1 .size ∙ sym (c .before .before .before .before .before .before .before .before .before .before .before .pre .1 .0 .0 .standing .successors .size)
 
 returns : tie.Need-returns Inv-loop μ-loop
-returns c = sweeping-end _ _ _ _ (c .before .before .before .before .before .before .before .before .before .before .args .queue .now) (omega (arith, c .before .before .before .before .before .before .before .before .before .before .pre .1 .0 .0 .standing .inside, c .before .before .before .before .before .before .before .before .before .before .pre .1 .0 .0 .keys .few, c .before .before .before .before .before .before .before .before .before .before .pre .1 .0 .0 .keys .size)) (graph-closed (c .before .before .before .before .before .before .before .before .before .before .pre .0 .0)) (c .before .before .before .before .before .before .before .before .before .before .pre .1 .0 .0 .standing .inside) (c .before .before .before .before .before .before .before .before .before .before .pre .1 .0 .1) (c .before .loop .inv .0) (omega (arith, c .loop-test .left))
+returns c = sweeping-end _ _ _ _ (c .before .before .before .before .before .before .before .before .before .before .before .args .queue .now) (omega (arith, c .before .before .before .before .before .before .before .before .before .before .before .pre .1 .0 .0 .standing .inside, c .before .before .before .before .before .before .before .before .before .before .before .pre .1 .0 .0 .keys .few, c .before .before .before .before .before .before .before .before .before .before .before .pre .1 .0 .0 .keys .size)) (graph-closed (c .before .before .before .before .before .before .before .before .before .before .before .pre .0 .0)) (c .before .before .before .before .before .before .before .before .before .before .before .pre .1 .0 .0 .standing .inside) (c .before .before .before .before .before .before .before .before .before .before .before .pre .1 .0 .1) (c .before .loop .inv .0) (omega (arith, c .loop-test .left))
 
 pub sweep-spec : {M : Type 1} → statement M
 sweep-spec =
