@@ -55,6 +55,11 @@ relax-fits x y inside marks width = rw (x .states) (
   width,
 )
 
+-- the same step by the position that its target names
+pub stepped-to : {D : Domain} {positions : ℕ} {l : Label} {w q to x next : ℕ} {T queue : List ℕ} {marks : List Bool} {T′ queue′ : List ℕ} {marks′ : List Bool} {r : ℕ}
+    → q ≡ to → Stepped D positions l w q x next T queue marks T′ queue′ marks′ r → Stepped D positions l w to x next T queue marks T′ queue′ marks′ r
+stepped-to e y = rw e at y
+
 -- what is worked out in a state, as more successors are cached
 standing-on : {head : Head} {rows : List ℕ} {values : List Bool} {state : ℕ} {cache cache′ : List ℕ} → Standing head rows values state cache
     → Cached (domainIn head rows) state cache′ → Standing head rows values state cache′

@@ -6,10 +6,14 @@ use Rattle.sweep.proofs.relaxation.relax.Statement.{statement}
 use Rattle.sweep.proofs.relaxation.relax.Tie as tie
 
 mul-old : tie.Need-mul-old
-mul-old c = let room = cell-room _ _ _ _ (c .before .before .before .before .before .pre .1) (c .before .before .before .before .before .pre .2) (c .before .before .before .before .before .pre .4) in search (needs, room, c .cell .ensures)
+mul-old c =
+    let p = c .before .before .before .before .before .pre in
+    let room = cell-room _ _ _ _ (p .1) (p .2) (p .4) in search (needs, room, c .cell .ensures)
 
 slice-read-old : tie.Need-slice-read-old
-slice-read-old c = let room = cell-room _ _ _ _ (c .before .before .before .before .before .before .pre .1) (c .before .before .before .before .before .before .pre .2) (c .before .before .before .before .before .before .pre .4) in search (needs, room, c .before .cell .ensures)
+slice-read-old c =
+    let p = c .before .before .before .before .before .before .pre in
+    let room = cell-room _ _ _ _ (p .1) (p .2) (p .4) in search (needs, room, c .before .cell .ensures)
 
 returns : tie.Need-returns
 returns c = rw (← (c .before .before .cell .ensures)) (kept (omega (arith, c .if1 .taken)))
@@ -21,27 +25,46 @@ add-costs : tie.Need-add-costs
 add-costs c = record { fits = omega (arith, c .before .if1 .left, c .if2 .left, c .before .before .slice-known4 .given (c .before .before .before .cell .result)) }
 
 mul-costs : tie.Need-mul-costs
-mul-costs c = let room = cell-room _ _ _ _ (c .before .before .before .before .before .before .before .before .pre .1) (c .before .before .before .before .before .before .before .before .pre .2) (c .before .before .before .before .before .before .before .before .pre .4) in search (needs, room, c .before .before .before .cell .ensures)
+mul-costs c =
+    let p = c .before .before .before .before .before .before .before .before .pre in
+    let room = cell-room _ _ _ _ (p .1) (p .2) (p .4) in search (needs, room, c .before .before .before .cell .ensures)
 
 slice-write-costs : tie.Need-slice-write-costs
-slice-write-costs c = let room = cell-room _ _ _ _ (c .before .before .before .before .before .before .before .before .pre .1) (c .before .before .before .before .before .before .before .before .pre .2) (c .before .before .before .before .before .before .before .before .pre .4) in search (needs, room, c .before .before .before .cell .ensures)
+slice-write-costs c =
+    let p = c .before .before .before .before .before .before .before .before .pre in
+    let room = cell-room _ _ _ _ (p .1) (p .2) (p .4) in search (needs, room, c .before .before .before .cell .ensures)
 
 add-lower : tie.Need-add-lower
-add-lower c = record { fits = omega (arith, c .before .before .before .before .before .if1 .left, c .before .before .before .before .if2 .left, c .before .before .before .before .before .before .slice-known4 .given (c .before .before .before .before .before .before .before .cell .result)) }
+add-lower c =
+    let old = c .before .before .before .before .before .before .slice-known4 .given (c .before .before .before .before .before .before .before .cell .result) in
+    record { fits = omega (arith, c .before .before .before .before .before .if1 .left, c .before .before .before .before .if2 .left, old) }
 
 returns-3 : tie.Need-returns-3
-returns-3 c = rw (← (c .before .before .before .before .before .before .before .before .before .before .cell .ensures)) (lowered (omega (arith, c .before .before .before .before .before .before .before .before .if1 .left, c .before .before .before .before .before .before .before .if2 .left)) (c .before .before .lower .ensures))
+returns-3 c =
+    let at = c .before .before .before .before .before .before .before .before .before .before .cell .ensures in
+    let left = c .before .before .before .before .before .before .before .before .if1 .left in
+    let more = c .before .before .before .before .before .before .before .if2 .left in
+    rw (← at) (lowered (omega (arith, left, more)) (c .before .before .lower .ensures))
 
 returns-4 : tie.Need-returns-4
-returns-4 c = rw (← (c .before .before .before .before .before .before .cell .ensures)) (within {r = c .before .before .before .before .before .before .before .before .before .before .before .args .q} (omega (arith, c .before .before .before .before .if1 .left, c .before .before .before .if2 .left)) (c .before .if3 .left) (omega arith) (omega (arith, c .if4 .taken)))
+returns-4 c =
+    let at = c .before .before .before .before .before .before .cell .ensures in
+    let q = c .before .before .before .before .before .before .before .before .before .before .before .args .target .position in
+    let left = c .before .before .before .before .if1 .left in
+    rw (← at) (within {r = q} (omega (arith, left, c .before .before .before .if2 .left)) (c .before .if3 .left) (omega arith) (omega (arith, c .if4 .taken)))
 
 returns-5 : tie.Need-returns-5
-returns-5 c = rw (← (c .before .before .before .before .before .before .cell .ensures)) (within {r = c .before .before .before .before .before .before .before .before .before .before .before .args .next} (omega (arith, c .before .before .before .before .if1 .left, c .before .before .before .if2 .left)) (c .before .if3 .left) (omega (arith, c .if4 .left)) (omega arith))
+returns-5 c =
+    let at = c .before .before .before .before .before .before .cell .ensures in
+    let next = c .before .before .before .before .before .before .before .before .before .before .before .args .next in
+    let left = c .before .before .before .before .if1 .left in
+    rw (← at) (within {r = next} (omega (arith, left, c .before .before .before .if2 .left)) (c .before .if3 .left) (omega (arith, c .if4 .left)) (omega arith))
 
 pub relax-spec : {M : Type 1} → statement M
 relax-spec =
     tie.close
     (tie.spec
+    (λ c. search needs)
     (λ c κs. search needs)
     mul-old
     slice-read-old
@@ -51,6 +74,8 @@ relax-spec =
     add-costs
     mul-costs
     slice-write-costs
+    (λ c. search needs)
+    (λ c. search needs)
     add-lower
     (λ c κs. search needs)
     (λ c. search needs)

@@ -1,13 +1,12 @@
-use Prim.Native.Nat.{_+_, _-_, _*_}
+use Prim.Native.Nat.{suc, _+_, _-_, _*_, _<_}
 use mathlib.Core.Path.{sym, _∙_}
 use native.Mathlib.Omega.{arith}
-use lib.ListN.{length-set}
-use Rattle.job.specs.StateCount.{stateCount}
-use Rattle.job.specs.Store.{jobOf}
+use lib.ListN.{length, length-set}
+use Rattle.limits.specs.Limits.{mostPositions}
 use Rattle.semantics.specs.CostTable.{unreached}
 use Rattle.semantics.specs.Cells.{sum}
 use Rattle.semantics.proofs.CellLaws.{runs-length}
-use Rattle.domain.specs.Domain.{domainOf}
+use Rattle.domain.specs.Domain.{domainIn}
 use Rattle.sweep.specs.Successors.{Cached}
 use Rattle.sweep.specs.Scans.{graphOf}
 use Rattle.sweep.proofs.GraphLaws.{graph-closed}
@@ -18,23 +17,33 @@ use Rattle.sweep.proofs.state.sweep.Statement.{statement}
 use Rattle.sweep.proofs.state.sweep.Tie as tie
 
 abbrev Inv-loop : tie.InvT-loop
-Inv-loop costs₀ queue₀ known₀ head rows list adjacency values positions state s k marks₀ p₀ costs queue cache marks p =
-    Sweeping (graphOf head rows list positions) (stateCount (head .counts .facts)) state k costs₀ queue₀ costs queue marks p × Cached (domainOf (jobOf head rows)) state cache
+Inv-loop costs₀ queue₀ cache₀ rows list adjacency values origin s positions key marks₀ p₀ costs queue cache marks p =
+    let D = domainIn (origin .head) rows in
+    let G = graphOf (origin .head) rows list (origin .grid .positions) in
+    Sweeping G (D .states) (origin .state) key costs₀ queue₀ costs queue marks p × Cached D (origin .state) cache
 
 abbrev μ-loop : tie.MeasureT-loop
-μ-loop costs₀ queue₀ known₀ head rows list adjacency values positions state s k marks₀ p₀ costs queue cache marks p = sum costs * 257 + (positions - p)
+μ-loop costs₀ queue₀ cache₀ rows list adjacency values origin s positions key marks₀ p₀ costs queue cache marks p = sum costs * suc mostPositions + (positions - p)
 
 loop-holds : tie.Need-loop-holds Inv-loop μ-loop
-loop-holds c = (sweeping-start _ _ _ _ (c .before .before .before .before .before .before .before .before .before .args .queue .now) (omega (arith, c .before .before .before .before .before .before .before .before .before .pre .1 .0 .0 .standing .inside, c .before .before .before .before .before .before .before .before .before .pre .1 .0 .0 .keys .few, c .before .before .before .before .before .before .before .before .before .pre .1 .0 .0 .keys .size)) (c .before .before .before .before .before .before .before .before .before .pre .1 .1), c .before .before .before .before .before .before .before .before .before .pre .1 .0 .0 .standing .successors)
+loop-holds c =
+    let p = c .before .before .before .before .before .before .before .before .before .pre .1 in
+    let row = p .0 .0 in
+    (sweeping-start _ _ _ _ (c .before .before .before .before .before .before .before .before .before .args .queue .now) (omega (arith, row .standing .inside, row .keys .few, row .keys .size)) (p .1), row .standing .successors)
 
 slice-aggregate-scan : tie.Need-slice-aggregate-scan Inv-loop μ-loop
 slice-aggregate-scan c = sym (c .before .before .before .before .before .loop .inv .0 .width)
 
 scan-requires : tie.Need-scan-requires Inv-loop μ-loop
-scan-requires c κs = (c .before .before .before .before .before .before .before .before .before .before .before .before .before .before .before .pre .0, ((sweep-on (c .before .before .before .before .before .before .before .before .before .before .before .before .before .before .before .pre .1 .0 .0) (runs-length (c .before .before .before .before .before .loop .inv .0 .runs)) (c .before .before .before .before .before .loop .inv .0 .size ∙ length-set (c .before .before .before .before .before .before .before .before .before .before .before .before .before .before .before .args .queue .now) (c .before .before .before .before .before .before .before .before .before .before .before .before .before .before .before .args .state) unreached) (c .before .before .before .before .before .loop .inv .1), c .before .before .before .before .loop-test .taken, c .before .before .before .before .before .loop .inv .0 .width), c .before .before .before .before .before .loop .inv .0 .relaxed))
+scan-requires c κs =
+    let a = c .before .before .before .before .before .before .before .before .before .before .before .before .before .before .before .args in
+    let p = c .before .before .before .before .before .before .before .before .before .before .before .before .before .before .before .pre in
+    let x = c .before .before .before .before .before .loop .inv in
+    let row = sweep-on (p .1 .0 .0) (runs-length (x .0 .runs)) (x .0 .size ∙ length-set (a .queue .now) (a .origin .state) unreached) (x .1) in
+    (p .0, ((row, c .before .before .before .before .loop-test .taken, x .0 .width), x .0 .relaxed))
 
 loop-less : tie.Need-loop-less Inv-loop μ-loop
-loop-less c = omega (arith, c .before .before .before .before .before .before .before .scan .ensures .0 .falls, c .before .before .before .before .before .before .before .scan .ensures .0 .low, c .before .before .before .before .before .before .before .before .before .before .before .before .loop-test .taken)
+loop-less c = let y = c .before .before .before .before .before .before .before .scan .ensures .0 in omega (arith, y .falls, y .low, c .before .before .before .before .before .before .before .before .before .before .before .before .loop-test .taken)
 
 loop-again : tie.Need-loop-again Inv-loop μ-loop
 loop-again c = (sweeping-more (c .before .before .before .before .before .before .before .before .before .before .before .before .before .loop .inv .0) (c .before .before .before .before .before .before .before .scan .ensures .0), c .before .before .before .before .before .before .before .scan .ensures .1)
@@ -43,13 +52,18 @@ same-length : tie.Need-same-length Inv-loop μ-loop
 same-length c = runs-length (c .before .loop .inv .0 .runs)
 
 same-length-2 : tie.Need-same-length-2 Inv-loop μ-loop
-same-length-2 c = c .before .loop .inv .0 .size ∙ length-set (c .before .before .before .before .before .before .before .before .before .before .before .args .queue .now) (c .before .before .before .before .before .before .before .before .before .before .before .args .state) unreached
+same-length-2 c = let a = c .before .before .before .before .before .before .before .before .before .before .before .args in c .before .loop .inv .0 .size ∙ length-set (a .queue .now) (a .origin .state) unreached
 
 same-length-3 : tie.Need-same-length-3 Inv-loop μ-loop
 same-length-3 c = c .before .loop .inv .1 .size ∙ sym (c .before .before .before .before .before .before .before .before .before .before .before .pre .1 .0 .0 .standing .successors .size)
 
 returns : tie.Need-returns Inv-loop μ-loop
-returns c = sweeping-end _ _ _ _ (c .before .before .before .before .before .before .before .before .before .before .before .args .queue .now) (omega (arith, c .before .before .before .before .before .before .before .before .before .before .before .pre .1 .0 .0 .standing .inside, c .before .before .before .before .before .before .before .before .before .before .before .pre .1 .0 .0 .keys .few, c .before .before .before .before .before .before .before .before .before .before .before .pre .1 .0 .0 .keys .size)) (graph-closed (c .before .before .before .before .before .before .before .before .before .before .before .pre .0 .0)) (c .before .before .before .before .before .before .before .before .before .before .before .pre .1 .0 .0 .standing .inside) (c .before .before .before .before .before .before .before .before .before .before .before .pre .1 .0 .1) (c .before .loop .inv .0) (omega (arith, c .loop-test .left))
+returns c =
+    let p = c .before .before .before .before .before .before .before .before .before .before .before .pre in
+    let row = p .1 .0 in
+    let a = c .before .before .before .before .before .before .before .before .before .before .before .args in
+    let room : a .origin .state < length (a .queue .now) = omega (arith, row .0 .standing .inside, row .0 .keys .few, row .0 .keys .size) in
+    sweeping-end _ _ _ _ (a .queue .now) room (graph-closed (p .0 .0)) (row .0 .standing .inside) (row .1) (c .before .loop .inv .0) (omega (arith, c .loop-test .left))
 
 pub sweep-spec : {M : Type 1} → statement M
 sweep-spec =
@@ -57,6 +71,7 @@ sweep-spec =
     (tie.spec
     Inv-loop
     μ-loop
+    (λ c. search needs)
     (λ c. search needs)
     (λ c. search needs)
     (λ c. search needs)
