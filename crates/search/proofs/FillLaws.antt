@@ -9,20 +9,23 @@ use native.Mathlib.Decide.{ℕ-discrete}
 use native.Mathlib.Nat.{mul-le-mul-left, mul-le-mul-right}
 use lib.ListN.{length, getD, set, replicate, length-set, getD-replicate}
 use lib.Seq.{getD-set-other}
-use Rattle.job.specs.StateCount.{stateCount}
+use Rattle.limits.specs.Limits.{mostStates}
 use Rattle.job.specs.Store.{jobOf}
 use Rattle.job.specs.declared.head.Head.{Head}
+use Rattle.semantics.specs.Domain.{Domain}
 use Rattle.semantics.specs.CostTable.{unreached, Filled}
 use Rattle.semantics.specs.Cells.{cell, Graph, entry, Runs, none, Relaxed}
 use Rattle.semantics.proofs.CellLaws.{edge-within, cell-state, runs-on, cell-below}
 use Rattle.semantics.proofs.CellSound.{runs-fill}
 use Rattle.domain.specs.Cost.{mostCost}
-use Rattle.domain.specs.Domain.{domainOf, Tells}
+use Rattle.domain.specs.Domain.{domainIn, Tells}
+use Rattle.domain.proofs.DomainLaws.{states-few}
 use Rattle.compile.specs.CompiledJob.{stepsOf}
 use Rattle.validate.specs.Ready.{Ready}
-use Rattle.validate.proofs.ReadyLaws.{init-below, some-position}
+use Rattle.validate.proofs.ReadyLaws.{job-bounded, some-position}
 use Rattle.sweep.specs.Cells.{Cleared}
-use Rattle.sweep.specs.Queue.{Queue, SameKeys, Lowered, Chosen}
+use Rattle.sweep.specs.declared.Grid.{Grid}
+use Rattle.sweep.specs.Queue.{Queue, queueSize, SameKeys, Lowered, Chosen}
 use Rattle.sweep.specs.Successors.{Cached}
 use Rattle.sweep.specs.Scans.{graphOf, Indexed, Keyed, potential}
 use Rattle.sweep.specs.Relaxation.{Sweep, Better}
@@ -51,7 +54,7 @@ settling-end x chosen e is = record {
 }
 
 -- the order is made anew
-pub better-named : {G : Graph} {n : ℕ} {T queue T′ queue′ queue″ : List ℕ} → n ≤ 4096 → n ≡ G .domain .states → Better G n T queue T′ queue′ → SameKeys queue′ queue″
+pub better-named : {G : Graph} {n : ℕ} {T queue T′ queue′ queue″ : List ℕ} → n ≤ mostStates → n ≡ G .domain .states → Better G n T queue T′ queue′ → SameKeys queue′ queue″
     → Better G n T queue T′ queue″
 better-named {n = n} {T′ = T′} {queue′} {queue″} few is x same = record {
   runs = x .runs;
@@ -60,61 +63,83 @@ better-named {n = n} {T′ = T′} {queue′} {queue″} few is x same = record 
   less = omega (arith, x .less, order-keeps n T′ queue′ queue″ few same);
 }
 
-module _ {head : Head} {rows list adjacency : List ℕ} {positions : ℕ} {T queue : List ℕ} (x : Search head rows list adjacency positions T queue) where
-  -- a state's row, where nothing is cache yet but the formulas' values
-  pub search-sweep : {values : List Bool} {state : ℕ} {cache : List ℕ} → Tells (jobOf head rows) state values → state < stateCount (head .counts .facts)
-      → Cached (domainOf (jobOf head rows)) state cache → Sweep head rows values positions state T queue cache
+module _ {head : Head} {rows list adjacency : List ℕ} {grid : Grid} {T queue : List ℕ} (x : Search head rows list adjacency grid T queue) where
+  -- a state's row, where nothing is cached yet but the formulas' values
+  pub search-sweep : {values : List Bool} {state : ℕ} {cache : List ℕ} → Tells (domainIn head rows) state values → state < domainIn head rows .states
+      → Cached (domainIn head rows) state cache → Sweep (record { head = head; grid = grid; state = state }) rows values T queue cache
   search-sweep told inside cache = record {
-    standing = record { size = x .ready .size; job = x .ready .job; told = told; inside = inside; successors = cache };
-    few = x .laid .few;
+    standing = record { stored = x .ready .stored; told = told; inside = inside; successors = cache };
+    states = x .states;
+    few = x .indexed .few;
     room = x .room;
     keys = x .keys;
   }
 
-  pub search-on : {U queue′ : List ℕ} → length U ≡ length T → length queue′ ≡ length queue → Search head rows list adjacency positions U queue′
-  search-on a b = record { ready = x .ready; laid = x .laid; room = omega (arith, x .room); keys = record { size = b ∙ x .keys .size; few = x .keys .few } }
+  pub search-on : {U queue′ : List ℕ} → length U ≡ length T → length queue′ ≡ length queue → Search head rows list adjacency grid U queue′
+  search-on a b = record {
+    ready = x .ready;
+    indexed = x .indexed;
+    states = x .states;
+    room = omega (arith, x .room);
+    keys = record { size = b ∙ x .keys .size; few = x .keys .few };
+  }
 
-module _ {head : Head} {rows list : List ℕ} {positions : ℕ} (r : Ready head rows list positions) (T : List ℕ) (room : stateCount (head .counts .facts) * positions ≤ length T) where
+module _ {head : Head} {rows list : List ℕ} {grid : Grid} (r : Ready head rows list (grid .positions)) (is : grid .states ≡ domainIn head rows .states) (T : List ℕ)
+    (room : domainIn head rows .states * grid .positions ≤ length T) {s₀ : ℕ} (start : s₀ ≡ domainIn head rows .start) where
+  abbrev positions : ℕ
+  positions = grid .positions
+
+  abbrev D : Domain
+  D = domainIn head rows
+
   abbrev G : Graph
   G = graphOf head rows list positions
 
-  pub start-below : head .init * positions < length T
-  start-below = omega (arith, cell-below positions (head .init) 0 (stateCount (head .counts .facts)) (init-below r) (some-position r))
+  -- the start is a state, and its first cell is in the table
+  pub start-inside : s₀ < domainIn head rows .states
+  start-inside = rw start (job-bounded r .start)
 
-  fits : stateCount (head .counts .facts) ≤ 4096 → stateCount (head .counts .facts) * positions * mostCost < unreached
-  fits few = omega (arith, mul-le-mul-right positions few, mul-le-mul-left 4096 (positions-few r))
+  pub start-below : s₀ * grid .positions < length T
+  start-below = omega (arith, cell-below positions s₀ 0 (D .states) start-inside (some-position r))
 
-  module _ {T₁ : List ℕ} (cleared : Cleared (stateCount (head .counts .facts) * positions) T T₁) where
+  fits : D .states * positions * mostCost < unreached
+  fits = omega (arith, mul-le-mul-right positions (states-few (r .stored)), mul-le-mul-left mostStates (positions-few r))
+
+  module _ {T₁ : List ℕ} (done : Cleared (grid .states * grid .positions) T T₁) where
+    cleared : Cleared (D .states * positions) T T₁
+    cleared = rw is at done
+
     -- nothing is reached but the start, and only its row has a key
-    pub start-relaxed : {queue₀ queue : List ℕ} → stateCount (head .counts .facts) ≤ 4096 → SameKeys (replicate 8192 unreached) queue₀ → Lowered (head .init) 0 queue₀ queue
-        → Relaxed G (Keyed queue) (set T₁ (head .init * positions) 0)
-    start-relaxed {queue₀} {queue} few same low i s p t q c l e claim =
+    pub start-relaxed : {queue₀ queue : List ℕ} → SameKeys (replicate queueSize unreached) queue₀ → Lowered s₀ 0 queue₀ queue
+        → Relaxed (graphOf head rows list (grid .positions)) (Keyed queue) (set T₁ (s₀ * grid .positions) 0)
+    start-relaxed {queue₀} {queue} same low i s p t q c l e claim =
         let w = edge-within (graph-closed r) e in
-        elim (ℕ-discrete s (head .init)) [
+        let few = states-few (r .stored) in
+        elim (ℕ-discrete s s₀) [
           | yes a ↦ absurd (omega (arith, claim, low .at-most, ap (λ (k : ℕ). getD queue k 0) a))
           | no a ↦ (
               let key : getD queue s 0 ≡ unreached =
-              low .others s (omega (arith, e .inside)) a ∙ same .keys s (omega (arith, e .inside)) ∙ getD-replicate {A = ℕ} 8192 s unreached 0 (omega (arith, e .inside)) in
-              let apart : cell positions s p ≡ head .init * positions → ⊥ =
-              λ z. a (cell-state positions s p (head .init) 0 (w .start) (some-position r) (omega arith)) in
-              let clear : entry G (set T₁ (head .init * positions) 0) s p ≡ unreached =
-              getD-set-other T₁ (head .init * positions) (cell positions s p) 0 0 apart ∙ cleared .clear (cell positions s p) (w .from) in
+              low .others s (omega (arith, e .inside)) a ∙ same .keys s (omega (arith, e .inside)) ∙ getD-replicate {A = ℕ} queueSize s unreached 0 (omega (arith, e .inside)) in
+              let apart : cell positions s p ≡ s₀ * positions → ⊥ = λ z. a (cell-state positions s p s₀ 0 (w .start) (some-position r) (omega arith)) in
+              let clear : entry G (set T₁ (s₀ * positions) 0) s p ≡ unreached =
+              getD-set-other T₁ (s₀ * positions) (cell positions s p) 0 0 apart ∙ cleared .clear (cell positions s p) (w .from) in
               absurd (omega (arith, claim))
               )
         ]
 
-    pub search-ready : {adjacency queue : List ℕ} → Indexed list adjacency positions → Queue queue (stateCount (head .counts .facts))
-        → Search head rows list adjacency positions (set T₁ (head .init * positions) 0) queue
-    search-ready laid keys = record {
+    pub search-ready : {adjacency queue : List ℕ} → Indexed list adjacency (grid .positions) → Queue queue (grid .states)
+        → Search head rows list adjacency grid (set T₁ (s₀ * grid .positions) 0) queue
+    search-ready indexed keys = record {
       ready = r;
-      laid = laid;
-      room = omega (arith, length-set T₁ (head .init * positions) 0, cleared .size);
-      keys = keys;
+      indexed = indexed;
+      states = is;
+      room = omega (arith, length-set T₁ (s₀ * positions) 0, cleared .size);
+      keys = rw is at keys;
     }
 
-    pub settled-fills : {U : List ℕ} → stateCount (head .counts .facts) ≤ 4096 → Exhausted G (set T₁ (head .init * positions) 0) U
-        → Filled (domainOf (jobOf head rows)) (stepsOf (jobOf head rows)) positions T U
-    settled-fills {U} few x =
-        let e : head .init * positions ≡ cell positions (head .init) 0 = omega arith in
-        rw (← (r .steps)) (runs-fill G mostCost (graph-closed r) (some-position r) (fits few) T T₁ U (cleared .size) (cleared .later)
+    pub settled-fills : {U : List ℕ} → Exhausted (graphOf head rows list (grid .positions)) (set T₁ (s₀ * grid .positions) 0) U
+        → Filled (domainIn head rows) (stepsOf (jobOf head rows)) (grid .positions) T U
+    settled-fills {U} x =
+        let e : s₀ * positions ≡ cell positions (D .start) 0 = omega (arith, ap (λ (k : ℕ). k * positions) start) in
+        rw (← (r .steps)) (runs-fill G mostCost (graph-closed r) (some-position r) fits T T₁ U (cleared .size) (cleared .later)
         (omega (arith, cleared .size)) (cleared .clear) (rw e at (x .runs)) (x .relaxed))

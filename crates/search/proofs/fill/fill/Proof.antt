@@ -1,61 +1,94 @@
 use Prim.Native.Nat.{ℕ}
-use lib.ListN.{length-set}
-use Rattle.semantics.specs.CostTable.{unreached}
-use Rattle.semantics.proofs.CellLaws.{runs-length}
 use mathlib.Core.Path.{_∙_}
 use native.Mathlib.Omega.{arith}
 use native.Mathlib.Nat.{mul-le-mul-left}
-use lib.ListN.{length-replicate}
-use Rattle.domain.proofs.FactLaws.{count-within}
-use Rattle.validate.proofs.ReadyLaws.{ready-listed, init-below}
-use Rattle.sweep.proofs.GraphLaws.{steps-laid, positions-few}
-use Rattle.search.proofs.FillLaws.{start-below, start-relaxed, search-ready, settled-fills}
+use lib.ListN.{length-set, length-replicate}
+use Rattle.semantics.specs.CostTable.{unreached}
+use Rattle.semantics.proofs.CellLaws.{runs-length}
+use Rattle.domain.proofs.DomainLaws.{states-few}
+use Rattle.validate.proofs.ReadyLaws.{ready-listed}
+use Rattle.sweep.specs.Queue.{queueSize}
+use Rattle.sweep.proofs.GraphLaws.{positions-few, steps-indexed}
+use Rattle.search.proofs.FillLaws.{start-inside, start-below, start-relaxed, search-ready, settled-fills}
 use borrow.Author.Needs.{needs}
 use Rattle.search.proofs.fill.fill.Statement.{statement}
 use Rattle.search.proofs.fill.fill.Tie as tie
 
-state-count-requires : tie.Need-state-count-requires
-state-count-requires c κs = c .before .before .before .pre .0 .job .facts
+start-requires : tie.Need-start-requires
+start-requires c κs = c .before .before .before .before .pre .0 .0 .stored
 
 adjacency-of-requires : tie.Need-adjacency-of-requires
-adjacency-of-requires c κs = ready-listed (c .before .before .before .before .before .pre .0)
+adjacency-of-requires c κs = ready-listed (c .before .before .before .before .before .pre .0 .0)
 
 order-requires : tie.Need-order-requires
-order-requires c κs = record { size = length-replicate {A = ℕ} 8192 unreached; few = omega (arith, c .before .before .before .state-count .ensures, (count-within (c .before .before .before .before .before .before .before .args .head .counts .facts) (c .before .before .before .before .before .before .before .pre .0 .job .facts))) }
+order-requires c κs =
+    let p = c .before .before .before .before .before .before .before .pre .0 in
+    record { size = length-replicate {A = ℕ} queueSize unreached; few = omega (arith, p .1, states-few (p .0 .stored)) }
 
 lower-requires : tie.Need-lower-requires
-lower-requires c κs = (record { size = c .before .before .order .ensures .size ∙ length-replicate {A = ℕ} 8192 unreached; few = omega (arith, c .before .before .before .before .before .before .state-count .ensures, (count-within (c .before .before .before .before .before .before .before .before .before .before .args .head .counts .facts) (c .before .before .before .before .before .before .before .before .before .before .pre .0 .job .facts))) }, omega (arith, c .before .before .before .before .before .before .state-count .ensures, init-below (c .before .before .before .before .before .before .before .before .before .before .pre .0)))
+lower-requires c κs =
+    let a = c .before .before .before .before .before .before .before .before .before .before .args in
+    let p = c .before .before .before .before .before .before .before .before .before .before .pre in
+    (record { size = c .before .before .order .ensures .size ∙ length-replicate {A = ℕ} queueSize unreached; few = omega (arith, p .0 .1, states-few (p .0 .0 .stored)) },
+      omega (arith, p .0 .1, start-inside (p .0 .0) (p .0 .1) (a .costs .now) (p .1) (c .before .before .before .before .before .start .ensures)))
 
 mul-clear : tie.Need-mul-clear
-mul-clear c = record { fits = omega (arith, mul-le-mul-left (c .before .before .before .before .before .before .before .before .before .state-count .result) (positions-few (c .before .before .before .before .before .before .before .before .before .before .before .before .before .pre .0)), c .before .before .before .before .before .before .before .before .before .state-count .ensures, (count-within (c .before .before .before .before .before .before .before .before .before .before .before .before .before .args .head .counts .facts) (c .before .before .before .before .before .before .before .before .before .before .before .before .before .pre .0 .job .facts))) }
+mul-clear c =
+    let a = c .before .before .before .before .before .before .before .before .before .before .before .before .before .args in
+    let p = c .before .before .before .before .before .before .before .before .before .before .before .before .before .pre .0 in
+    record { fits = omega (arith, mul-le-mul-left (a .grid .states) (positions-few (p .0)), p .1, states-few (p .0 .stored)) }
 
 clear-requires : tie.Need-clear-requires
-clear-requires c κs = rw (c .before .before .before .before .before .before .before .before .before .state-count .ensures) (c .before .before .before .before .before .before .before .before .before .before .before .before .before .pre .1)
+clear-requires c κs = let p = c .before .before .before .before .before .before .before .before .before .before .before .before .before .pre in rw (p .0 .1) (p .1)
 
 mul-costs : tie.Need-mul-costs
-mul-costs c = record { fits = omega (arith, mul-le-mul-left (c .before .before .before .before .before .before .before .before .before .before .before .before .before .before .before .before .args .head .init) (positions-few (c .before .before .before .before .before .before .before .before .before .before .before .before .before .before .before .before .pre .0)), init-below (c .before .before .before .before .before .before .before .before .before .before .before .before .before .before .before .before .pre .0), (count-within (c .before .before .before .before .before .before .before .before .before .before .before .before .before .before .before .before .args .head .counts .facts) (c .before .before .before .before .before .before .before .before .before .before .before .before .before .before .before .before .pre .0 .job .facts))) }
+mul-costs c =
+    let a = c .before .before .before .before .before .before .before .before .before .before .before .before .before .before .before .before .args in
+    let p = c .before .before .before .before .before .before .before .before .before .before .before .before .before .before .before .before .pre in
+    let inside = start-inside (p .0 .0) (p .0 .1) (a .costs .now) (p .1) (c .before .before .before .before .before .before .before .before .before .before .before .start .ensures) in
+    record { fits = omega (arith, mul-le-mul-left (c .before .before .before .before .before .before .before .before .before .before .before .start .result) (positions-few (p .0 .0)), inside, states-few (p .0 .0 .stored)) }
 
 mul-costs-2 : tie.Need-mul-costs-2
-mul-costs-2 c = record { fits = omega (arith, mul-le-mul-left (c .before .before .before .before .before .before .before .before .before .before .before .before .before .before .before .before .args .head .init) (positions-few (c .before .before .before .before .before .before .before .before .before .before .before .before .before .before .before .before .pre .0)), init-below (c .before .before .before .before .before .before .before .before .before .before .before .before .before .before .before .before .pre .0), (count-within (c .before .before .before .before .before .before .before .before .before .before .before .before .before .before .before .before .args .head .counts .facts) (c .before .before .before .before .before .before .before .before .before .before .before .before .before .before .before .before .pre .0 .job .facts))) }
+mul-costs-2 c =
+    let a = c .before .before .before .before .before .before .before .before .before .before .before .before .before .before .before .before .args in
+    let p = c .before .before .before .before .before .before .before .before .before .before .before .before .before .before .before .before .pre in
+    let inside = start-inside (p .0 .0) (p .0 .1) (a .costs .now) (p .1) (c .before .before .before .before .before .before .before .before .before .before .before .start .ensures) in
+    record { fits = omega (arith, mul-le-mul-left (c .before .before .before .before .before .before .before .before .before .before .before .start .result) (positions-few (p .0 .0)), inside, states-few (p .0 .0 .stored)) }
 
 slice-write-costs : tie.Need-slice-write-costs
-slice-write-costs c = omega (arith, start-below (c .before .before .before .before .before .before .before .before .before .before .before .before .before .before .before .before .pre .0) (c .before .before .before .before .before .before .before .before .before .before .before .before .before .before .before .before .args .costs .now) (c .before .before .before .before .before .before .before .before .before .before .before .before .before .before .before .before .pre .1), c .before .before .clear .ensures .size)
+slice-write-costs c =
+    let a = c .before .before .before .before .before .before .before .before .before .before .before .before .before .before .before .before .args in
+    let p = c .before .before .before .before .before .before .before .before .before .before .before .before .before .before .before .before .pre in
+    omega (arith, start-below (p .0 .0) (p .0 .1) (a .costs .now) (p .1) (c .before .before .before .before .before .before .before .before .before .before .before .start .ensures), c .before .before .clear .ensures .size)
 
 settle-requires : tie.Need-settle-requires
-settle-requires c κs = (search-ready (c .before .before .before .before .before .before .before .before .before .before .before .before .before .before .before .before .before .before .before .pre .0) _ (c .before .before .before .before .before .before .before .before .before .before .before .before .before .before .before .before .before .before .before .pre .1) (rw (c .before .before .before .before .before .before .before .before .before .before .before .before .before .before .before .state-count .ensures) at (c .before .before .before .before .before .clear .ensures)) (steps-laid (c .before .before .before .before .before .before .before .before .before .before .before .before .before .before .before .before .before .before .before .pre .0) (c .before .before .before .before .before .before .before .before .before .before .before .before .before .adjacency-of .ensures)) (record { size = c .before .before .before .before .before .before .before .before .lower .ensures .size ∙ c .before .before .before .before .before .before .before .before .before .before .before .order .ensures .size ∙ length-replicate {A = ℕ} 8192 unreached; few = (count-within (c .before .before .before .before .before .before .before .before .before .before .before .before .before .before .before .before .before .before .before .args .head .counts .facts) (c .before .before .before .before .before .before .before .before .before .before .before .before .before .before .before .before .before .before .before .pre .0 .job .facts)) }), start-relaxed (c .before .before .before .before .before .before .before .before .before .before .before .before .before .before .before .before .before .before .before .pre .0) _ (c .before .before .before .before .before .before .before .before .before .before .before .before .before .before .before .before .before .before .before .pre .1) (rw (c .before .before .before .before .before .before .before .before .before .before .before .before .before .before .before .state-count .ensures) at (c .before .before .before .before .before .clear .ensures)) (count-within (c .before .before .before .before .before .before .before .before .before .before .before .before .before .before .before .before .before .before .before .args .head .counts .facts) (c .before .before .before .before .before .before .before .before .before .before .before .before .before .before .before .before .before .before .before .pre .0 .job .facts)) (c .before .before .before .before .before .before .before .before .before .before .before .order .ensures) (c .before .before .before .before .before .before .before .before .lower .ensures))
+settle-requires c κs =
+    let p = c .before .before .before .before .before .before .before .before .before .before .before .before .before .before .before .before .before .before .before .pre in
+    let r = p .0 .0 in
+    let is = p .0 .1 in
+    let start = c .before .before .before .before .before .before .before .before .before .before .before .before .before .before .start .ensures in
+    let cleared = c .before .before .before .before .before .clear .ensures in
+    let order = c .before .before .before .before .before .before .before .before .before .before .before .order .ensures in
+    let low = c .before .before .before .before .before .before .before .before .lower .ensures in
+    let indexed = steps-indexed r (c .before .before .before .before .before .before .before .before .before .before .before .before .before .adjacency-of .ensures) in
+    (search-ready r is _ (p .1) start cleared indexed
+      (record { size = low .size ∙ order .size ∙ length-replicate {A = ℕ} queueSize unreached; few = omega (arith, is, states-few (r .stored)) }),
+      start-relaxed r is _ (p .1) start cleared order low)
 
 same-length : tie.Need-same-length
 same-length c = runs-length (c .before .before .before .settle .ensures .runs) ∙ simp length-set (c .before .before .before .before .before .before .before .before .before .clear .ensures .size)
 
 returns : tie.Need-returns
-returns c = settled-fills (c .before .before .before .before .before .before .before .before .before .before .before .before .before .before .before .before .before .before .before .before .before .before .before .pre .0) _ (c .before .before .before .before .before .before .before .before .before .before .before .before .before .before .before .before .before .before .before .before .before .before .before .pre .1) (rw (c .before .before .before .before .before .before .before .before .before .before .before .before .before .before .before .before .before .before .before .state-count .ensures) at (c .before .before .before .before .before .before .before .before .before .clear .ensures)) (count-within (c .before .before .before .before .before .before .before .before .before .before .before .before .before .before .before .before .before .before .before .before .before .before .before .args .head .counts .facts) (c .before .before .before .before .before .before .before .before .before .before .before .before .before .before .before .before .before .before .before .before .before .before .before .pre .0 .job .facts)) (c .before .before .before .settle .ensures)
+returns c =
+    let p = c .before .before .before .before .before .before .before .before .before .before .before .before .before .before .before .before .before .before .before .before .before .before .before .pre in
+    settled-fills (p .0 .0) (p .0 .1) _ (p .1) (c .before .before .before .before .before .before .before .before .before .before .before .before .before .before .before .before .before .before .start .ensures) (c .before .before .before .before .before .before .before .before .before .clear .ensures) (c .before .before .before .settle .ensures)
 
 pub fill-spec : {M : Type 1} → statement M
 fill-spec =
     tie.close
     (tie.spec
-    state-count-requires
     (λ c. search needs)
+    start-requires
     (λ c. search needs)
     adjacency-of-requires
     (λ c. search needs)

@@ -1,8 +1,8 @@
 use Prim.Native.Nat.{_<_}
 use mathlib.Core.Path.{_∙_}
 use native.Mathlib.Omega.{arith}
-use Rattle.job.specs.StateCount.{stateCount}
 use Rattle.semantics.proofs.CellLaws.{runs-length}
+use Rattle.domain.specs.Domain.{domainIn}
 use Rattle.sweep.specs.Scans.{graphOf, potential}
 use Rattle.search.proofs.FillLaws.{Settling, settling-start, settling-more, settling-end, search-on}
 use borrow.Author.Needs.{needs}
@@ -10,19 +10,19 @@ use Rattle.search.proofs.fill.settle.Statement.{statement}
 use Rattle.search.proofs.fill.settle.Tie as tie
 
 abbrev Inv-loop : tie.InvT-loop
-Inv-loop costs₀ queue₀ head rows list adjacency positions states costs queue = Settling (graphOf head rows list positions) (stateCount (head .counts .facts)) costs₀ queue₀ costs queue
+Inv-loop costs₀ queue₀ head rows list adjacency grid states costs queue =
+    Settling (graphOf head rows list (grid .positions)) (domainIn head rows .states) costs₀ queue₀ costs queue
 
 abbrev μ-loop : tie.MeasureT-loop
-μ-loop costs₀ queue₀ head rows list adjacency positions states costs queue = potential (stateCount (head .counts .facts)) costs queue
-
-state-count-requires : tie.Need-state-count-requires Inv-loop μ-loop
-state-count-requires c κs = c .before .before .before .before .before .pre .0 .ready .job .facts
+μ-loop costs₀ queue₀ head rows list adjacency grid states costs queue = potential (domainIn head rows .states) costs queue
 
 loop-holds : tie.Need-loop-holds Inv-loop μ-loop
 loop-holds c = settling-start (c .before .before .before .before .before .before .pre .1)
 
 choose-requires : tie.Need-choose-requires Inv-loop μ-loop
-choose-requires c κs = record { size = c .before .loop .inv .size ∙ c .before .before .before .before .before .before .before .before .pre .0 .keys .size; few = omega (arith, c .before .before .state-count .ensures, c .before .before .before .before .before .before .before .before .pre .0 .keys .few) }
+choose-requires c κs =
+    let p = c .before .before .before .before .before .before .before .before .pre .0 in
+    record { size = c .before .loop .inv .size ∙ p .keys .size; few = omega (arith, p .states, p .keys .few) }
 
 same-length : tie.Need-same-length Inv-loop μ-loop
 same-length c = runs-length (c .before .before .before .loop .inv .runs)
@@ -31,13 +31,21 @@ same-length-2 : tie.Need-same-length-2 Inv-loop μ-loop
 same-length-2 c = c .before .before .before .loop .inv .size
 
 returns : tie.Need-returns Inv-loop μ-loop
-returns c = settling-end (c .before .before .before .loop .inv) (c .before .choose .ensures) (c .if1 .taken) (c .before .before .before .before .state-count .ensures)
+returns c = settling-end (c .before .before .before .loop .inv) (c .before .choose .ensures) (c .if1 .taken) (c .before .before .before .before .before .before .before .before .before .before .pre .0 .states)
 
-cast-visit : tie.Need-cast-visit Inv-loop μ-loop
-cast-visit c = let inside : c .before .before .before .choose .result < stateCount (c .before .before .before .before .before .before .before .before .before .before .before .before .args .head .counts .facts) = omega (arith, c .before .before .before .choose .ensures .low, c .before .before .if1 .left, c .before .before .before .before .before .before .state-count .ensures) in record { fits = omega (arith, inside, c .before .before .before .before .before .before .before .before .before .before .before .before .pre .0 .keys .few) }
+cast-t14 : tie.Need-cast-t14 Inv-loop μ-loop
+cast-t14 c =
+    let p = c .before .before .before .before .before .before .before .before .before .before .pre .0 in
+    record { fits = omega (arith, c .before .choose .ensures .low, c .if1 .left, p .states, p .keys .few) }
 
 visit-requires : tie.Need-visit-requires Inv-loop μ-loop
-visit-requires c κs = let inside : c .before .before .before .choose .result < stateCount (c .before .before .before .before .before .before .before .before .before .before .before .before .args .head .counts .facts) = omega (arith, c .before .before .before .choose .ensures .low, c .before .before .if1 .left, c .before .before .before .before .before .before .state-count .ensures) in (search-on (c .before .before .before .before .before .before .before .before .before .before .before .before .pre .0) (runs-length (c .before .before .before .before .before .loop .inv .runs)) (c .before .before .before .before .before .loop .inv .size), ((inside, c .before .before .before .choose .ensures .due (omega (arith, c .before .before .before .before .before .before .state-count .ensures))), c .before .before .before .before .before .loop .inv .relaxed))
+visit-requires c κs =
+    let a = c .before .before .before .before .before .before .before .before .before .before .before .before .args in
+    let p = c .before .before .before .before .before .before .before .before .before .before .before .before .pre in
+    let chosen = c .before .before .before .choose in
+    let x = c .before .before .before .before .before .loop .inv in
+    let inside : chosen .result < domainIn (a .head) (a .rows .now) .states = omega (arith, chosen .ensures .low, c .before .before .if1 .left, p .0 .states) in
+    (search-on (p .0) (runs-length (x .runs)) (x .size), ((inside, chosen .ensures .due (omega (arith, p .0 .states))), x .relaxed))
 
 loop-less : tie.Need-loop-less Inv-loop μ-loop
 loop-less c = c .before .before .before .before .visit .ensures .less
@@ -51,14 +59,13 @@ settle-spec =
     (tie.spec
     Inv-loop
     μ-loop
-    state-count-requires
     (λ c. search needs)
     loop-holds
     choose-requires
     same-length
     same-length-2
     returns
-    cast-visit
+    cast-t14
     visit-requires
     loop-less
     loop-again)

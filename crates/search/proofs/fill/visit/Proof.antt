@@ -1,27 +1,41 @@
-use mathlib.Core.Path.{refl}
-use Rattle.sweep.proofs.SuccessorLaws.{known-none}
-use Rattle.search.proofs.FillLaws.{better-named, search-sweep}
+use mathlib.Core.Path.{refl, _∙_}
+use native.Mathlib.Omega.{arith}
+use Rattle.sweep.proofs.SuccessorLaws.{cached-none}
+use Rattle.search.proofs.FillLaws.{search-sweep, better-named}
 use borrow.Author.Needs.{needs}
 use Rattle.search.proofs.fill.visit.Statement.{statement}
 use Rattle.search.proofs.fill.visit.Tie as tie
 
+formula-values-requires : tie.Need-formula-values-requires
+formula-values-requires c κs = c .before .before .before .before .before .pre .0 .ready .stored
+
 sweep-requires : tie.Need-sweep-requires
-sweep-requires c κs = ((c .before .before .before .before .before .before .before .before .before .before .before .pre .0 .ready, c .before .before .before .before .before .before .before .before .before .before .before .pre .0 .laid), ((search-sweep (c .before .before .before .before .before .before .before .before .before .before .before .pre .0) (c .before .before .before .before .before .formula-values .ensures) (c .before .before .before .before .before .before .before .before .before .before .before .pre .1 .0 .0) (known-none _ _), c .before .before .before .before .before .before .before .before .before .before .before .pre .1 .0 .1), c .before .before .before .before .before .before .before .before .before .before .before .pre .1 .1))
+sweep-requires c κs =
+    let p = c .before .before .before .before .before .before .before .before .before .before .before .before .pre in
+    let row = search-sweep (p .0) (c .before .before .before .before .before .before .formula-values .ensures) (p .1 .0 .0) (cached-none _ _) in
+    ((p .0 .ready, p .0 .indexed), ((row, p .1 .0 .1), p .1 .1))
+
+sift-up-requires : tie.Need-sift-up-requires
+sift-up-requires c κs =
+    let p = c .before .before .before .before .before .before .before .before .before .before .before .before .before .before .before .before .before .before .before .pre in
+    let keys = p .0 .keys in
+    let is = p .0 .states in
+    (record { size = c .before .before .before .before .before .before .sweep .ensures .size ∙ keys .size; few = omega (arith, is, keys .few) }, omega (arith, is, p .1 .0 .0))
 
 returns : tie.Need-returns
-returns c = better-named (c .before .before .before .before .before .before .before .before .before .before .before .before .before .before .before .before .before .before .before .before .before .pre .0 .keys .few) refl (c .before .before .before .before .before .before .before .before .before .sweep .ensures) (c .before .before .sift-up .ensures)
+returns c = better-named (c .before .before .before .before .before .before .before .before .before .before .before .before .before .before .before .before .before .before .before .before .before .before .pre .0 .keys .few) refl (c .before .before .before .before .before .before .before .before .before .sweep .ensures) (c .before .before .sift-up .ensures)
 
 pub visit-spec : {M : Type 1} → statement M
 visit-spec =
     tie.close
     (tie.spec
-    (λ c κs. search needs)
-    (λ c κs. search needs)
+    formula-values-requires
+    (λ c. search needs)
     (λ c. search needs)
     (λ c. search needs)
     (λ c. search needs)
     sweep-requires
-    (λ c κs. search needs)
+    sift-up-requires
     (λ c. search needs)
     (λ c. search needs)
     returns)

@@ -1,19 +1,38 @@
+use native.Mathlib.Omega.{arith}
 use Rattle.job.specs.Store.{jobOf}
-use Rattle.domain.specs.Domain.{domainOf}
+use Rattle.domain.specs.Domain.{domainIn}
 use Rattle.compile.specs.Program.{programOf}
-use Rattle.validate.proofs.ReadyLaws.{job-bounded, last-final}
+use Rattle.validate.proofs.ReadyLaws.{job-bounded, last-final, some-position}
 use Rattle.search.proofs.LowestLaws.{lowest-least}
 use borrow.Author.Needs.{needs}
 use Rattle.search.proofs.least.least_cost.Statement.{statement}
 use Rattle.search.proofs.least.least_cost.Tie as tie
 
+state-count-requires : tie.Need-state-count-requires
+state-count-requires c κs = c .before .before .before .pre .0 .stored
+
+fill-requires : tie.Need-fill-requires
+fill-requires c κs = let p = c .before .before .before .before .before .pre in ((p .0, c .before .state-count .ensures), p .1)
+
+least-entry-requires : tie.Need-least-entry-requires
+least-entry-requires c κs =
+    let p = c .before .before .before .before .before .before .before .before .before .pre in
+    ((p .0 .stored, c .before .before .before .before .before .state-count .ensures), (some-position (p .0), omega (arith, p .1, c .before .before .before .fill .ensures .size)))
+
 returns : tie.Need-returns
 returns c =
-    let a = c .before .before .before .before .before .before .before .before .before .args in
-    let j = jobOf (a .head) (a .rows .now) in
-    let ready = c .before .before .before .before .before .before .before .before .before .pre .0 in
+    let a = c .before .before .before .before .before .before .before .before .before .before .args in
+    let ready = c .before .before .before .before .before .before .before .before .before .before .pre .0 in
     let filled = c .before .before .before .before .fill .ensures in
-    (filled, lowest-least (domainOf j) (programOf j) (job-bounded ready) (ready .positions) filled (rw (last-final ready) at (c .least-entry .ensures)))
+    let low = rw (last-final ready) at (c .least-entry .ensures) in
+    (filled, lowest-least (domainIn (a .head) (a .rows .now)) (programOf (jobOf (a .head) (a .rows .now))) (job-bounded ready) (ready .positions) filled low)
 
 pub least-cost-spec : {M : Type 1} → statement M
-least-cost-spec = tie.close (tie.spec (λ c κs. search needs) (λ c κs. search needs) (λ c. search needs) returns)
+least-cost-spec =
+    tie.close
+    (tie.spec
+    state-count-requires
+    fill-requires
+    least-entry-requires
+    (λ c. search needs)
+    returns)

@@ -1,5 +1,5 @@
-use native.Mathlib.Omega.{arith}
 use mathlib.Core.Path.{sym, _∙_}
+use native.Mathlib.Omega.{arith}
 use Rattle.laws.proofs.Tests.{never}
 use Rattle.search.specs.Filling.{kept, lower}
 use borrow.Author.Needs.{needs}
@@ -7,14 +7,10 @@ use Rattle.search.proofs.least.lesser.Statement.{statement}
 use Rattle.search.proofs.least.lesser.Tie as tie
 
 returns : tie.Need-returns
-returns c =
-    let told = c .before .before .before .formula-values .ensures (c .before .before .before .before .before .before .args .head .goal) in
-    lower (sym told ∙ sym (c .before .value-at .ensures) ∙ c .if2 .taken) (c .before .before .before .before .if1 .taken)
+returns c = lower (sym (c .before .goal-holds .ensures) ∙ c .if2 .taken) (c .before .before .before .before .if1 .taken)
 
 returns-2 : tie.Need-returns-2
-returns-2 c =
-    let told = c .before .before .before .formula-values .ensures (c .before .before .before .before .before .before .args .head .goal) in
-    kept (λ g. never (sym (c .if2 .left) ∙ c .before .value-at .ensures ∙ told ∙ g))
+returns-2 c = kept (λ g. never (sym (c .if2 .left) ∙ c .before .goal-holds .ensures ∙ g))
 
 returns-3 : tie.Need-returns-3
 returns-3 c = kept (λ g. omega (arith, c .if1 .left))
