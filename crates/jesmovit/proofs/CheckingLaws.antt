@@ -10,23 +10,23 @@ use lib.ListN.{length, take}
 use lib.Seq.{sets}
 use borrow.Author.Tests.{le-leb, lt-leb}
 use Rattle.job.specs.Job.{Job}
-use Rattle.job.specs.Store.{allRows, jobOf}
-use Rattle.job.specs.WellFormed.{WellFormed}
+use Rattle.limits.specs.Limits.{mostEntries}
+use Rattle.job.specs.Store.{jobOf}
+use Rattle.job.specs.Stored.{Stored}
 use Rattle.job.specs.declared.head.Head.{Head}
 use Rattle.job.specs.declared.head.Refusal.{Refusal}
 use Rattle.semantics.specs.CompilingTable.{flat}
 use Rattle.compile.specs.CompiledJob.{stepsOf, positionCount, stepCount, fits}
 use Rattle.compile.specs.declared.sizes.Sizes.{Sizes}
-use Rattle.plans.specs.PlanText.{mostEntries}
 use Rattle.validate.specs.Ready.{Ready, EntriesBelow}
 use Rattle.validate.specs.Verdict.{verdictOf}
 use Rattle.validate.specs.declared.verdict.Verdict.{Verdict}
 use Rattle.plans.proofs.PlanTold.{plan-told}
 use Rattle.offers.specs.Refusals.{Checked, passed, refused, next, Offer, jobsOf, keyFor, boundFor, offerIn, listNeed, listLong}
+use Rattle.offers.specs.Load.{Sized}
 use Rattle.offers.specs.Offer.{offerOf, Fitting, offerRefusal}
 use Rattle.offers.specs.declared.offer.Sort.{Sort}
 use Rattle.offers.specs.declared.offer.Offered.{Offered}
-use Rattle.offers.proofs.LoadLaws.{passed-right}
 use Rattle.offers.proofs.OfferLaws.{offer-taken}
 use Rattle.jesmovit.specs.Compiling.{listAfter}
 use Rattle.jesmovit.specs.Checking.{checking, Says, Answers, says, refuses, Checks}
@@ -72,17 +72,14 @@ module _ (sort : Sort) (text plan list : List ℕ) where
       passes : passed o ≡ offerIn sort text plan
       passes = ap (λ (x : Offered). offerOf x rows entries) (sym g) ∙ e
 
-      fitting : (s .positions ≡ positionCount j) × (s .steps ≡ stepCount j) × (n ≤ mostEntries)
+      fitting : Sized h rows s × (n ≤ mostEntries)
       fitting = rw g at m
 
-      sized : (s .positions ≡ positionCount j) × (s .steps ≡ stepCount j)
-      sized = (fitting .0, fitting .1)
+      pub offer-sized : Sized h rows s
+      offer-sized = fitting .0
 
       pub offer-room : n ≤ mostEntries
-      offer-room = fitting .2
-
-      pub offer-right : WellFormed (jobOf h rows) × (fits (jobOf h rows) ≡ true)
-      offer-right = passed-right text j (offer-taken sort text plan o (sym passes) .0)
+      offer-room = fitting .1
 
       listed : (b : Bool) → leb (listNeed j) (length list) ≡ b → cond b (passed o) (refused 6 (listNeed j)) ≡ c₀
       listed b f = ap (λ (x : Bool). cond x (passed o) (refused 6 (listNeed j))) (sym f) ∙ lists (passed o) passes
@@ -90,19 +87,19 @@ module _ (sort : Sort) (text plan list : List ℕ) where
       pub checking-short : length list < s .steps * 4 → {r : Refusal} → r ≡ record { number = 6; place = s .steps * 4 }
           → refused (r .number) (r .place) ≡ checking sort text plan (length list)
       checking-short l f =
-          ap (λ (x : Refusal). refused (x .number) (x .place)) f ∙ ap (λ (k : ℕ). refused 6 (k * 4)) (sized .1)
-          ∙ listed false (lt-leb (listNeed j) (length list) (omega (arith, sized .1)))
+          ap (λ (x : Refusal). refused (x .number) (x .place)) f ∙ ap (λ (k : ℕ). refused 6 (k * 4)) (offer-sized .steps)
+          ∙ listed false (lt-leb (listNeed j) (length list) (omega (arith, offer-sized .steps)))
 
       module _ (l : s .steps * 4 ≤ length list) where
-        pub check-ready : WellFormed (jobOf h rows) × ((fits (jobOf h rows) ≡ true) × (stepCount (jobOf h rows) * 4 ≤ length list))
-        check-ready = list-ready h rows s sized offer-right list l
+        pub check-ready : Stored h rows × ((fits (jobOf h rows) ≡ true) × (stepCount (jobOf h rows) * 4 ≤ length list))
+        check-ready = list-ready h rows s offer-sized list l
 
-        pub check-handed : {after : List ℕ} → after ≡ sets list 0 (flat (stepsOf (jobOf h rows))) → length rows ≡ allRows * 4
+        pub check-handed : {after : List ℕ} → after ≡ sets list 0 (flat (stepsOf (jobOf h rows)))
             → Ready h rows (take (s .steps * 4 - 0) after) (s .positions) × EntriesBelow (take (n - 0) entries) (boundFor sort (jobOf h rows))
-        check-handed f size =
+        check-handed f =
             let r = plan-told (keyFor sort) (boundFor sort j) plan (take n entries) (offer-taken sort text plan o (sym passes) .1) in
-            (front-ready h rows s sized offer-right list l f size, rw (part-front n entries) (record { few = r .0; below = r .1 }))
+            (front-ready h rows s offer-sized list l f, rw (part-front n entries) (record { few = r .0; below = r .1 }))
 
         pub checking-passed : (passed (record { job = jobOf h rows; entries = take (n - 0) entries }) ≡ checking sort text plan (length list))
             × (s .positions ≡ positionCount (jobOf h rows)) × (s .steps ≡ stepCount (jobOf h rows))
-        checking-passed = (rw (part-front n entries) (listed true (le-leb (listNeed j) (length list) (omega (arith, sized .1)))), sized .0, sized .1)
+        checking-passed = (rw (part-front n entries) (listed true (le-leb (listNeed j) (length list) (omega (arith, offer-sized .steps)))), offer-sized .positions, offer-sized .steps)

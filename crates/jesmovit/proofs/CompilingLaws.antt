@@ -10,8 +10,8 @@ use lib.ListN.{length, take}
 use lib.Seq.{sets}
 use borrow.Author.Tests.{le-leb, lt-leb}
 use Rattle.job.specs.Job.{Job}
-use Rattle.job.specs.Store.{allRows, jobOf}
-use Rattle.job.specs.WellFormed.{WellFormed}
+use Rattle.job.specs.Store.{jobOf}
+use Rattle.job.specs.Stored.{Stored}
 use Rattle.job.specs.declared.head.Head.{Head}
 use Rattle.job.specs.declared.head.Refusal.{Refusal}
 use Rattle.semantics.specs.CompilingTable.{flat}
@@ -19,9 +19,9 @@ use Rattle.compile.specs.CompiledJob.{stepsOf, positionCount, stepCount, fits}
 use Rattle.compile.specs.declared.sizes.Sizes.{Sizes}
 use Rattle.validate.specs.Ready.{Ready}
 use Rattle.offers.specs.Refusals.{Checked, passed, refused, next, jobIn, listNeed, listLong}
-use Rattle.offers.specs.Load.{checkedOf, Measured, loadRefusal}
+use Rattle.offers.specs.Load.{checkedOf, Sized, Measured, loadRefusal}
 use Rattle.offers.specs.declared.load.Loaded.{Loaded}
-use Rattle.offers.proofs.LoadLaws.{passed-right, loaded-refused, loaded-passed, loaded-sized}
+use Rattle.offers.proofs.LoadLaws.{loaded-refused, loaded-passed, loaded-sized}
 use Rattle.jesmovit.specs.Compiling.{compiling, compileAnswer, listAfter}
 use Rattle.jesmovit.specs.declared.compiling.CompileAnswer.{CompileAnswer}
 use Rattle.jesmovit.proofs.FrontLaws.{list-ready, front-ready}
@@ -54,11 +54,8 @@ module _ (text list rows : List ℕ) (a : Loaded) (e : checkedOf a rows ≡ jobI
     passes : passed j ≡ jobIn text
     passes = loaded-passed text rows a e h s g
 
-    sized : (s .positions ≡ positionCount j) × (s .steps ≡ stepCount j)
-    sized = loaded-sized text rows a e h s g m
-
-    pub load-right : WellFormed (jobOf h rows) × (fits (jobOf h rows) ≡ true)
-    load-right = passed-right text j (sym passes)
+    pub load-sized : Sized h rows s
+    load-sized = loaded-sized text rows a e h s g m
 
     lists : (b : Bool) → leb (listNeed j) (length list) ≡ b → cond b (passed j) (refused 6 (listNeed j)) ≡ compiling text (length list)
     unfolding compiling
@@ -67,17 +64,16 @@ module _ (text list rows : List ℕ) (a : Loaded) (e : checkedOf a rows ≡ jobI
     pub compiling-short : length list < s .steps * 4 → {r : Refusal} → r ≡ record { number = 6; place = s .steps * 4 }
         → refused (r .number) (r .place) ≡ compiling text (length list)
     compiling-short l f =
-        ap (λ (x : Refusal). refused (x .number) (x .place)) f ∙ ap (λ (k : ℕ). refused 6 (k * 4)) (sized .1)
-        ∙ lists false (lt-leb (listNeed j) (length list) (omega (arith, sized .1)))
+        ap (λ (x : Refusal). refused (x .number) (x .place)) f ∙ ap (λ (k : ℕ). refused 6 (k * 4)) (load-sized .steps)
+        ∙ lists false (lt-leb (listNeed j) (length list) (omega (arith, load-sized .steps)))
 
     module _ (l : s .steps * 4 ≤ length list) where
-      pub compile-ready : WellFormed (jobOf h rows) × ((fits (jobOf h rows) ≡ true) × (stepCount (jobOf h rows) * 4 ≤ length list))
-      compile-ready = list-ready h rows s sized load-right list l
+      pub compile-ready : Stored h rows × ((fits (jobOf h rows) ≡ true) × (stepCount (jobOf h rows) * 4 ≤ length list))
+      compile-ready = list-ready h rows s load-sized list l
 
-      pub compiled-ready : {after : List ℕ} → after ≡ sets list 0 (flat (stepsOf (jobOf h rows))) → length rows ≡ allRows * 4
-          → Ready h rows (take (s .steps * 4 - 0) after) (s .positions)
-      compiled-ready f size = front-ready h rows s sized load-right list l f size
+      pub compiled-ready : {after : List ℕ} → after ≡ sets list 0 (flat (stepsOf (jobOf h rows))) → Ready h rows (take (s .steps * 4 - 0) after) (s .positions)
+      compiled-ready = front-ready h rows s load-sized list l
 
       pub compiling-passed : (passed (jobOf h rows) ≡ compiling text (length list))
           × (s .positions ≡ positionCount (jobOf h rows)) × (s .steps ≡ stepCount (jobOf h rows))
-      compiling-passed = (lists true (le-leb (listNeed j) (length list) (omega (arith, sized .1))), sized .0, sized .1)
+      compiling-passed = (lists true (le-leb (listNeed j) (length list) (omega (arith, load-sized .steps))), load-sized .positions, load-sized .steps)

@@ -10,7 +10,6 @@ use lib.ListN.{length}
 use lib.Seq.{sets}
 use borrow.Author.Tests.{le-leb, lt-leb}
 use Rattle.job.specs.Job.{Job}
-use Rattle.job.specs.StateCount.{stateCount}
 use Rattle.job.specs.declared.head.Refusal.{Refusal}
 use Rattle.semantics.specs.Program.{Program}
 use Rattle.semantics.specs.Domain.{Domain}
@@ -42,9 +41,9 @@ module _ (D : Domain) (σ : Program) where
 
 -- a table's length, told
 module _ {A : Type 0} (a : A) (j : Job) (places : ℕ) {cells positions : ℕ} (p : positions ≡ positionCount j)
-    (f : cells ≡ stateCount (j .scalars .facts) * positions) where
+    (f : cells ≡ domainOf j .states * positions) where
   enough : cells ≡ tableNeed j
-  enough = f ∙ ap (λ (k : ℕ). stateCount (j .scalars .facts) * k) p
+  enough = f ∙ ap (λ (k : ℕ). domainOf j .states * k) p
 
   told : (b : Bool) → leb (tableNeed j) places ≡ b → cond b (passed a) (refused 6 (tableNeed j)) ≡ tableLong places j a
   told b g = ap (λ (x : Bool). cond x (passed a) (refused 6 (tableNeed j))) (sym g)
@@ -76,7 +75,7 @@ module _ (text list table : List ℕ) where
   cost-refused {r} f = let c = refused (r .number) (r .place) in answered c (tables c f) (not-costed refl, refl)
 
   module _ (j : Job) {positions steps cells : ℕ} (e : (passed j ≡ compiling text (length list)) × (positions ≡ positionCount j) × (steps ≡ stepCount j))
-      (f : cells ≡ stateCount (j .scalars .facts) * positions) where
+      (f : cells ≡ domainOf j .states * positions) where
     pub cost-short : length table < cells → {r : Refusal} → r ≡ record { number = 6; place = cells }
         → CostsLeast text list table (LeastAnswer.Refused r) list table
     cost-short l {r} g =

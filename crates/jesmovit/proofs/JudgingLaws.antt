@@ -13,7 +13,6 @@ use borrow.Author.Tests.{leb-true, leb-false}
 use types.Run.{OneOf}
 use denote.Enum.Declared.{tagOf}
 use Rattle.job.specs.Job.{Job}
-use Rattle.job.specs.StateCount.{stateCount}
 use Rattle.job.specs.declared.head.Refusal.{Refusal}
 use Rattle.semantics.specs.Program.{Program}
 use Rattle.semantics.specs.Domain.{Domain}
@@ -100,7 +99,7 @@ module _ (text plan list table : List ℕ) where
 
   module _ (o : Offer) {positions steps cells : ℕ}
       (e : (passed o ≡ checking Moves text plan (length list)) × (positions ≡ positionCount (o .job)) × (steps ≡ stepCount (o .job)))
-      (f : cells ≡ stateCount (o .job .scalars .facts) * positions) where
+      (f : cells ≡ domainOf (o .job) .states * positions) where
     pub judge-short : length table < cells → {r : Refusal} → r ≡ record { number = 6; place = cells }
         → Judges text plan list table (JudgeAnswer.Refused r) list table
     judge-short l {r} g =

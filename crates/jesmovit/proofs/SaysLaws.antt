@@ -1,9 +1,10 @@
 -- The verdicts that the checks compute are those of "Verdicts".
 -- Assumes nothing.
 use Prim.Native.Nat.{ℕ, _-_}
-use mathlib.Core.Path.{_≡_, _∙_, ap, subst}
+use mathlib.Core.Path.{_≡_, ap, subst}
 use mathlib.Core.List.{List}
 use lib.ListN.{length}
+use Rattle.limits.specs.Limits.{mostPositions}
 use Rattle.job.specs.Job.{Job}
 use Rattle.job.specs.Store.{jobOf}
 use Rattle.job.specs.declared.head.Head.{Head}
@@ -12,7 +13,7 @@ use Rattle.semantics.specs.PositionSets.{verdictBy}
 use Rattle.semantics.specs.StepVerdict.{stepVerdict}
 use Rattle.semantics.proofs.CheckLaws.{verdict-by-judged}
 use Rattle.semantics.proofs.StepVerdictLaws.{step-verdict-judged}
-use Rattle.domain.specs.Domain.{domainOf}
+use Rattle.domain.specs.Domain.{domainIn}
 use Rattle.compile.specs.Program.{programOf}
 use Rattle.compile.specs.CompiledJob.{stepsOf, positionCount}
 use Rattle.validate.specs.Ready.{Ready, EntriesBelow}
@@ -20,7 +21,6 @@ use Rattle.validate.proofs.ReadyLaws.{final-below}
 use Rattle.offers.specs.Refusals.{boundFor}
 use Rattle.offers.specs.declared.offer.Sort.{Sort}
 use Rattle.offers.specs.declared.offer.Sort.the-variants.{Moves, Steps}
-use Rattle.offers.proofs.OfferLaws.{moves-of}
 use Rattle.jesmovit.specs.Checking.{Says}
 
 module _ (h : Head) (rows plan : List ℕ) where
@@ -28,17 +28,17 @@ module _ (h : Head) (rows plan : List ℕ) where
   j = jobOf h rows
 
   module _ {sort : Sort} (e : sort ≡ Moves) where
-    pub move-entries : EntriesBelow plan (boundFor sort (jobOf h rows)) → EntriesBelow plan (h .counts .moves)
-    move-entries x = subst (λ (b : ℕ). EntriesBelow plan b) (ap (λ (s : Sort). boundFor s j) e ∙ moves-of h rows) x
+    pub move-entries : EntriesBelow plan (boundFor sort (jobOf h rows)) → EntriesBelow plan (domainIn h rows .moves)
+    move-entries x = subst (λ (b : ℕ). EntriesBelow plan b) (ap (λ (s : Sort). boundFor s j) e) x
 
-    pub says-moves : {list : List ℕ} {positions : ℕ} → Ready h rows list positions → {v : Verdict} → v ≡ verdictBy 256 (domainOf (jobOf h rows)) (programOf (jobOf h rows)) plan
+    pub says-moves : {list : List ℕ} {positions : ℕ} → Ready h rows list positions → {v : Verdict} → v ≡ verdictBy mostPositions (domainIn h rows) (programOf (jobOf h rows)) plan
         → Says sort (record { job = jobOf h rows; entries = plan }) v
-    says-moves r f = rw (e, f) (verdict-by-judged (domainOf j) (programOf j) 256 (final-below r) plan)
+    says-moves r f = rw (e, f) (verdict-by-judged (domainIn h rows) (programOf j) mostPositions (final-below r) plan)
 
   module _ {sort : Sort} (e : sort ≡ Steps) where
     pub step-entries : EntriesBelow plan (boundFor sort (jobOf h rows)) → EntriesBelow plan (length (stepsOf (jobOf h rows)))
     step-entries x = subst (λ (b : ℕ). EntriesBelow plan b) (ap (λ (s : Sort). boundFor s j) e) x
 
-    pub says-steps : {list : List ℕ} {positions : ℕ} → Ready h rows list positions → {v : Verdict} → v ≡ stepVerdict (domainOf (jobOf h rows)) (stepsOf (jobOf h rows)) (positions - 1) plan
+    pub says-steps : {list : List ℕ} {positions : ℕ} → Ready h rows list positions → {v : Verdict} → v ≡ stepVerdict (domainIn h rows) (stepsOf (jobOf h rows)) (positions - 1) plan
         → Says sort (record { job = jobOf h rows; entries = plan }) v
-    says-steps r f = rw (e, f, r .positions) (step-verdict-judged (domainOf j) (stepsOf j) (positionCount j - 1) plan)
+    says-steps r f = rw (e, f, r .positions) (step-verdict-judged (domainIn h rows) (stepsOf j) (positionCount j - 1) plan)

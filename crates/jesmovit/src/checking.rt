@@ -6,10 +6,10 @@ ghost use Rattle.offers.specs.Refusals.{boundFor};
 ghost use Rattle.jesmovit.specs.Checking.{Says, Checks};
 use job::head::Head;
 use job::head::Refusal;
-use job::rows::TABLE;
+use job::rows::STORE;
+use limits::ENTRIES;
 use offers::offer::Offered;
 use offers::offer::Sort;
-use plans::plan_text::ENTRIES;
 use validate::verdict::Verdict;
 
 // The verdict on a plan; or why the texts or the list are refused.
@@ -40,7 +40,7 @@ fn verdict(
 fn check(sort: Sort, text: &[u8], plan: &[u8], list: &mut [u16]) -> CheckAnswer
     ensures { λ r. ⌜ Checks sort (now (text .entry)) (now (plan .entry)) (now (list .entry)) r (now (list .exit)) ⌝ }
 {
-    let mut rows = [0u16; TABLE];
+    let mut rows = [0u16; STORE];
     let mut entries = [0u16; ENTRIES];
     let offered = offers::offer::offer(sort, text, plan, &mut rows, &mut entries);
     let Offered::Ready(head, sizes, n) = offered else {

@@ -3,7 +3,7 @@ ghost use mathlib.Core.Path.{_≡_};
 ghost use lib.ListN.{length};
 ghost use Rattle.jesmovit.specs.Compiling.{compiling, compileAnswer, listAfter};
 use job::head::Refusal;
-use job::rows::TABLE;
+use job::rows::STORE;
 use offers::load::Loaded;
 
 // How many positions and steps the compiled job has; or why it is refused.
@@ -16,7 +16,7 @@ pub enum CompileAnswer {
 pub fn compile(text: &[u8], list: &mut [u16]) -> CompileAnswer
     ensures { λ r. ⌜ (r ≡ compileAnswer (compiling (now (text .entry)) (length (now (list .entry))))) × (now (list .exit) ≡ listAfter (compiling (now (text .entry)) (length (now (list .entry)))) (now (list .entry))) ⌝ }
 {
-    let mut rows = [0u16; TABLE];
+    let mut rows = [0u16; STORE];
     let loaded = offers::load::load(text, &mut rows);
     let Loaded::Ready(head, sizes) = loaded else {
         let r = offers::load::refusal(loaded);

@@ -4,7 +4,7 @@ ghost use Rattle.job.specs.ReadJob.{readJob};
 ghost use Rattle.jesmovit.specs.JobText.{readAnswer};
 use job::head::Counts;
 use job::head::Refusal;
-use job::rows::TABLE;
+use job::rows::STORE;
 use reader::reading::Answer;
 
 // How many facts and rows of each sort the job has; or why the text is refused.
@@ -17,8 +17,8 @@ pub enum ReadAnswer {
 pub fn read_job(text: &[u8]) -> ReadAnswer
     ensures { λ r. ⌜ r ≡ readAnswer (readJob (now (text .entry))) ⌝ }
 {
-    let mut table = [0u16; TABLE];
-    let answer = reader::reading::read_job(text, &mut table);
+    let mut rows = [0u16; STORE];
+    let answer = reader::reading::read_job(text, &mut rows);
     let Answer::Read(_, head) = answer else {
         let r = reader::reading::refusal(answer);
         return ReadAnswer::Refused(r);

@@ -2,17 +2,17 @@
 ghost use mathlib.Core.Path.{_≡_};
 ghost use Prim.Native.Nat.{_*_, _≤_};
 ghost use lib.ListN.{length};
-ghost use Rattle.job.specs.StateCount.{stateCount};
 ghost use Rattle.job.specs.Store.{jobOf};
+ghost use Rattle.domain.specs.Domain.{domainIn};
 ghost use Rattle.validate.specs.Ready.{Ready, EntriesBelow};
 ghost use Rattle.jesmovit.specs.Judging.{CostsLeast, compared, Found, Judges};
 use job::head::Head;
 use job::head::Refusal;
-use job::rows::TABLE;
+use job::rows::STORE;
+use limits::ENTRIES;
 use offers::load::Loaded;
 use offers::offer::Offered;
 use offers::offer::Sort;
-use plans::plan_text::ENTRIES;
 use validate::verdict::Verdict;
 
 // The least cost of all plans that the job's program allows, or none where it allows no plan of any length; or why the text, the list or the table is refused.
@@ -40,7 +40,7 @@ pub enum JudgeAnswer {
 pub fn least_cost(text: &[u8], list: &mut [u16], table: &mut [u32]) -> LeastAnswer
     ensures { λ r. ⌜ CostsLeast (now (text .entry)) (now (list .entry)) (now (table .entry)) r (now (list .exit)) (now (table .exit)) ⌝ }
 {
-    let mut rows = [0u16; TABLE];
+    let mut rows = [0u16; STORE];
     let loaded = offers::load::load(text, &mut rows);
     let Loaded::Ready(head, sizes) = loaded else {
         let r = offers::load::refusal(loaded);
@@ -51,7 +51,7 @@ pub fn least_cost(text: &[u8], list: &mut [u16], table: &mut [u32]) -> LeastAnsw
         let short = offers::room::too_short(need);
         return LeastAnswer::Refused(short);
     }
-    let cells = offers::room::cells(head, sizes.positions);
+    let cells = offers::room::cells(head, &rows, sizes.positions);
     if table.len() < cells {
         let short = offers::room::too_short(cells);
         return LeastAnswer::Refused(short);
@@ -76,7 +76,7 @@ fn compare(cost: u32, least: u32) -> Judgement
 
 // What the entries of a plan are, and the cost table filled if they are a plan. The list holds the compiled job's steps and nothing else.
 fn judge_entries(
-    table: &mut [u32],
+    costs: &mut [u32],
     head: Head,
     rows: &[u16],
     list: &[u16],
@@ -84,15 +84,15 @@ fn judge_entries(
     plan: &[u16],
 ) -> Judgement
     requires { ⌜ Ready head (now rows) (now list) positions ⌝ }
-    requires { ⌜ EntriesBelow (now plan) (head .counts .moves) ⌝ }
-    requires { ⌜ stateCount (head .counts .facts) * positions ≤ length (now table) ⌝ }
-    ensures { λ r. ⌜ Found (jobOf head (now (rows .entry))) (now (plan .entry)) r (now (table .entry)) (now (table .exit)) ⌝ }
+    requires { ⌜ EntriesBelow (now plan) (domainIn head (now rows) .moves) ⌝ }
+    requires { ⌜ domainIn head (now rows) .states * positions ≤ length (now costs) ⌝ }
+    ensures { λ r. ⌜ Found (jobOf head (now (rows .entry))) (now (plan .entry)) r (now (costs .entry)) (now (costs .exit)) ⌝ }
 {
     let verdict = validate::moves::check_moves(head, rows, list, positions, plan);
     let Verdict::Plan(cost) = verdict else {
         return Judgement::Other(verdict);
     };
-    let least = search::least::least_cost(table, head, rows, list, positions);
+    let least = search::least::least_cost(costs, head, rows, list, positions);
     compare(cost, least)
 }
 
@@ -101,7 +101,7 @@ fn judge_entries(
 pub fn judge(text: &[u8], plan: &[u8], list: &mut [u16], table: &mut [u32]) -> JudgeAnswer
     ensures { λ r. ⌜ Judges (now (text .entry)) (now (plan .entry)) (now (list .entry)) (now (table .entry)) r (now (list .exit)) (now (table .exit)) ⌝ }
 {
-    let mut rows = [0u16; TABLE];
+    let mut rows = [0u16; STORE];
     let mut entries = [0u16; ENTRIES];
     let offered = offers::offer::offer(Sort::Moves, text, plan, &mut rows, &mut entries);
     let Offered::Ready(head, sizes, n) = offered else {
@@ -113,7 +113,7 @@ pub fn judge(text: &[u8], plan: &[u8], list: &mut [u16], table: &mut [u32]) -> J
         let short = offers::room::too_short(need);
         return JudgeAnswer::Refused(short);
     }
-    let size = offers::room::cells(head, sizes.positions);
+    let size = offers::room::cells(head, &rows, sizes.positions);
     if table.len() < size {
         let short = offers::room::too_short(size);
         return JudgeAnswer::Refused(short);

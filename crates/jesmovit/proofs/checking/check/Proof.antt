@@ -11,13 +11,13 @@ returns-2 : tie.Need-returns-2
 returns-2 c = check-refused (c .before .before .before .before .before .before .before .before .before .before .before .before .before .before .args .sort) (c .before .before .before .before .before .before .before .before .before .before .before .before .before .before .args .text .now) (c .before .before .before .before .before .before .before .before .before .before .before .before .before .before .args .plan .now) (c .before .before .before .before .before .before .before .before .before .before .before .before .before .before .args .list .now) (checking-short (c .before .before .before .before .before .before .before .before .before .before .before .before .before .before .args .sort) (c .before .before .before .before .before .before .before .before .before .before .before .before .before .before .args .text .now) (c .before .before .before .before .before .before .before .before .before .before .before .before .before .before .args .plan .now) (c .before .before .before .before .before .before .before .before .before .before .before .before .before .before .args .list .now) (c .before .before .before .before .before .before .before .before .offer .last .1 .1 .1 .0) (c .before .before .before .before .before .before .before .before .offer .last .1 .1 .1 .1 .0) (c .before .before .before .before .before .before .before .before .offer .result) (c .before .before .before .before .before .before .before .before .offer .ensures .0) _ _ _ (c .before .before .before .before .offered .given .1) (c .before .before .before .before .before .before .before .before .offer .ensures .1) (c .before .if1 .taken) (c .too-short .ensures))
 
 compile-requires : tie.Need-compile-requires
-compile-requires c κs = (c .before .before .before .before .before .before .before .before .before .offer .kept .1 .1 .1 .0, check-ready (c .before .before .before .before .before .before .before .before .before .before .before .before .before .before .before .args .sort) (c .before .before .before .before .before .before .before .before .before .before .before .before .before .before .before .args .text .now) (c .before .before .before .before .before .before .before .before .before .before .before .before .before .before .before .args .plan .now) (c .before .before .before .before .before .before .before .before .before .before .before .before .before .before .before .args .list .now) (c .before .before .before .before .before .before .before .before .before .offer .last .1 .1 .1 .0) (c .before .before .before .before .before .before .before .before .before .offer .last .1 .1 .1 .1 .0) (c .before .before .before .before .before .before .before .before .before .offer .result) (c .before .before .before .before .before .before .before .before .before .offer .ensures .0) _ _ _ (c .before .before .before .before .before .offered .given .1) (c .before .before .before .before .before .before .before .before .before .offer .ensures .1) (c .before .before .if1 .left))
+compile-requires c κs = check-ready (c .before .before .before .before .before .before .before .before .before .before .before .before .before .before .before .args .sort) (c .before .before .before .before .before .before .before .before .before .before .before .before .before .before .before .args .text .now) (c .before .before .before .before .before .before .before .before .before .before .before .before .before .before .before .args .plan .now) (c .before .before .before .before .before .before .before .before .before .before .before .before .before .before .before .args .list .now) (c .before .before .before .before .before .before .before .before .before .offer .last .1 .1 .1 .0) (c .before .before .before .before .before .before .before .before .before .offer .last .1 .1 .1 .1 .0) (c .before .before .before .before .before .before .before .before .before .offer .result) (c .before .before .before .before .before .before .before .before .before .offer .ensures .0) _ _ _ (c .before .before .before .before .before .offered .given .1) (c .before .before .before .before .before .before .before .before .before .offer .ensures .1) (c .before .before .if1 .left)
 
 part-verdict-end-2 : tie.Need-part-verdict-end-2
 part-verdict-end-2 c = omega (arith, offer-room (c .before .before .before .before .before .before .before .before .before .before .before .before .before .before .before .before .before .before .before .before .before .before .args .sort) (c .before .before .before .before .before .before .before .before .before .before .before .before .before .before .before .before .before .before .before .before .before .before .args .text .now) (c .before .before .before .before .before .before .before .before .before .before .before .before .before .before .before .before .before .before .before .before .before .before .args .plan .now) (c .before .before .before .before .before .before .before .before .before .before .before .before .before .before .before .before .before .before .before .before .before .before .args .list .now) (c .before .before .before .before .before .before .before .before .before .before .before .before .before .before .before .before .offer .last .1 .1 .1 .0) (c .before .before .before .before .before .before .before .before .before .before .before .before .before .before .before .before .offer .last .1 .1 .1 .1 .0) (c .before .before .before .before .before .before .before .before .before .before .before .before .before .before .before .before .offer .result) (c .before .before .before .before .before .before .before .before .before .before .before .before .before .before .before .before .offer .ensures .0) _ _ _ (c .before .before .before .before .before .before .before .before .before .before .before .before .offered .given .1) (c .before .before .before .before .before .before .before .before .before .before .before .before .before .before .before .before .offer .ensures .1), c .before .before .before .before .before .before .before .before .before .before .before .before .before .before .before .before .offer .kept .1 .1 .1 .1 .0)
 
 verdict-requires : tie.Need-verdict-requires
-verdict-requires c κs = check-handed (c .before .before .before .before .before .before .before .before .before .before .before .before .before .before .before .before .before .before .before .before .before .before .before .args .sort) (c .before .before .before .before .before .before .before .before .before .before .before .before .before .before .before .before .before .before .before .before .before .before .before .args .text .now) (c .before .before .before .before .before .before .before .before .before .before .before .before .before .before .before .before .before .before .before .before .before .before .before .args .plan .now) (c .before .before .before .before .before .before .before .before .before .before .before .before .before .before .before .before .before .before .before .before .before .before .before .args .list .now) (c .before .before .before .before .before .before .before .before .before .before .before .before .before .before .before .before .before .offer .last .1 .1 .1 .0) (c .before .before .before .before .before .before .before .before .before .before .before .before .before .before .before .before .before .offer .last .1 .1 .1 .1 .0) (c .before .before .before .before .before .before .before .before .before .before .before .before .before .before .before .before .before .offer .result) (c .before .before .before .before .before .before .before .before .before .before .before .before .before .before .before .before .before .offer .ensures .0) _ _ _ (c .before .before .before .before .before .before .before .before .before .before .before .before .before .offered .given .1) (c .before .before .before .before .before .before .before .before .before .before .before .before .before .before .before .before .before .offer .ensures .1) (c .before .before .before .before .before .before .before .before .before .before .if1 .left) (c .before .before .before .before .before .before .before .compile .ensures) (c .before .before .before .before .before .before .before .before .before .before .before .before .before .before .before .before .before .offer .kept .1 .1 .1 .0)
+verdict-requires c κs = check-handed (c .before .before .before .before .before .before .before .before .before .before .before .before .before .before .before .before .before .before .before .before .before .before .before .args .sort) (c .before .before .before .before .before .before .before .before .before .before .before .before .before .before .before .before .before .before .before .before .before .before .before .args .text .now) (c .before .before .before .before .before .before .before .before .before .before .before .before .before .before .before .before .before .before .before .before .before .before .before .args .plan .now) (c .before .before .before .before .before .before .before .before .before .before .before .before .before .before .before .before .before .before .before .before .before .before .before .args .list .now) (c .before .before .before .before .before .before .before .before .before .before .before .before .before .before .before .before .before .offer .last .1 .1 .1 .0) (c .before .before .before .before .before .before .before .before .before .before .before .before .before .before .before .before .before .offer .last .1 .1 .1 .1 .0) (c .before .before .before .before .before .before .before .before .before .before .before .before .before .before .before .before .before .offer .result) (c .before .before .before .before .before .before .before .before .before .before .before .before .before .before .before .before .before .offer .ensures .0) _ _ _ (c .before .before .before .before .before .before .before .before .before .before .before .before .before .offered .given .1) (c .before .before .before .before .before .before .before .before .before .before .before .before .before .before .before .before .before .offer .ensures .1) (c .before .before .before .before .before .before .before .before .before .before .if1 .left) (c .before .before .before .before .before .before .before .compile .ensures)
 
 returns-3 : tie.Need-returns-3
 returns-3 c = check-done (c .before .before .before .before .before .before .before .before .before .before .before .before .before .before .before .before .before .before .before .before .before .before .before .before .args .sort) (c .before .before .before .before .before .before .before .before .before .before .before .before .before .before .before .before .before .before .before .before .before .before .before .before .args .text .now) (c .before .before .before .before .before .before .before .before .before .before .before .before .before .before .before .before .before .before .before .before .before .before .before .before .args .plan .now) (c .before .before .before .before .before .before .before .before .before .before .before .before .before .before .before .before .before .before .before .before .before .before .before .before .args .list .now) (checking-passed (c .before .before .before .before .before .before .before .before .before .before .before .before .before .before .before .before .before .before .before .before .before .before .before .before .args .sort) (c .before .before .before .before .before .before .before .before .before .before .before .before .before .before .before .before .before .before .before .before .before .before .before .before .args .text .now) (c .before .before .before .before .before .before .before .before .before .before .before .before .before .before .before .before .before .before .before .before .before .before .before .before .args .plan .now) (c .before .before .before .before .before .before .before .before .before .before .before .before .before .before .before .before .before .before .before .before .before .before .before .before .args .list .now) (c .before .before .before .before .before .before .before .before .before .before .before .before .before .before .before .before .before .before .offer .last .1 .1 .1 .0) (c .before .before .before .before .before .before .before .before .before .before .before .before .before .before .before .before .before .before .offer .last .1 .1 .1 .1 .0) (c .before .before .before .before .before .before .before .before .before .before .before .before .before .before .before .before .before .before .offer .result) (c .before .before .before .before .before .before .before .before .before .before .before .before .before .before .before .before .before .before .offer .ensures .0) _ _ _ (c .before .before .before .before .before .before .before .before .before .before .before .before .before .before .offered .given .1) (c .before .before .before .before .before .before .before .before .before .before .before .before .before .before .before .before .before .before .offer .ensures .1) (c .before .before .before .before .before .before .before .before .before .before .before .if1 .left) .0) (c .before .before .before .before .before .before .before .before .compile .ensures) (c .verdict .ensures)

@@ -28,9 +28,10 @@ order-requires c κs =
 lower-requires : tie.Need-lower-requires
 lower-requires c κs =
     let a = c .before .before .before .before .before .before .before .before .before .before .args in
-    let p = c .before .before .before .before .before .before .before .before .before .before .pre in
-    (record { size = c .before .before .order .ensures .size ∙ length-replicate {A = ℕ} queueSize unreached; few = omega (arith, p .0 .1, states-few (p .0 .0 .stored)) },
-      omega (arith, p .0 .1, start-inside (p .0 .0) (p .0 .1) (a .costs .now) (p .1) (c .before .before .before .before .before .start .ensures)))
+    let p = c .before .before .before .before .before .before .before .before .before .before .pre in (
+      record { size = c .before .before .order .ensures .size ∙ length-replicate {A = ℕ} queueSize unreached; few = omega (arith, p .0 .1, states-few (p .0 .0 .stored)) },
+      omega (arith, p .0 .1, start-inside (p .0 .0) (p .0 .1) (a .costs .now) (p .1) (c .before .before .before .before .before .start .ensures)),
+    )
 
 mul-clear : tie.Need-mul-clear
 mul-clear c =
@@ -70,10 +71,11 @@ settle-requires c κs =
     let cleared = c .before .before .before .before .before .clear .ensures in
     let order = c .before .before .before .before .before .before .before .before .before .before .before .order .ensures in
     let low = c .before .before .before .before .before .before .before .before .lower .ensures in
-    let indexed = steps-indexed r (c .before .before .before .before .before .before .before .before .before .before .before .before .before .adjacency-of .ensures) in
-    (search-ready r is _ (p .1) start cleared indexed
-      (record { size = low .size ∙ order .size ∙ length-replicate {A = ℕ} queueSize unreached; few = omega (arith, is, states-few (r .stored)) }),
-      start-relaxed r is _ (p .1) start cleared order low)
+    let indexed = steps-indexed r (c .before .before .before .before .before .before .before .before .before .before .before .before .before .adjacency-of .ensures) in (
+      search-ready r is _ (p .1) start cleared indexed
+          (record { size = low .size ∙ order .size ∙ length-replicate {A = ℕ} queueSize unreached; few = omega (arith, is, states-few (r .stored)) }),
+      start-relaxed r is _ (p .1) start cleared order low,
+    )
 
 same-length : tie.Need-same-length
 same-length c = runs-length (c .before .before .before .settle .ensures .runs) ∙ simp length-set (c .before .before .before .before .before .before .before .before .before .clear .ensures .size)
