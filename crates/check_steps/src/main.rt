@@ -2,7 +2,7 @@
 // one), or the refusal.
 
 // How many numbers the list of steps holds.
-const LIST: usize = 4096;
+const LIST: usize = limits::STEPS * 4;
 
 fn main() {
     let mut text = io::large_buffer();

@@ -2,7 +2,7 @@
 // (job.txt and plan.txt without one), or the refusal.
 
 // How many numbers the list of steps and the cost table hold.
-const LIST: usize = 4096;
+const LIST: usize = limits::STEPS * 4;
 
 const TABLE: usize = 12288;
 

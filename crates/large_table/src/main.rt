@@ -1,9 +1,9 @@
 // large_table JOB: what least_cost JOB prints, with a cost table that has room for every job: twelve facts and 256 positions.
 
 // How many numbers the list of steps and the cost table hold.
-const LIST: usize = 4096;
+const LIST: usize = limits::STEPS * 4;
 
-const TABLE: usize = 1048576;
+const TABLE: usize = limits::STATES * limits::POSITIONS;
 
 fn print_cost(text: &[u8], table: &mut [u32]) {
     let mut list = [0u16; LIST];

@@ -2,7 +2,7 @@
 // (job.txt without one), or its refusal.
 
 // How many numbers the list of steps and the cost table hold.
-const LIST: usize = 4096;
+const LIST: usize = limits::STEPS * 4;
 
 const TABLE: usize = 12288;
 

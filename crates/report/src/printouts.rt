@@ -2,6 +2,7 @@
 ghost use mathlib.Core.Path.{_≡_};
 ghost use Prim.Native.Nat.{_+_, _*_, _≤_};
 ghost use lib.ListN.{length, take};
+ghost use Rattle.limits.specs.Limits.{mostSteps};
 ghost use Rattle.report.specs.Put.{Put, Prints};
 ghost use Rattle.report.specs.Printout.{costLines, judgementLines, compiledLines, countLines};
 ghost use Rattle.report.specs.Printout.{judgePrintout, leastPrintout, compilePrintout, checkPrintout, readPrintout};
@@ -27,7 +28,7 @@ fn front(list: &[u16], steps: u16) -> &[u16]
 }
 
 fn compiled(out: &mut [u8], positions: u16, steps: u16, list: &[u16]) -> usize
-    requires { ⌜ (32768 ≤ length (now out)) × (length (now list) ≤ 4096) ⌝ }
+    requires { ⌜ (32768 ≤ length (now out)) × (length (now list) ≤ mostSteps * 4) ⌝ }
     ensures { λ r. ⌜ Put 28800 (compiledLines positions steps (now (list .entry))) (now (out .entry)) 0 (now (out .exit)) r ⌝ }
 {
     let a = lines::line(out, 0, b"positions=", positions as u64);
@@ -63,7 +64,7 @@ fn judgement(out: &mut [u8], at: usize, j: Judgement) -> usize
 
 // What judging prints.
 pub fn judge(answer: JudgeAnswer, list: &[u16], out: &mut [u8]) -> usize
-    requires { ⌜ (32768 ≤ length (now out)) × (length (now list) ≤ 4096) ⌝ }
+    requires { ⌜ (32768 ≤ length (now out)) × (length (now list) ≤ mostSteps * 4) ⌝ }
     ensures { λ r. ⌜ Prints (judgePrintout answer (now (list .entry))) (now (out .exit)) r ⌝ }
 {
     match answer {
@@ -89,7 +90,7 @@ pub fn least_cost(answer: LeastAnswer, out: &mut [u8]) -> usize
 
 // What compiling prints.
 pub fn compile(answer: CompileAnswer, list: &[u16], out: &mut [u8]) -> usize
-    requires { ⌜ (32768 ≤ length (now out)) × (length (now list) ≤ 4096) ⌝ }
+    requires { ⌜ (32768 ≤ length (now out)) × (length (now list) ≤ mostSteps * 4) ⌝ }
     ensures { λ r. ⌜ Prints (compilePrintout answer (now (list .entry))) (now (out .exit)) r ⌝ }
 {
     match answer {

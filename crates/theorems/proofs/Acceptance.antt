@@ -1,6 +1,6 @@
 -- Demand 1: which texts, lists and tables are not refused, of every operation.
 -- Assumes nothing.
-use Prim.Native.Nat.{ℕ, _^_, _≤_}
+use Prim.Native.Nat.{ℕ, _^_, _≤_, _*_}
 use mathlib.Core.Path.{_≡_, refl, sym, _∙_, ap}
 use mathlib.Core.Bool.{true}
 use mathlib.Core.List.{List}
@@ -8,6 +8,7 @@ use mathlib.Core.Logic.{_↔_}
 use native.Mathlib.Omega.{arith}
 use native.Mathlib.Nat.{mul-le-mul, pow-le-pow-right}
 use lib.ListN.{length}
+use Rattle.limits.specs.Limits.{mostStates, mostPositions, mostSteps}
 use Rattle.text.specs.Bytes.{bytes}
 use Rattle.text.specs.Lines.{lines}
 use Rattle.text.proofs.LineText.{plain}
@@ -121,7 +122,7 @@ module _ (text plan : List ℕ) (places : ℕ) (o : Offer) where
       (λ e. let x = s .0 e in let y = a .0 (x .0) in (y .0, y .1, x .1), λ h. s .1 (a .1 (h .0, h .1), h .2))
 
 -- as the header says: 4,096 numbers of a list, and 1,048,576 of a table, are enough for every job
-pub needs-within : (text : List ℕ) (j : Job) → AcceptedJob text j → (listNeed j ≤ 4096) × (tableNeed j ≤ 1048576)
+pub needs-within : (text : List ℕ) (j : Job) → AcceptedJob text j → (listNeed j ≤ mostSteps * 4) × (tableNeed j ≤ mostStates * mostPositions)
 needs-within text j a =
-    let few : 2 ^ (j .scalars .facts) ≤ 2 ^ 12 = pow-le-pow-right (omega arith) (a .right .facts) in
+    let few : 2 ^ (j .scalars .facts) ≤ mostStates = pow-le-pow-right (omega arith) (a .right .facts) in
     (omega (arith, a .steps), omega (arith, mul-le-mul few (a .positions)))

@@ -4,7 +4,7 @@ use Prim.Native.Nat.{ℕ, _+_}
 use mathlib.Core.Path.{_≡_, refl}
 use mathlib.Core.List.{List, _++_}
 use native.Mathlib.Omega.{arith}
-use Rattle.job.specs.Job.{Job}
+use Rattle.job.specs.Job.{Job, moveAt}
 use Rattle.semantics.specs.Program.{Program}
 use Rattle.semantics.specs.Domain.{Domain}
 use Rattle.semantics.specs.Transition as T
@@ -12,7 +12,7 @@ use Rattle.semantics.specs.Transition.{Transition, Run}
 use Rattle.semantics.specs.Plan.{cost, Allowed}
 use Rattle.semantics.proofs.CostLaws.{cost-first}
 use Rattle.domain.specs.Cost.{classCost}
-use Rattle.domain.specs.Domain.{moveAt, costIn, domainOf}
+use Rattle.domain.specs.Domain.{costIn, domainOf}
 use Rattle.compile.specs.Program.{programOf}
 use Rattle.theorems.specs.CostSum.{sumOf, classSum}
 

@@ -11,7 +11,8 @@ use Rattle.text.specs.Bytes.{bytes}
 use Rattle.theorems.proofs.Fronts.{front-decides}
 use Rattle.text.proofs.LineText.{mostBytes, line-short}
 use Rattle.job.specs.Job.{Job}
-use Rattle.plans.specs.PlanText.{PlanOutcome, mostEntries, entryIn, readEntries, readLines, readPlan}
+use Rattle.limits.specs.Limits.{mostEntries}
+use Rattle.plans.specs.PlanText.{PlanOutcome, entryIn, readEntries, readLines, readPlan}
 use Rattle.offers.specs.Refusals.{keyFor, boundFor}
 use Rattle.offers.specs.declared.offer.Sort.{Sort}
 use Rattle.offers.specs.declared.offer.Sort.the-variants.{Moves, Steps}

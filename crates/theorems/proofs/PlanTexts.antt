@@ -13,7 +13,8 @@ use Rattle.text.specs.Bytes.{bytes}
 use Rattle.text.specs.Lines.{lines}
 use Rattle.text.specs.Written.{lineText}
 use Rattle.text.proofs.LineText.{line-complete, plain, line-of, line-ends}
-use Rattle.plans.specs.PlanText.{listed, mostEntries, entryIn, readEntries, readLines, readPlan, planText}
+use Rattle.limits.specs.Limits.{mostEntries}
+use Rattle.plans.specs.PlanText.{listed, entryIn, readEntries, readLines, readPlan, planText}
 use Rattle.plans.proofs.PlanLaws.{count-right, line-right}
 use Rattle.plans.proofs.PlanTold.{plan-told}
 

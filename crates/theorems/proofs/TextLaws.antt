@@ -11,6 +11,7 @@ use lib.Dec.{ltb, leb}
 use lib.Seq.{length-take-le}
 use lib.ListN.{length, getD, take, drop, length-append, length-drop, length-map, take-append-drop}
 use borrow.Author.Tests.{lt-ltb, le-leb, ne-eqb}
+use Rattle.limits.specs.Limits.{mostFacts, mostFormulas, mostMoves, mostProgram, lastClass}
 use Rattle.laws.proofs.Tests.{and-both}
 use Rattle.text.specs.Written.{Small}
 use Rattle.text.specs.Bytes.{bytes}
@@ -46,7 +47,7 @@ small-within c b (f ∷ fs) [] w = absurd w
 small-within c b (f ∷ fs) (x ∷ xs) w = (omega (arith, w .0, b f), small-within c b fs xs (w .1))
 
 -- counts within the limits bound every field by a small number
-bound-small : (c : Counts) → c .facts ≤ 12 → c .formulas ≤ 255 → c .moves ≤ 64 → c .program ≤ 128 → (f : Field) → bound c f ≤ 65536
+bound-small : (c : Counts) → c .facts ≤ mostFacts → c .formulas ≤ mostFormulas → c .moves ≤ mostMoves → c .program ≤ mostProgram → (f : Field) → bound c f ≤ 65536
 bound-small c a b d e F.Unused = omega arith
 bound-small c a b d e F.Fact = omega arith
 bound-small c a b d e F.Formula = omega arith
@@ -197,18 +198,18 @@ all-drop P (suc c) [] h = tt
 all-drop P (suc c) (a ∷ l) h = all-drop P c l (h .1)
 
 -- a move
-move-step : (due n : ℕ) (j : J.Job) (m : J.Move) (rest : List (List ℕ)) → length (j .formulas) ≤ 255 → MoveFits (length (j .formulas)) m → m .first ≡ length (j .effects)
+move-step : (due n : ℕ) (j : J.Job) (m : J.Move) (rest : List (List ℕ)) → length (j .formulas) ≤ mostFormulas → MoveFits (length (j .formulas)) m → m .first ≡ length (j .effects)
     → readFrom n (on Move (suc due) 0 j) (moveLine m ∷ rest) ≡ readFrom (n + 1) (on (afterMoves due (m .count)) due (m .count) (J.addMove j m)) rest
 move-step due n j m rest h f e =
     let d : suc due - 1 ≡ due = omega arith in
     text-line Move (suc due) 0 j n (m .pre) (m .class ∷ m .count ∷ []) rest refl
     (omega (arith, f .pre), (omega (arith, f .class), (omega (arith, f .count), tt))) refl (le-leb _ _ (f .count))
-    (and-both (ltb (m .pre) (length (j .formulas))) (leb (m .class) 15) (lt-ltb _ _ (f .pre)) (le-leb _ _ (f .class)))
+    (and-both (ltb (m .pre) (length (j .formulas))) (leb (m .class) lastClass) (lt-ltb _ _ (f .pre)) (le-leb _ _ (f .class)))
     ∙ ap (λ k. readFrom (n + 1) (on (afterMoves k (m .count)) k (m .count) (J.addMove j (J.moveOf (length (j .effects)) (m .pre ∷ m .class ∷ m .count ∷ [])))) rest) d
     ∙ ap (λ i. readFrom (n + 1) (on (afterMoves due (m .count)) due (m .count) (J.addMove j (J.moveOf i (m .pre ∷ m .class ∷ m .count ∷ [])))) rest) (sym e)
 
 -- the moves, each with its effects
-module _ (sc : J.Scalars) (fs : List J.Formula) (few : length fs ≤ 255) where
+module _ (sc : J.Scalars) (fs : List J.Formula) (few : length fs ≤ mostFormulas) where
   abbrev P : J.Effect → Type 0
   P e = EffectFits (sc .facts) (length fs) e × Small (e .cond ∷ e .fact ∷ e .value ∷ [])
 
@@ -279,7 +280,7 @@ module _ (j : J.Job) (w : WellFormed j) where
   some-formula e = omega (arith, w .goal)
 
   init-small : j .scalars .init ≤ 65535
-  init-small = let p : 2 ^ facts ≤ 2 ^ 12 = pow-le-pow-right (omega arith) (w .facts) in omega (arith, w .init)
+  init-small = let p : 2 ^ facts ≤ 2 ^ mostFacts = pow-le-pow-right (omega arith) (w .facts) in omega (arith, w .init)
 
   -- the scalars before the goal is read
   abbrev sc : J.Scalars
@@ -293,7 +294,7 @@ module _ (j : J.Job) (w : WellFormed j) where
       ∙ text-line Facts 0 0 (begun .job) (n + 1) facts [] _ refl (omega (arith, w .facts), tt) refl (le-leb _ _ (w .facts)) refl
       ∙ text-line Init 0 0 (made (record { facts = facts; init = 0; goal = 0 }) [] [] [] []) (n + 1 + 1) (j .scalars .init) [] _ refl (init-small, tt) refl (lt-ltb _ _ (w .init)) refl
       ∙ text-line Formulas 0 0 (made sc [] [] [] []) (n + 1 + 1 + 1) (length (j .formulas)) [] tail refl (omega (arith, w .formulas), tt) refl
-      (and-both (leb 1 (length (j .formulas))) (leb (length (j .formulas)) 255) (le-leb 1 (length (j .formulas)) (omega (arith, w .goal))) (le-leb _ 255 (w .formulas))) refl
+      (and-both (leb 1 (length (j .formulas))) (leb (length (j .formulas)) mostFormulas) (le-leb 1 (length (j .formulas)) (omega (arith, w .goal))) (le-leb _ mostFormulas (w .formulas))) refl
       ∙ rw (ne-eqb (length (j .formulas)) 0 some-formula)
 
   program-read : (n : ℕ) → readFrom n (on Goal 0 0 (made sc (j .formulas) (j .moves) (j .effects) [])) (programLines j) ≡ read (n + 1 + 1 + length (j .program)) j
@@ -305,7 +306,7 @@ module _ (j : J.Job) (w : WellFormed j) where
       text-line Goal 0 0 (made sc (j .formulas) (j .moves) (j .effects) []) n (j .scalars .goal) [] (lineOf Program (length (j .program) ∷ []) ∷ map rowLine (j .program))
       refl (omega (arith, w .goal, w .formulas), tt) refl refl (lt-ltb _ _ (w .goal))
       ∙ text-line Program 0 0 (mk []) (n + 1) (length (j .program)) [] (map rowLine (j .program)) refl (omega (arith, w .program), tt) refl
-      (and-both (leb 1 (length (j .program))) (leb (length (j .program)) 128) (le-leb 1 _ (w .last)) (le-leb _ 128 (w .program))) refl
+      (and-both (leb 1 (length (j .program))) (leb (length (j .program)) mostProgram) (le-leb 1 _ (w .last)) (le-leb _ mostProgram (w .program))) refl
       ∙ ap (λ q. readFrom (n + 1 + 1) q (map rowLine (j .program))) start
       ∙ ap (readFrom (n + 1 + 1) (st (length (j .program)) (mk []))) (sym (append-nil (map rowLine (j .program))))
       ∙ rows-read J.addRow mk (λ l x. refl) RowText RowAt (λ l r h. h) st rowLine row-step (j .program) [] (n + 1 + 1) [] row-texts

@@ -3,6 +3,7 @@ use Prim.Native.Nat.{ℕ, _≤_, _<_}
 use mathlib.Core.Path.{_≡_}
 use mathlib.Core.List.{List}
 use lib.ListN.{length, getD}
+use Rattle.limits.specs.Limits.{mostPositions, mostSteps, mostEntries}
 use Rattle.job.specs.Job.{Job}
 use Rattle.job.specs.WellFormed.{WellFormed}
 use Rattle.compile.specs.CompiledJob.{positionCount, stepCount}
@@ -14,13 +15,13 @@ use Rattle.theorems.specs.JobText.{jobText}
 -- no reason from 1 to 4 refuses the text of a well-formed job: "At most 256 positions and 1,024 steps."
 pub record AcceptedJob (text : List ℕ) (j : Job) : Type 0 where
   pub right : WellFormed j
-  pub positions : positionCount j ≤ 256
-  pub steps : stepCount j ≤ 1024
+  pub positions : positionCount j ≤ mostPositions
+  pub steps : stepCount j ≤ mostSteps
   pub written : text ≡ jobText j
 
 -- nor does reason 5 refuse a plan text: "`plan=K`, K from 0 to 4,000, then K lines `m=move`, or `t=step`", of moves or steps that the job has
 pub record AcceptedPlan (sort : Sort) (j : Job) (plan entries : List ℕ) : Type 0 where
-  pub few : length entries ≤ 4000
+  pub few : length entries ≤ mostEntries
   pub each : (i : ℕ) → i < length entries → getD entries i 0 < boundFor sort j
   pub written : plan ≡ planText (keyFor sort) entries
 

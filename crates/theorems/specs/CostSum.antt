@@ -1,9 +1,8 @@
 -- "Its cost is the sum of its moves' costs, 0 for the empty list": the plain sum, by the moves' classes.
 use Prim.Native.Nat.{ℕ, _+_}
 use mathlib.Core.List.{List, [], _∷_}
-use Rattle.job.specs.Job.{Job}
+use Rattle.job.specs.Job.{Job, moveAt}
 use Rattle.domain.specs.Cost.{classCost}
-use Rattle.domain.specs.Domain.{moveAt}
 
 unfoldable pub sumOf : (ℕ → ℕ) → List ℕ → ℕ
 sumOf f [] = 0

@@ -1,5 +1,6 @@
 use Prim.Native.Nat.{_<_}
 use native.Mathlib.Omega.{arith}
+use Rattle.limits.specs.Limits.{mostStates}
 use Rattle.sweep.specs.Queue.{SameKeys}
 use Rattle.sweep.proofs.QueueLaws.{same-keys-none, queue-kept, same-keys-more}
 use borrow.Author.Needs.{needs}
@@ -7,7 +8,7 @@ use Rattle.sweep.proofs.queue.sift_up.Statement.{statement}
 use Rattle.sweep.proofs.queue.sift_up.Tie as tie
 
 abbrev Inv-loop : tie.InvT-loop
-Inv-loop queue₀ n s i₀ queue i = (i < 4096) × SameKeys queue₀ queue
+Inv-loop queue₀ n s i₀ queue i = (i < mostStates) × SameKeys queue₀ queue
 
 abbrev μ-loop : tie.MeasureT-loop
 μ-loop queue₀ n s i₀ queue i = i
