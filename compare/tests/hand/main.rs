@@ -6,4 +6,5 @@ mod lengths;
 mod marked;
 mod refusals;
 mod sample;
+mod stack;
 mod worked;

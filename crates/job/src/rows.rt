@@ -1,7 +1,7 @@
 // The rows of a job in one array, eight numbers a row, every sort from a row of its own on.
 ghost use mathlib.Core.Path.{_≡_};
-ghost use Prim.Native.Nat.{_*_, _<_};
-ghost use lib.ListN.{length};
+ghost use Prim.Native.Nat.{_-_, _*_, _<_};
+ghost use lib.ListN.{length, set};
 ghost use lib.Seq.{sets};
 ghost use Rattle.job.specs.Store.{allRows, width, storeSize};
 
@@ -19,6 +19,15 @@ const ALL_ROWS: u16 = PROGRAM_FROM + limits::PROGRAM;
 
 // How many numbers the rows take: 11,768, of two bytes each.
 pub const STORE: usize = (ALL_ROWS as usize) * WIDTH;
+
+// The row of a move: the numbers of its line, and the number of its first effect.
+pub fn move_row(line: [u16; WIDTH], first: u16) -> [u16; WIDTH]
+    ensures { λ r. ⌜ r ≡ set line (width - 1) first ⌝ }
+{
+    let mut numbers = line;
+    numbers[WIDTH - 1] = first;
+    numbers
+}
 
 // Row i, written anew.
 pub fn put_row(rows: &mut [u16], i: u16, numbers: [u16; WIDTH])

@@ -136,9 +136,8 @@ fn add_move(s: State, numbers: [u16; WIDTH], rows: &mut [u16]) -> State
     let head = s.head;
     let mut c = head.counts;
     let i = c.moves;
-    let mut n = numbers;
-    n[WIDTH - 1] = c.effects;
-    job::rows::put_row(rows, MOVES_FROM + i, n);
+    let row = job::rows::move_row(numbers, c.effects);
+    job::rows::put_row(rows, MOVES_FROM + i, row);
     c.moves = i + 1;
     let h = with_counts(head, c);
     let due = s.due - 1;

@@ -1,4 +1,4 @@
--- Rows swept until nothing is left to follow.
+-- States swept until nothing is left to follow.
 -- Assumes nothing.
 use Prim.Native.Nat.{ℕ, _-_, _*_, _≤_, _<_}
 use mathlib.Core.Path.{_≡_, refl, _∙_, ap}
@@ -33,7 +33,7 @@ use Rattle.search.specs.Filling.{Search, Exhausted}
 use Rattle.sweep.proofs.GraphLaws.{graph-closed, positions-few}
 use Rattle.sweep.proofs.PotentialLaws.{order-keeps}
 
--- rows swept, perhaps none
+-- states swept, perhaps none
 pub record Settling (G : Graph) (n : ℕ) (T queue T′ queue′ : List ℕ) : Type 0 where
   pub runs : Runs G T T′
   pub size : length queue′ ≡ length queue
@@ -46,7 +46,7 @@ settling-start R = record { runs = none; size = refl; relaxed = R; less = omega 
 pub settling-more : {G : Graph} {n : ℕ} {T queue T′ queue′ T″ queue″ : List ℕ} → Settling G n T queue T′ queue′ → Better G n T′ queue′ T″ queue″ → Settling G n T queue T″ queue″
 settling-more x y = record { runs = runs-on (x .runs) (y .runs); size = y .size ∙ x .size; relaxed = y .relaxed; less = omega (arith, x .less, y .less) }
 
--- no row has a key
+-- no state has a key
 pub settling-end : {G : Graph} {m : ℕ} {T queue T′ queue′ : List ℕ} {r n : ℕ} → Settling G m T queue T′ queue′ → Chosen n queue′ r → r ≡ n → n ≡ G .domain .states → Exhausted G T T′
 settling-end x chosen e is = record {
   runs = x .runs;
@@ -64,7 +64,7 @@ better-named {n = n} {T′ = T′} {queue′} {queue″} few is x same = record 
 }
 
 module _ {head : Head} {rows list adjacency : List ℕ} {grid : Grid} {T queue : List ℕ} (x : Search head rows list adjacency grid T queue) where
-  -- a state's row, where nothing is cached yet but the formulas' values
+  -- a state, where nothing is cached yet but the formulas' values
   pub search-sweep : {values : List Bool} {state : ℕ} {cache : List ℕ} → Tells (domainIn head rows) state values → state < domainIn head rows .states
       → Cached (domainIn head rows) state cache → Sweep (record { head = head; grid = grid; state = state }) rows values T queue cache
   search-sweep told inside cache = record {
@@ -109,7 +109,7 @@ module _ {head : Head} {rows list : List ℕ} {grid : Grid} (r : Ready head rows
     cleared : Cleared (D .states * positions) T T₁
     cleared = rw is at done
 
-    -- nothing is reached but the start, and only its row has a key
+    -- nothing is reached but the start, and only its state has a key
     pub start-relaxed : {queue₀ queue : List ℕ} → SameKeys (replicate queueSize unreached) queue₀ → Lowered s₀ 0 queue₀ queue
         → Relaxed (graphOf head rows list (grid .positions)) (Keyed queue) (set T₁ (s₀ * grid .positions) 0)
     start-relaxed {queue₀} {queue} same low i s p t q c l e claim =

@@ -1,4 +1,4 @@
--- The cost table, swept row by row.
+-- The cost table, swept state by state.
 use Prim.Native.Nat.{ℕ, _*_, _≤_, _<_}
 use mathlib.Core.Path.{_≡_}
 use mathlib.Core.Bool.{Bool, true}

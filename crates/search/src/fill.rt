@@ -20,7 +20,7 @@ use sweep::queue::QUEUE;
 // How many successors a cache has room for, one a move.
 const CACHE: usize = limits::MOVES as usize;
 
-// Sweeps the row of a state that has a key.
+// Sweeps a state that has a key.
 fn visit(
     costs: &mut [u32],
     queue: &mut [u32],
@@ -51,7 +51,7 @@ fn visit(
     sweep::queue::sift_up(queue, states, s);
 }
 
-// Visits rows until none has a key.
+// Visits states until none has a key.
 fn settle(
     costs: &mut [u32],
     queue: &mut [u32],

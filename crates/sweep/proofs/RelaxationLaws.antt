@@ -1,4 +1,4 @@
--- Steps followed from a state's row.
+-- Steps followed from a state's cells.
 -- Assumes nothing.
 use Prim.Native.Nat.{ℕ, suc, _+_, _*_, _/_, _≤_, _<_}
 use mathlib.Core.Path.{_≡_, refl, sym, _∙_, ap}
@@ -65,7 +65,7 @@ standing-on : {head : Head} {rows : List ℕ} {values : List Bool} {state : ℕ}
     → Cached (domainIn head rows) state cache′ → Standing head rows values state cache′
 standing-on x k = record { stored = x .stored; told = x .told; inside = x .inside; successors = k }
 
--- the origin's row after stores
+-- the origin after stores
 pub sweep-on : {origin : Origin} {rows : List ℕ} {values : List Bool} {T queue cache U queue′ cache′ : List ℕ} → Sweep origin rows values T queue cache
     → length U ≡ length T → length queue′ ≡ length queue → Cached (domainIn (origin .head) rows) (origin .state) cache′ → Sweep origin rows values U queue′ cache′
 sweep-on x a b k = record {

@@ -1,4 +1,4 @@
--- One sweep of a state's row.
+-- One sweep of a state.
 -- Assumes nothing.
 use Prim.Native.Nat.{ℕ, zero, suc, _≤_, _<_}
 use mathlib.Core.Path.{_≡_, refl, sym, _∙_, ap}

@@ -1,4 +1,4 @@
--- The keys of the rows, in the front of a list whose other numbers are an order of them.
+-- The keys of the states, in the front of a list whose other numbers are an order of them.
 use Prim.Native.Nat.{ℕ, _*_, _≤_, _<_}
 use mathlib.Core.Path.{_≡_}
 use mathlib.Core.List.{List}

@@ -1,4 +1,4 @@
--- Steps that are followed from a state's row.
+-- Steps that are followed from a state's cells.
 use Prim.Native.Nat.{ℕ, suc, _+_, _*_, _≤_, _<_}
 use mathlib.Core.Path.{_≡_}
 use mathlib.Core.Bool.{Bool, false}
@@ -23,8 +23,8 @@ pub record Sweep (origin : Origin) (rows : List ℕ) (values : List Bool) (T que
   pub room : domainIn (origin .head) rows .states * origin .grid .positions ≤ length T
   pub keys : Queue queue (domainIn (origin .head) rows .states)
 
--- the cell at v, position q of state t, lowered to x and the cost, where that is less; then in the row of w the position is not marked any more and r is
--- at most q, and another row's key comes down
+-- the cell at v, position q of state t, lowered to x and the cost, where that is less; then in state w the position is not marked any more and r is
+-- at most q, and another state's key comes down
 pub data Relaxing (w t q v x cost next : ℕ) (T queue : List ℕ) (marks : List Bool) : List ℕ → List ℕ → List Bool → ℕ → Type 0 where
   kept : getD T v 0 ≤ x + cost → Relaxing w t q v x cost next T queue marks T queue marks next
   within : {r : ℕ} → x + cost < getD T v 0 → t ≡ w → r ≤ q → r ≤ next
@@ -49,7 +49,7 @@ pub record Scanned (G : Graph) (n w k p : ℕ) (T queue T′ queue′ : List ℕ
   pub less : potential n T′ queue′ ≤ potential n T queue
   pub relaxed : Relaxed G (Only queue′ w (Processed k r marks′ 0 0)) T′
 
--- stores along steps, after which the steps are followed from all cells with an entry below their row's key
+-- stores along steps, after which the steps are followed from all cells with an entry below their state's key
 pub record Better (G : Graph) (n : ℕ) (T queue T′ queue′ : List ℕ) : Type 0 where
   pub runs : Runs G T T′
   pub size : length queue′ ≡ length queue

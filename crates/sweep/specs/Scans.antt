@@ -1,4 +1,4 @@
--- A state's row of the cost table while it is swept.
+-- A state's cells of the cost table while it is swept.
 use Prim.Native.Nat.{ℕ, suc, _*_, _+_, _/_, _-_, _≤_, _<_}
 use mathlib.Core.Path.{_≡_}
 use mathlib.Core.Bool.{Bool, true, false}
@@ -26,7 +26,7 @@ pub record Indexed (list adjacency : List ℕ) (positions : ℕ) : Type 0 where
   pub few : positions ≤ mostPositions
   pub to : (k : ℕ) → k < length list / 4 → getD list (k * 4 + 2) 0 < positions
 
--- the steps from cells with an entry below their row's key
+-- the steps from cells with an entry below their state's key
 abbrev pub Keyed : List ℕ → Claim
 Keyed queue i l s p z = z < getD queue s 0
 

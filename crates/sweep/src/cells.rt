@@ -16,7 +16,7 @@ pub fn clear(costs: &mut [u32], n: usize)
     }
 }
 
-// Whether nothing is to follow from a cell that costs x, in a row with key k.
+// Whether nothing is to follow from a cell that costs x, in a state with key k.
 pub fn is_idle(mark: bool, k: u32, x: u32) -> bool
     ensures { λ r. ⌜ Idle mark k x r ⌝ }
 {

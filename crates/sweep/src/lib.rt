@@ -1,7 +1,7 @@
-// One state's row of the cost table, swept.
+// One state's cells of the cost table, swept.
 //
-// A state's row is its cells, one a position. Its key is above the entry of no cell whose steps have yet to be followed: it is taken back when the row is
-// swept, and comes down again with the cells that other rows' moves lower.
+// A state has a cell for each position. Its key is above the entry of no cell of it whose steps have yet to be followed: it is taken back when the state is
+// swept, and comes down again with the cells that other states' moves lower.
 pub mod cells;
 pub mod queue;
 pub mod relaxation;
@@ -25,5 +25,5 @@ pub struct Origin {
     pub state: u16,
 }
 
-// What a cell holds that is not reached, and the key of a row with nothing to follow.
+// What a cell holds that is not reached, and the key of a state with nothing to follow.
 pub const UNREACHED: u32 = 4294967295;

@@ -1,6 +1,6 @@
-// The keys of the rows, and an order that names a row of least key.
+// The keys of the states, and an order that names a state of least key.
 //
-// The order is a tree of nodes above the states; nothing is proved of what it names, since a row that it names is looked at before it is taken.
+// The order is a tree of nodes above the states; nothing is proved of what it names, since a state that it names is looked at before it is taken.
 ghost use mathlib.Core.Path.{_≡_};
 ghost use Prim.Native.Nat.{_*_, _<_};
 ghost use lib.ListN.{length};

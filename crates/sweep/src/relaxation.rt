@@ -1,4 +1,4 @@
-// Steps from the cells of a state's row, relaxed.
+// Steps from the cells of a state, relaxed.
 //
 // A mark on a position says that the steps from its cell are followed. It is taken back when the cell falls.
 ghost use mathlib.Core.Path.{_≡_};
@@ -18,8 +18,8 @@ use crate::steps::OutStep;
 use crate::targets::Target;
 use limits::POSITIONS;
 
-// Lowers the target's cell to x and the step's cost, where that is less. In the origin's own row the steps from its position are then to follow, and the
-// answer is the lesser of `next` and that position; another row's key comes down, and the answer is `next`.
+// Lowers the target's cell to x and the step's cost, where that is less. In the origin's own state the steps from its position are then to follow, and
+// the answer is the lesser of `next` and that position; another state's key comes down, and the answer is `next`.
 fn relax(
     costs: &mut [u32],
     queue: &mut [u32],
@@ -80,7 +80,7 @@ fn follow(
     relax(costs, queue, marks, origin, x, target, next)
 }
 
-// Follows the steps from position p of the origin's row, unless nothing is to follow there. Answers the position to go on from.
+// Follows the steps from position p of the origin's state, unless nothing is to follow there. Answers the position to go on from.
 pub fn scan(
     costs: &mut [u32],
     queue: &mut [u32],

@@ -1,4 +1,4 @@
-// One state's row swept.
+// One state swept.
 ghost use Prim.Native.Nat.{_<_};
 ghost use lib.ListN.{getD};
 ghost use Rattle.domain.specs.Domain.{domainIn};
@@ -11,8 +11,8 @@ use crate::Origin;
 use crate::UNREACHED;
 use limits::POSITIONS;
 
-// Follows the steps from all cells of the origin's row that cost at least as much as its key says, again from those that fall meanwhile. Its key is taken
-// back.
+// Follows the steps from all cells of the origin's state that cost at least as much as its key says, again from those that fall meanwhile. Its key is
+// taken back.
 pub fn sweep(
     costs: &mut [u32],
     queue: &mut [u32],

@@ -4,7 +4,9 @@ use Rattle.capi.proofs.jesmovit_check_moves.Statement.{statement}
 use Rattle.capi.proofs.jesmovit_check_moves.Tie as tie
 
 returns : tie.Need-returns
-returns c = given-by (c .before .before .before .before .before .check-moves .result) (c .before .before .before .before .before .check-moves .ensures) (c .before .before .of-check .ensures) (c .hand-out .ensures)
+returns c =
+    let at5 = c .before .before .before .before .before in
+    given-by (at5 .check-moves .result) (at5 .check-moves .ensures) (c .before .before .of-check .ensures) (c .hand-out .ensures)
 
 pub jesmovit-check-moves-spec : {M : Type 1} → statement M
 jesmovit-check-moves-spec =

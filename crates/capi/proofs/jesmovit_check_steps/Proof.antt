@@ -4,7 +4,9 @@ use Rattle.capi.proofs.jesmovit_check_steps.Statement.{statement}
 use Rattle.capi.proofs.jesmovit_check_steps.Tie as tie
 
 returns : tie.Need-returns
-returns c = given-by (c .before .before .before .before .before .check-steps .result) (c .before .before .before .before .before .check-steps .ensures) (c .before .before .of-check .ensures) (c .hand-out .ensures)
+returns c =
+    let at5 = c .before .before .before .before .before in
+    given-by (at5 .check-steps .result) (at5 .check-steps .ensures) (c .before .before .of-check .ensures) (c .hand-out .ensures)
 
 pub jesmovit-check-steps-spec : {M : Type 1} → statement M
 jesmovit-check-steps-spec =

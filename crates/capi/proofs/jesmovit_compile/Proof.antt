@@ -4,7 +4,10 @@ use Rattle.capi.proofs.jesmovit_compile.Statement.{statement}
 use Rattle.capi.proofs.jesmovit_compile.Tie as tie
 
 returns : tie.Need-returns
-returns c = given-by (c .before .before .before .before .before .compile .result) (record { answers = c .before .before .before .before .before .compile .ensures .0; lists = c .before .before .before .before .before .compile .ensures .1 }) (c .before .before .of-compile .ensures) (c .hand-out .ensures)
+returns c =
+    let at5 = c .before .before .before .before .before in
+    given-by (at5 .compile .result) (record { answers = at5 .compile .ensures .0; lists = at5 .compile .ensures .1 })
+    (c .before .before .of-compile .ensures) (c .hand-out .ensures)
 
 pub jesmovit-compile-spec : {M : Type 1} → statement M
 jesmovit-compile-spec =

@@ -4,7 +4,9 @@ use Rattle.capi.proofs.jesmovit_judge.Statement.{statement}
 use Rattle.capi.proofs.jesmovit_judge.Tie as tie
 
 returns : tie.Need-returns
-returns c = given-by (c .before .before .before .before .before .before .before .judge .result) (c .before .before .before .before .before .before .before .judge .ensures) (c .before .before .of-judge .ensures) (c .hand-out .ensures)
+returns c =
+    let at7 = c .before .before .before .before .before .before .before in
+    given-by (at7 .judge .result) (at7 .judge .ensures) (c .before .before .of-judge .ensures) (c .hand-out .ensures)
 
 pub jesmovit-judge-spec : {M : Type 1} → statement M
 jesmovit-judge-spec =

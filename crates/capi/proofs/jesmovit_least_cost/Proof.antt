@@ -4,7 +4,9 @@ use Rattle.capi.proofs.jesmovit_least_cost.Statement.{statement}
 use Rattle.capi.proofs.jesmovit_least_cost.Tie as tie
 
 returns : tie.Need-returns
-returns c = given-by (c .before .before .before .before .before .before .before .least-cost .result) (c .before .before .before .before .before .before .before .least-cost .ensures) (c .before .before .of-least .ensures) (c .hand-out .ensures)
+returns c =
+    let at7 = c .before .before .before .before .before .before .before in
+    given-by (at7 .least-cost .result) (at7 .least-cost .ensures) (c .before .before .of-least .ensures) (c .hand-out .ensures)
 
 pub jesmovit-least-cost-spec : {M : Type 1} → statement M
 jesmovit-least-cost-spec =

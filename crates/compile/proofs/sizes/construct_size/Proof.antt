@@ -7,13 +7,16 @@ returns-3 : tie.Need-returns-3
 returns-3 c = rw (c .before .enum-told3 .given .1) (c .capped .ensures)
 
 returns-5 : tie.Need-returns-5
-returns-5 c = rw (c .before .before .before .before .construct .given .1) (c .capped2 .ensures ∙ rw (c .before .before .entry .ensures, c .before .entry2 .ensures))
+returns-5 c =
+    rw (c .before .before .before .before .construct .given .1) (c .capped2 .ensures ∙ rw (c .before .before .entry .ensures, c .before .entry2 .ensures))
 
 returns-6 : tie.Need-returns-6
-returns-6 c = rw (c .before .before .before .before .construct2 .given .1) (c .capped3 .ensures ∙ rw (c .before .before .entry3 .ensures, c .before .entry4 .ensures))
+returns-6 c =
+    rw (c .before .before .before .before .construct2 .given .1) (c .capped3 .ensures ∙ rw (c .before .before .entry3 .ensures, c .before .entry4 .ensures))
 
 returns-7 : tie.Need-returns-7
-returns-7 c = rw (c .before .before .before .before .construct3 .given .1) (c .capped4 .ensures ∙ rw (c .before .before .entry5 .ensures, c .before .entry6 .ensures))
+returns-7 c =
+    rw (c .before .before .before .before .construct3 .given .1) (c .capped4 .ensures ∙ rw (c .before .before .entry5 .ensures, c .before .entry6 .ensures))
 
 returns-8 : tie.Need-returns-8
 returns-8 c = rw (c .before .before .before .construct4 .given .1) (c .capped5 .ensures ∙ rw (c .before .entry7 .ensures))

@@ -21,13 +21,23 @@ unfolding flat moveSteps
 loop-holds c = (omega arith, refl, laid-none _ _)
 
 put-step-requires : tie.Need-put-step-requires Inv-loop μ-loop
-put-step-requires c κs = omega (arith, c .before .before .loop .inv, c .before .before .loop .inv .2 .place, moves-length (c .before .before .loop .m) 0 (c .before .before .before .before .args .from .position), c .before .before .before .before .pre)
+put-step-requires c κs =
+    let at2 = c .before .before in
+    let at4 = at2 .before .before in
+    omega (arith, at2 .loop .inv, at2 .loop .inv .2 .place, moves-length (at2 .loop .m) 0 (at4 .args .from .position), at4 .pre)
 
 loop-again : tie.Need-loop-again Inv-loop μ-loop
-loop-again c = (omega arith, c .before .before .put-step .kept .0 ∙ c .before .before .before .before .before .loop .inv .1, rw (moves-more (c .before .before .before .before .before .loop .m) (c .before .before .before .before .before .before .before .args .from .position)) (laid-append (c .before .before .before .before .before .loop .inv .2) (c .before .before .put-step .ensures)))
+loop-again c = (
+  omega arith,
+  c .before .before .put-step .kept .0 ∙ c .before .before .before .before .before .loop .inv .1,
+  rw (moves-more (c .before .before .before .before .before .loop .m) (c .before .before .before .before .before .before .before .args .from .position))
+      (laid-append (c .before .before .before .before .before .loop .inv .2) (c .before .before .put-step .ensures)),
+)
 
 returns : tie.Need-returns Inv-loop μ-loop
-returns c = let e : c .before .loop .m ≡ c .before .before .before .args .moves = omega (arith, c .before .loop .inv .0, c .loop-test .left) in (rw (← e) (c .before .loop .inv .2), refl)
+returns c =
+    let e : c .before .loop .m ≡ c .before .before .before .args .moves = omega (arith, c .before .loop .inv .0, c .loop-test .left) in
+    (rw (← e) (c .before .loop .inv .2), refl)
 
 pub any-steps-spec : {M : Type 1} → statement M
 any-steps-spec =

@@ -5,7 +5,13 @@ use Rattle.compile.proofs.steps.branch_steps.Statement.{statement}
 use Rattle.compile.proofs.steps.branch_steps.Tie as tie
 
 returns : tie.Need-returns
-returns c = (laid-append (laid-append (laid-append (c .before .before .before .before .before .before .before .before .before .before .before .before .before .before .put-step .ensures) (c .before .before .before .before .before .before .before .before .before .before .put-step2 .ensures)) (c .before .before .before .before .before .before .put-step3 .ensures)) (c .before .before .put-step4 .ensures), refl)
+returns c = (
+  laid-append (laid-append (laid-append
+      (c .before .before .before .before .before .before .before .before .before .before .before .before .before .before .put-step .ensures)
+      (c .before .before .before .before .before .before .before .before .before .before .put-step2 .ensures))
+      (c .before .before .before .before .before .before .put-step3 .ensures)) (c .before .before .put-step4 .ensures),
+  refl,
+)
 
 pub branch-steps-spec : {M : Type 1} → statement M
 branch-steps-spec =

@@ -5,7 +5,10 @@ use Rattle.compile.proofs.steps.choice_steps.Statement.{statement}
 use Rattle.compile.proofs.steps.choice_steps.Tie as tie
 
 returns : tie.Need-returns
-returns c = (rw (branch-flat noop noop (c .before .before .before .before .before .args .n) (c .before .before .before .before .before .args .p) (c .before .before .before .before .before .args .q)) (c .before .before .branch-steps .ensures .0), c .before .before .branch-steps .ensures .1)
+returns c =
+    let at2 = c .before .before in
+    let at5 = at2 .before .before .before in
+    (rw (branch-flat noop noop (at5 .args .n) (at5 .args .p) (at5 .args .q)) (at2 .branch-steps .ensures .0), at2 .branch-steps .ensures .1)
 
 pub choice-steps-spec : {M : Type 1} → statement M
 choice-steps-spec = tie.close (tie.spec (λ c κs. search needs) (λ c. search needs) returns)

@@ -5,7 +5,12 @@ use Rattle.compile.proofs.steps.if_steps.Statement.{statement}
 use Rattle.compile.proofs.steps.if_steps.Tie as tie
 
 returns : tie.Need-returns
-returns c = (rw (branch-flat (holds (c .before .before .before .before .before .args .a)) (fails (c .before .before .before .before .before .args .a)) (c .before .before .before .before .before .args .n) (c .before .before .before .before .before .args .p) (c .before .before .before .before .before .args .q)) (c .before .before .branch-steps .ensures .0), c .before .before .branch-steps .ensures .1)
+returns c =
+    let at2 = c .before .before in
+    let at5 = at2 .before .before .before in (
+      rw (branch-flat (holds (at5 .args .a)) (fails (at5 .args .a)) (at5 .args .n) (at5 .args .p) (at5 .args .q)) (at2 .branch-steps .ensures .0),
+      at2 .branch-steps .ensures .1,
+    )
 
 pub if-steps-spec : {M : Type 1} → statement M
 if-steps-spec = tie.close (tie.spec (λ c κs. search needs) (λ c. search needs) returns)

@@ -5,7 +5,14 @@ use Rattle.compile.proofs.steps.star_steps.Statement.{statement}
 use Rattle.compile.proofs.steps.star_steps.Tie as tie
 
 returns : tie.Need-returns
-returns c = (rw (star-flat (c .before .before .before .before .before .before .before .before .before .before .before .before .before .args .n) (c .before .before .before .before .before .before .before .before .before .before .before .before .before .args .p)) (laid-append (laid-append (c .before .before .before .before .before .before .before .before .before .before .put-step .ensures) (c .before .before .before .before .before .before .put-step2 .ensures)) (c .before .before .put-step3 .ensures)), refl)
+returns c =
+    let at6 = c .before .before .before .before .before .before in
+    let at10 = at6 .before .before .before .before in
+    let at13 = at10 .before .before .before in (
+      rw (star-flat (at13 .args .n) (at13 .args .p))
+          (laid-append (laid-append (at10 .put-step .ensures) (at6 .put-step2 .ensures)) (c .before .before .put-step3 .ensures)),
+      refl,
+    )
 
 pub star-steps-spec : {M : Type 1} → statement M
 star-steps-spec =

@@ -13,9 +13,10 @@ use Rattle.domain.proofs.effects.apply_effect.Tie as tie
 
 mul-times : tie.Need-mul-times
 mul-times c =
-    let v = c .before .before .before .before .before .before .before .args .v in
-    let small : c .before .before .bit .result * c .bit2 .result ≤ 1 =
-    rw (c .before .before .bit .ensures, c .bit2 .ensures) (bits-once (c .before .before .before .value-at .result) (eqb (c .before .before .before .before .effect-at .result .value) v)) in
+    let at2 = c .before .before in
+    let v = at2 .before .before .before .before .before .args .v in
+    let small : at2 .bit .result * c .bit2 .result ≤ 1 = rw (at2 .bit .ensures, c .bit2 .ensures)
+    (bits-once (at2 .before .value-at .result) (eqb (at2 .before .before .effect-at .result .value) v)) in
     record { fits = omega (arith, small) }
 
 put-fact-requires : tie.Need-put-fact-requires
@@ -31,8 +32,9 @@ put-fact-requires c κs =
 returns : tie.Need-returns
 unfolding afterEffect
 returns c =
-    rw (← c .before .before .before .before .before .effect-at .ensures)
-    (rw (c .before .before .before .bit .ensures, c .before .bit2 .ensures, bits-both, c .before .before .before .before .value-at .ensures) at (c .put-fact .ensures))
+    let at4 = c .before .before .before .before in
+    rw (← at4 .before .effect-at .ensures)
+    (rw (c .before .before .before .bit .ensures, c .before .bit2 .ensures, bits-both, at4 .value-at .ensures) at (c .put-fact .ensures))
 
 pub apply-effect-spec : {M : Type 1} → statement M
 apply-effect-spec =

@@ -11,7 +11,8 @@ use Rattle.domain.proofs.effects.apply_effects.Statement.{statement}
 use Rattle.domain.proofs.effects.apply_effects.Tie as tie
 
 abbrev Inv-loop : tie.InvT-loop
-Inv-loop head rows values v first count state reached₀ k₀ reached k = (k ≤ count) × (reached ≡ applied values v (take k (drop first (jobOf head rows .effects))) state)
+Inv-loop head rows values v first count state reached₀ k₀ reached k =
+    (k ≤ count) × (reached ≡ applied values v (take k (drop first (jobOf head rows .effects))) state)
 
 abbrev μ-loop : tie.MeasureT-loop
 μ-loop head rows values v first count state reached₀ k₀ reached k = count - k
@@ -35,10 +36,13 @@ apply-effect-requires c κs =
 
 loop-again : tie.Need-loop-again Inv-loop μ-loop
 loop-again c =
-    let a = c .before .before .before .before .before .args in
-    let p = c .before .before .before .before .before .pre in
+    let at2 = c .before .before in
+    let at5 = at2 .before .before .before in
+    let a = at5 .args in
+    let p = at5 .pre in
     let n = effect-count (a .head) (a .rows .now) in
-    let more = applied-more (a .values .now) (jobOf (a .head) (a .rows .now) .effects) (a .first) (a .v) (c .before .before .loop .k) (a .state) (c .before .before .loop .reached) _ (omega (arith, p .1 .0)) (c .before .before .loop .inv .1) (c .apply-effect .ensures) in
+    let more = applied-more (a .values .now) (jobOf (a .head) (a .rows .now) .effects) (a .first) (a .v) (at2 .loop .k)
+    (a .state) (at2 .loop .reached) _ (omega (arith, p .1 .0)) (at2 .loop .inv .1) (c .apply-effect .ensures) in
     (omega arith, more)
 
 returns : tie.Need-returns Inv-loop μ-loop

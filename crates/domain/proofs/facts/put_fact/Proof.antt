@@ -9,14 +9,17 @@ use Rattle.domain.proofs.facts.put_fact.Tie as tie
 mul-p : tie.Need-mul-p
 mul-p c =
     let a = c .before .args in
-    let small : a .times * c .worth .result ≤ mostStates = rw (c .worth .ensures) (omega (arith, times-within (a .times) (a .w) (a .i) (c .before .pre .0), count-within (a .i) (omega arith))) in
+    let small : a .times * c .worth .result ≤ mostStates = rw (c .worth .ensures)
+    (omega (arith, times-within (a .times) (a .w) (a .i) (c .before .pre .0), count-within (a .i) (omega arith))) in
     record { fits = omega (arith, small) }
 
 mul-result : tie.Need-mul-result
 mul-result c =
-    let a = c .before .before .args in
-    let small : a .times * c .before .worth .result * (a .w / 2 ^ (a .i) % 2) ≤ a .w = rw (c .before .worth .ensures) (cleared-within (a .times) (a .w) (a .i) (c .before .before .pre .0)) in
-    record { fits = omega (arith, small, c .before .before .pre .2) }
+    let at2 = c .before .before in
+    let a = at2 .args in
+    let small : a .times * c .before .worth .result * (a .w / 2 ^ (a .i) % 2) ≤ a .w = rw
+    (c .before .worth .ensures) (cleared-within (a .times) (a .w) (a .i) (at2 .pre .0)) in
+    record { fits = omega (arith, small, at2 .pre .2) }
 
 sub-result : tie.Need-sub-result
 sub-result c = let a = c .before .before .args in rw (c .before .worth .ensures) (cleared-within (a .times) (a .w) (a .i) (c .before .before .pre .0))
@@ -26,18 +29,24 @@ returns c = let a = c .before .before .args in rw (c .before .worth .ensures, c 
 
 mul-result-2 : tie.Need-mul-result-2
 mul-result-2 c =
-    let a = c .before .before .args in
-    let small : a .times * c .before .worth .result * (1 - a .w / 2 ^ (a .i) % 2) ≤ mostStates = rw (c .before .worth .ensures) (omega (arith, set-within (a .times) (a .w) (a .i) (c .before .before .pre .0), count-within (a .i) (omega arith))) in
+    let at2 = c .before .before in
+    let a = at2 .args in
+    let small : a .times * c .before .worth .result * (1 - a .w / 2 ^ (a .i) % 2) ≤ mostStates = rw (c .before .worth .ensures)
+    (omega (arith, set-within (a .times) (a .w) (a .i) (at2 .pre .0), count-within (a .i) (omega arith))) in
     record { fits = omega (arith, small) }
 
 add-result : tie.Need-add-result
 add-result c =
-    let a = c .before .before .args in
-    let small : a .times * c .before .worth .result * (1 - a .w / 2 ^ (a .i) % 2) ≤ mostStates = rw (c .before .worth .ensures) (omega (arith, set-within (a .times) (a .w) (a .i) (c .before .before .pre .0), count-within (a .i) (omega arith))) in
-    record { fits = omega (arith, small, c .before .before .pre .2) }
+    let at2 = c .before .before in
+    let a = at2 .args in
+    let small : a .times * c .before .worth .result * (1 - a .w / 2 ^ (a .i) % 2) ≤ mostStates = rw (c .before .worth .ensures)
+    (omega (arith, set-within (a .times) (a .w) (a .i) (at2 .pre .0), count-within (a .i) (omega arith))) in
+    record { fits = omega (arith, small, at2 .pre .2) }
 
 returns-2 : tie.Need-returns-2
-returns-2 c = let a = c .before .before .args in rw (c .before .worth .ensures) (sets-fact (a .times) (a .w) (a .i) (c .before .before .pre .0) (a .v) (c .if1 .left))
+returns-2 c =
+    let a = c .before .before .args in
+    rw (c .before .worth .ensures) (sets-fact (a .times) (a .w) (a .i) (c .before .before .pre .0) (a .v) (c .if1 .left))
 
 pub put-fact-spec : {M : Type 1} → statement M
 put-fact-spec =

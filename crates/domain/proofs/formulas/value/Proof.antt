@@ -37,13 +37,27 @@ returns-7 : tie.Need-returns-7
 unfolding value
 returns-7 c =
     let q = c .before .before .match .rest in
-    rw (ne-eqb _ _ (q .0 .0 .0 .0 .1), ne-eqb _ _ (q .0 .0 .0 .1), ne-eqb _ _ (q .0 .0 .1), ne-eqb _ _ (q .0 .1), ne-eqb _ _ (q .1), sym (c .before .value-at4 .ensures) ∙ c .if2 .taken) (c .if2 .taken)
+    rw (
+      ne-eqb _ _ (q .0 .0 .0 .0 .1),
+      ne-eqb _ _ (q .0 .0 .0 .1),
+      ne-eqb _ _ (q .0 .0 .1),
+      ne-eqb _ _ (q .0 .1),
+      ne-eqb _ _ (q .1),
+      sym (c .before .value-at4 .ensures) ∙ c .if2 .taken,
+    ) (c .if2 .taken)
 
 returns-8 : tie.Need-returns-8
 unfolding value
 returns-8 c =
     let q = c .before .before .before .match .rest in
-    rw (ne-eqb _ _ (q .0 .0 .0 .0 .1), ne-eqb _ _ (q .0 .0 .0 .1), ne-eqb _ _ (q .0 .0 .1), ne-eqb _ _ (q .0 .1), ne-eqb _ _ (q .1), sym (c .before .before .value-at4 .ensures) ∙ c .before .if2 .left) (c .value-at5 .ensures)
+    rw (
+      ne-eqb _ _ (q .0 .0 .0 .0 .1),
+      ne-eqb _ _ (q .0 .0 .0 .1),
+      ne-eqb _ _ (q .0 .0 .1),
+      ne-eqb _ _ (q .0 .1),
+      ne-eqb _ _ (q .1),
+      sym (c .before .before .value-at4 .ensures) ∙ c .before .if2 .left,
+    ) (c .value-at5 .ensures)
 
 pub value-spec : {M : Type 1} → statement M
 value-spec =

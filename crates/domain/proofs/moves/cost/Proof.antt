@@ -17,9 +17,14 @@ move-at-requires c κs =
 
 array-read-result : tie.Need-array-read-result
 array-read-result c =
-    let a = c .before .before .before .before .args in
-    let p = c .before .before .before .before .pre in
-    omega (arith, ap (λ (x : Move). x .class) (c .before .move-at .ensures), move-class (p .0 .0) (a .m) (omega (arith, p .1, move-count (a .head) (a .rows .now))))
+    let at4 = c .before .before .before .before in
+    let a = at4 .args in
+    let p = at4 .pre in
+    omega (
+      arith,
+      ap (λ (x : Move). x .class) (c .before .move-at .ensures),
+      move-class (p .0 .0) (a .m) (omega (arith, p .1, move-count (a .head) (a .rows .now))),
+    )
 
 returns : tie.Need-returns
 unfolding costIn classCost

@@ -25,18 +25,24 @@ apply-effects-requires c κs =
 
 apply-effects-requires-2 : tie.Need-apply-effects-requires-2
 apply-effects-requires-2 c κs =
-    let a = c .before .before .before .before .before .before .args in
-    let p = c .before .before .before .before .before .before .pre in
-    let x = c .before .before .before .move-at .result in
-    let made = ap (λ (x : Move). x .first + x .count) (c .before .before .before .move-at .ensures) in
-    let below = applied-below (jobOf (a .head) (a .rows .now)) (p .0 .0 .job) (x .first) (x .count) (a .values .now) 0 (a .state) (p .1 .1) in
-    (p .0 .0, (omega (arith, made, move-effects (p .0 .0) (a .m) (omega (arith, p .1 .0, move-count (a .head) (a .rows .now)))), rw (c .apply-effects .ensures) below))
+    let at3 = c .before .before .before in
+    let at6 = at3 .before .before .before in
+    let a = at6 .args in
+    let p = at6 .pre in
+    let x = at3 .move-at .result in
+    let made = ap (λ (x : Move). x .first + x .count) (at3 .move-at .ensures) in
+    let below = applied-below (jobOf (a .head) (a .rows .now)) (p .0 .0 .job) (x .first) (x .count) (a .values .now) 0 (a .state) (p .1 .1) in (
+      p .0 .0,
+      (omega (arith, made, move-effects (p .0 .0) (a .m) (omega (arith, p .1 .0, move-count (a .head) (a .rows .now)))), rw (c .apply-effects .ensures) below),
+    )
 
 returns : tie.Need-returns
 returns c =
-    let a = c .before .before .before .before .before .before .before .args in
-    let p = c .before .before .before .before .before .before .before .pre in
-    successor-some (jobOf (a .head) (a .rows .now)) (a .m) (a .state) (a .values .now) (p .0 .1) (p .1 .0) (c .before .before .before .before .move-at .ensures) _ _
+    let at4 = c .before .before .before .before in
+    let at7 = at4 .before .before .before in
+    let a = at7 .args in
+    let p = at7 .pre in
+    successor-some (jobOf (a .head) (a .rows .now)) (a .m) (a .state) (a .values .now) (p .0 .1) (p .1 .0) (at4 .move-at .ensures) _ _
     (sym (c .before .before .before .value-at .ensures) ∙ c .before .before .if1 .taken) (c .before .apply-effects .ensures) (c .apply-effects2 .ensures)
 
 returns-2 : tie.Need-returns-2

@@ -4,10 +4,12 @@ use Rattle.jesmovit.proofs.checking.verdict.Statement.{statement}
 use Rattle.jesmovit.proofs.checking.verdict.Tie as tie
 
 check-moves-requires : tie.Need-check-moves-requires
-check-moves-requires c κs = (c .before .before .before .before .before .pre .0, move-entries _ _ _ (c .enum-told .given .1) (c .before .before .before .before .before .pre .1))
+check-moves-requires c κs =
+    (c .before .before .before .before .before .pre .0, move-entries _ _ _ (c .enum-told .given .1) (c .before .before .before .before .before .pre .1))
 
 check-steps-requires : tie.Need-check-steps-requires
-check-steps-requires c κs = (c .before .before .before .before .before .pre .0, step-entries _ _ _ (c .enum-told2 .given .1) (c .before .before .before .before .before .pre .1))
+check-steps-requires c κs =
+    (c .before .before .before .before .before .pre .0, step-entries _ _ _ (c .enum-told2 .given .1) (c .before .before .before .before .before .pre .1))
 
 returns : tie.Need-returns
 returns c = says-moves _ _ _ (c .before .enum-told .given .1) (c .before .before .before .before .before .before .pre .0) (c .check-moves .ensures)

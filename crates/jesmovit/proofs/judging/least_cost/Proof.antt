@@ -5,28 +5,86 @@ use Rattle.jesmovit.proofs.judging.least_cost.Statement.{statement}
 use Rattle.jesmovit.proofs.judging.least_cost.Tie as tie
 
 returns : tie.Need-returns
-returns c = cost-refused (c .before .before .before .before .before .before .before .before .before .args .text .now) (c .before .before .before .before .before .before .before .before .before .args .list .now) (c .before .before .before .before .before .before .before .before .before .args .table .now) (compiling-refused (c .before .before .before .before .before .before .before .before .before .args .text .now) (c .before .before .before .before .before .before .before .before .before .args .list .now) (c .before .before .before .before .load .last .1 .0) (c .before .before .before .before .load .result) (c .before .before .before .before .load .ensures .0) (c .before .enum-told .given .1) (c .refusal .ensures))
+returns c =
+    let at4 = c .before .before .before .before in
+    let at9 = at4 .before .before .before .before .before in
+    cost-refused (at9 .args .text .now) (at9 .args .list .now) (at9 .args .table .now)
+    (compiling-refused (at9 .args .text .now) (at9 .args .list .now) (at4 .load .last .1 .0)
+    (at4 .load .result) (at4 .load .ensures .0) (c .before .enum-told .given .1) (c .refusal .ensures))
 
 returns-2 : tie.Need-returns-2
-returns-2 c = cost-refused (c .before .before .before .before .before .before .before .before .before .before .before .before .args .text .now) (c .before .before .before .before .before .before .before .before .before .before .before .before .args .list .now) (c .before .before .before .before .before .before .before .before .before .before .before .before .args .table .now) (compiling-short (c .before .before .before .before .before .before .before .before .before .before .before .before .args .text .now) (c .before .before .before .before .before .before .before .before .before .before .before .before .args .list .now) (c .before .before .before .before .before .before .before .load .last .1 .0) (c .before .before .before .before .before .before .before .load .result) (c .before .before .before .before .before .before .before .load .ensures .0) (c .before .before .before .before .loaded .given .0 .0) (c .before .before .before .before .loaded .given .0 .1 .0) (c .before .before .before .before .loaded .given .1) (c .before .before .before .before .before .before .before .load .ensures .1) (c .before .if1 .taken) (c .too-short .ensures))
+returns-2 c =
+    let at4 = c .before .before .before .before in
+    let at7 = at4 .before .before .before in
+    let at12 = at7 .before .before .before .before .before in
+    cost-refused (at12 .args .text .now) (at12 .args .list .now) (at12 .args .table .now)
+    (compiling-short (at12 .args .text .now) (at12 .args .list .now) (at7 .load .last .1 .0) (at7 .load .result) (at7 .load .ensures .0)
+    (at4 .loaded .given .0 .0) (at4 .loaded .given .0 .1 .0) (at4 .loaded .given .1) (at7 .load .ensures .1) (c .before .if1 .taken) (c .too-short .ensures))
 
 cells-requires : tie.Need-cells-requires
-cells-requires c κs = load-sized (c .before .before .before .before .before .before .before .before .before .before .before .before .args .text .now) (c .before .before .before .before .before .before .before .before .before .before .before .before .args .list .now) (c .before .before .before .before .before .before .before .load .last .1 .0) (c .before .before .before .before .before .before .before .load .result) (c .before .before .before .before .before .before .before .load .ensures .0) (c .before .before .before .before .loaded .given .0 .0) (c .before .before .before .before .loaded .given .0 .1 .0) (c .before .before .before .before .loaded .given .1) (c .before .before .before .before .before .before .before .load .ensures .1) .stored
+cells-requires c κs =
+    let at4 = c .before .before .before .before in
+    let at7 = at4 .before .before .before in
+    let at12 = at7 .before .before .before .before .before in
+    load-sized (at12 .args .text .now) (at12 .args .list .now) (at7 .load .last .1 .0) (at7 .load .result) (at7 .load .ensures .0)
+    (at4 .loaded .given .0 .0) (at4 .loaded .given .0 .1 .0) (at4 .loaded .given .1) (at7 .load .ensures .1) .stored
 
 returns-3 : tie.Need-returns-3
-returns-3 c = cost-short (c .before .before .before .before .before .before .before .before .before .before .before .before .before .before .before .args .text .now) (c .before .before .before .before .before .before .before .before .before .before .before .before .before .before .before .args .list .now) (c .before .before .before .before .before .before .before .before .before .before .before .before .before .before .before .args .table .now) _ (compiling-passed (c .before .before .before .before .before .before .before .before .before .before .before .before .before .before .before .args .text .now) (c .before .before .before .before .before .before .before .before .before .before .before .before .before .before .before .args .list .now) (c .before .before .before .before .before .before .before .before .before .before .load .last .1 .0) (c .before .before .before .before .before .before .before .before .before .before .load .result) (c .before .before .before .before .before .before .before .before .before .before .load .ensures .0) (c .before .before .before .before .before .before .before .loaded .given .0 .0) (c .before .before .before .before .before .before .before .loaded .given .0 .1 .0) (c .before .before .before .before .before .before .before .loaded .given .1) (c .before .before .before .before .before .before .before .before .before .before .load .ensures .1) (c .before .before .before .before .if1 .left)) (c .before .before .cells .ensures) (c .before .if2 .taken) (c .too-short2 .ensures)
+returns-3 c =
+    let at4 = c .before .before .before .before in
+    let at7 = at4 .before .before .before in
+    let at10 = at7 .before .before .before in
+    let at15 = at10 .before .before .before .before .before in
+    cost-short (at15 .args .text .now) (at15 .args .list .now) (at15 .args .table .now) _
+    (compiling-passed (at15 .args .text .now) (at15 .args .list .now) (at10 .load .last .1 .0) (at10 .load .result)
+    (at10 .load .ensures .0) (at7 .loaded .given .0 .0) (at7 .loaded .given .0 .1 .0) (at7 .loaded .given .1)
+    (at10 .load .ensures .1) (at4 .if1 .left)) (c .before .before .cells .ensures) (c .before .if2 .taken) (c .too-short2 .ensures)
 
 compile-requires : tie.Need-compile-requires
-compile-requires c κs = compile-ready (c .before .before .before .before .before .before .before .before .before .before .before .before .before .before .before .before .args .text .now) (c .before .before .before .before .before .before .before .before .before .before .before .before .before .before .before .before .args .list .now) (c .before .before .before .before .before .before .before .before .before .before .before .load .last .1 .0) (c .before .before .before .before .before .before .before .before .before .before .before .load .result) (c .before .before .before .before .before .before .before .before .before .before .before .load .ensures .0) (c .before .before .before .before .before .before .before .before .loaded .given .0 .0) (c .before .before .before .before .before .before .before .before .loaded .given .0 .1 .0) (c .before .before .before .before .before .before .before .before .loaded .given .1) (c .before .before .before .before .before .before .before .before .before .before .before .load .ensures .1) (c .before .before .before .before .before .if1 .left)
+compile-requires c κs =
+    let at5 = c .before .before .before .before .before in
+    let at8 = at5 .before .before .before in
+    let at11 = at8 .before .before .before in
+    let at16 = at11 .before .before .before .before .before in
+    compile-ready (at16 .args .text .now) (at16 .args .list .now) (at11 .load .last .1 .0) (at11 .load .result) (at11 .load .ensures .0)
+    (at8 .loaded .given .0 .0) (at8 .loaded .given .0 .1 .0) (at8 .loaded .given .1) (at11 .load .ensures .1) (at5 .if1 .left)
 
 least-cost-requires : tie.Need-least-cost-requires
-least-cost-requires c κs = (compiled-ready (c .before .before .before .before .before .before .before .before .before .before .before .before .before .before .before .before .before .before .before .before .before .before .before .args .text .now) (c .before .before .before .before .before .before .before .before .before .before .before .before .before .before .before .before .before .before .before .before .before .before .before .args .list .now) (c .before .before .before .before .before .before .before .before .before .before .before .before .before .before .before .before .before .before .load .last .1 .0) (c .before .before .before .before .before .before .before .before .before .before .before .before .before .before .before .before .before .before .load .result) (c .before .before .before .before .before .before .before .before .before .before .before .before .before .before .before .before .before .before .load .ensures .0) (c .before .before .before .before .before .before .before .before .before .before .before .before .before .before .before .loaded .given .0 .0) (c .before .before .before .before .before .before .before .before .before .before .before .before .before .before .before .loaded .given .0 .1 .0) (c .before .before .before .before .before .before .before .before .before .before .before .before .before .before .before .loaded .given .1) (c .before .before .before .before .before .before .before .before .before .before .before .before .before .before .before .before .before .before .load .ensures .1) (c .before .before .before .before .before .before .before .before .before .before .before .before .if1 .left) (c .before .before .before .before .before .before .compile .ensures), rw (c .before .before .before .before .before .before .before .before .before .before .cells .ensures) at (c .before .before .before .before .before .before .before .before .before .if2 .left))
+least-cost-requires c κs =
+    let at6 = c .before .before .before .before .before .before in
+    let at10 = at6 .before .before .before .before in
+    let at15 = at10 .before .before .before .before .before in
+    let at18 = at15 .before .before .before in
+    let at23 = at18 .before .before .before .before .before in (
+      compiled-ready (at23 .args .text .now) (at23 .args .list .now) (at18 .load .last .1 .0) (at18 .load .result)
+          (at18 .load .ensures .0) (at15 .loaded .given .0 .0) (at15 .loaded .given .0 .1 .0) (at15 .loaded .given .1)
+          (at18 .load .ensures .1) (at10 .before .before .if1 .left) (at6 .compile .ensures),
+      rw (at10 .cells .ensures) at (at6 .before .before .before .if2 .left),
+    )
 
 returns-4 : tie.Need-returns-4
-returns-4 c = cost-found (c .before .before .before .before .before .before .before .before .before .before .before .before .before .before .before .before .before .before .before .before .before .before .before .before .before .before .before .args .text .now) (c .before .before .before .before .before .before .before .before .before .before .before .before .before .before .before .before .before .before .before .before .before .before .before .before .before .before .before .args .list .now) (c .before .before .before .before .before .before .before .before .before .before .before .before .before .before .before .before .before .before .before .before .before .before .before .before .before .before .before .args .table .now) _ (compiling-passed (c .before .before .before .before .before .before .before .before .before .before .before .before .before .before .before .before .before .before .before .before .before .before .before .before .before .before .before .args .text .now) (c .before .before .before .before .before .before .before .before .before .before .before .before .before .before .before .before .before .before .before .before .before .before .before .before .before .before .before .args .list .now) (c .before .before .before .before .before .before .before .before .before .before .before .before .before .before .before .before .before .before .before .before .before .before .load .last .1 .0) (c .before .before .before .before .before .before .before .before .before .before .before .before .before .before .before .before .before .before .before .before .before .before .load .result) (c .before .before .before .before .before .before .before .before .before .before .before .before .before .before .before .before .before .before .before .before .before .before .load .ensures .0) (c .before .before .before .before .before .before .before .before .before .before .before .before .before .before .before .before .before .before .before .loaded .given .0 .0) (c .before .before .before .before .before .before .before .before .before .before .before .before .before .before .before .before .before .before .before .loaded .given .0 .1 .0) (c .before .before .before .before .before .before .before .before .before .before .before .before .before .before .before .before .before .before .before .loaded .given .1) (c .before .before .before .before .before .before .before .before .before .before .before .before .before .before .before .before .before .before .before .before .before .before .load .ensures .1) (c .before .before .before .before .before .before .before .before .before .before .before .before .before .before .before .before .if1 .left)) (c .before .before .before .before .before .before .before .before .before .before .before .before .before .before .cells .ensures) (c .before .before .before .before .before .before .before .before .before .before .before .before .before .if2 .left) (c .before .before .before .before .before .before .before .before .before .before .compile .ensures) (c .before .before .before .least-cost .ensures) (c .if3 .taken)
+returns-4 c =
+    let at10 = c .before .before .before .before .before .before .before .before .before .before in
+    let at14 = at10 .before .before .before .before in
+    let at19 = at14 .before .before .before .before .before in
+    let at22 = at19 .before .before .before in
+    let at27 = at22 .before .before .before .before .before in
+    cost-found (at27 .args .text .now) (at27 .args .list .now) (at27 .args .table .now) _
+    (compiling-passed (at27 .args .text .now) (at27 .args .list .now) (at22 .load .last .1 .0) (at22 .load .result) (at22 .load .ensures .0)
+    (at19 .loaded .given .0 .0) (at19 .loaded .given .0 .1 .0) (at19 .loaded .given .1) (at22 .load .ensures .1) (at14 .before .before .if1 .left))
+    (at14 .cells .ensures) (at10 .before .before .before .if2 .left) (at10 .compile .ensures) (c .before .before .before .least-cost .ensures) (c .if3 .taken)
 
 returns-5 : tie.Need-returns-5
-returns-5 c = cost-none (c .before .before .before .before .before .before .before .before .before .before .before .before .before .before .before .before .before .before .before .before .before .before .before .before .before .before .before .args .text .now) (c .before .before .before .before .before .before .before .before .before .before .before .before .before .before .before .before .before .before .before .before .before .before .before .before .before .before .before .args .list .now) (c .before .before .before .before .before .before .before .before .before .before .before .before .before .before .before .before .before .before .before .before .before .before .before .before .before .before .before .args .table .now) _ (compiling-passed (c .before .before .before .before .before .before .before .before .before .before .before .before .before .before .before .before .before .before .before .before .before .before .before .before .before .before .before .args .text .now) (c .before .before .before .before .before .before .before .before .before .before .before .before .before .before .before .before .before .before .before .before .before .before .before .before .before .before .before .args .list .now) (c .before .before .before .before .before .before .before .before .before .before .before .before .before .before .before .before .before .before .before .before .before .before .load .last .1 .0) (c .before .before .before .before .before .before .before .before .before .before .before .before .before .before .before .before .before .before .before .before .before .before .load .result) (c .before .before .before .before .before .before .before .before .before .before .before .before .before .before .before .before .before .before .before .before .before .before .load .ensures .0) (c .before .before .before .before .before .before .before .before .before .before .before .before .before .before .before .before .before .before .before .loaded .given .0 .0) (c .before .before .before .before .before .before .before .before .before .before .before .before .before .before .before .before .before .before .before .loaded .given .0 .1 .0) (c .before .before .before .before .before .before .before .before .before .before .before .before .before .before .before .before .before .before .before .loaded .given .1) (c .before .before .before .before .before .before .before .before .before .before .before .before .before .before .before .before .before .before .before .before .before .before .load .ensures .1) (c .before .before .before .before .before .before .before .before .before .before .before .before .before .before .before .before .if1 .left)) (c .before .before .before .before .before .before .before .before .before .before .before .before .before .before .cells .ensures) (c .before .before .before .before .before .before .before .before .before .before .before .before .before .if2 .left) (c .before .before .before .before .before .before .before .before .before .before .compile .ensures) (c .before .before .before .least-cost .ensures) (c .if3 .left)
+returns-5 c =
+    let at10 = c .before .before .before .before .before .before .before .before .before .before in
+    let at14 = at10 .before .before .before .before in
+    let at19 = at14 .before .before .before .before .before in
+    let at22 = at19 .before .before .before in
+    let at27 = at22 .before .before .before .before .before in
+    cost-none (at27 .args .text .now) (at27 .args .list .now) (at27 .args .table .now) _
+    (compiling-passed (at27 .args .text .now) (at27 .args .list .now) (at22 .load .last .1 .0) (at22 .load .result) (at22 .load .ensures .0)
+    (at19 .loaded .given .0 .0) (at19 .loaded .given .0 .1 .0) (at19 .loaded .given .1) (at22 .load .ensures .1) (at14 .before .before .if1 .left))
+    (at14 .cells .ensures) (at10 .before .before .before .if2 .left) (at10 .compile .ensures) (c .before .before .before .least-cost .ensures) (c .if3 .left)
 
 pub least-cost-spec : {M : Type 1} → statement M
 least-cost-spec =

@@ -13,51 +13,106 @@ returns c = sym (fault-form (c .before .before .args .next) (c .before .before .
 
 returns-2 : tie.Need-returns-2
 unfolding fault
-returns-2 c = c .unless .ensures ∙ sym (fault-of (c .before .before .before .before .before .before .args .next) (c .before .before .before .before .before .before .args .counts) (c .before .before .before .before .before .before .args .row) Job (c .before .enum-told .given .1) (not-false _ (c .before .before .before .before .if1 .left)) (search needs))
+returns-2 c =
+    let at4 = c .before .before .before .before in
+    let at6 = at4 .before .before in
+    c .unless .ensures
+    ∙ sym (fault-of (at6 .args .next) (at6 .args .counts) (at6 .args .row) Job (c .before .enum-told .given .1) (not-false _ (at4 .if1 .left)) (search needs))
 
 returns-3 : tie.Need-returns-3
 unfolding fault
-returns-3 c = c .unless2 .ensures ∙ sym (fault-of (c .before .before .before .before .before .before .args .next) (c .before .before .before .before .before .before .args .counts) (c .before .before .before .before .before .before .args .row) Facts (c .before .enum-told2 .given .1) (not-false _ (c .before .before .before .before .if1 .left)) (search needs))
+returns-3 c =
+    let at4 = c .before .before .before .before in
+    let at6 = at4 .before .before in
+    c .unless2 .ensures
+    ∙ sym (fault-of (at6 .args .next) (at6 .args .counts) (at6 .args .row) Facts
+    (c .before .enum-told2 .given .1) (not-false _ (at4 .if1 .left)) (search needs))
 
 returns-4 : tie.Need-returns-4
 unfolding fault
-returns-4 c = c .unless3 .ensures ∙ ap (λ b. cond b 0 2) (c .before .init-right .ensures) ∙ sym (fault-of (c .before .before .before .before .before .before .before .args .next) (c .before .before .before .before .before .before .before .args .counts) (c .before .before .before .before .before .before .before .args .row) Init (c .before .before .enum-told3 .given .1) (not-false _ (c .before .before .before .before .before .if1 .left)) (search needs))
+returns-4 c =
+    let at5 = c .before .before .before .before .before in
+    let at7 = at5 .before .before in
+    c .unless3 .ensures ∙ ap (λ b. cond b 0 2) (c .before .init-right .ensures)
+    ∙ sym (fault-of (at7 .args .next) (at7 .args .counts) (at7 .args .row) Init
+    (c .before .before .enum-told3 .given .1) (not-false _ (at5 .if1 .left)) (search needs))
 
 returns-5 : tie.Need-returns-5
 unfolding fault
-returns-5 c = c .unless4 .ensures ∙ ap (λ b. cond b 0 2) (c .before .one-to .ensures) ∙ sym (fault-of (c .before .before .before .before .before .before .before .args .next) (c .before .before .before .before .before .before .before .args .counts) (c .before .before .before .before .before .before .before .args .row) Formulas (c .before .before .enum-told4 .given .1) (not-false _ (c .before .before .before .before .before .if1 .left)) (search needs))
+returns-5 c =
+    let at5 = c .before .before .before .before .before in
+    let at7 = at5 .before .before in
+    c .unless4 .ensures ∙ ap (λ b. cond b 0 2) (c .before .one-to .ensures)
+    ∙ sym (fault-of (at7 .args .next) (at7 .args .counts) (at7 .args .row) Formulas
+    (c .before .before .enum-told4 .given .1) (not-false _ (at5 .if1 .left)) (search needs))
 
 returns-6 : tie.Need-returns-6
 unfolding fault
-returns-6 c = c .unless5 .ensures ∙ ap (λ b. cond b 0 3) (c .before .formula-right .ensures) ∙ sym (fault-of (c .before .before .before .before .before .before .before .args .next) (c .before .before .before .before .before .before .before .args .counts) (c .before .before .before .before .before .before .before .args .row) Formula (c .before .before .enum-told5 .given .1) (not-false _ (c .before .before .before .before .before .if1 .left)) (search needs))
+returns-6 c =
+    let at5 = c .before .before .before .before .before in
+    let at7 = at5 .before .before in
+    c .unless5 .ensures ∙ ap (λ b. cond b 0 3) (c .before .formula-right .ensures)
+    ∙ sym (fault-of (at7 .args .next) (at7 .args .counts) (at7 .args .row) Formula
+    (c .before .before .enum-told5 .given .1) (not-false _ (at5 .if1 .left)) (search needs))
 
 returns-7 : tie.Need-returns-7
 unfolding fault
-returns-7 c = c .unless6 .ensures ∙ sym (fault-of (c .before .before .before .before .before .before .args .next) (c .before .before .before .before .before .before .args .counts) (c .before .before .before .before .before .before .args .row) Moves (c .before .enum-told6 .given .1) (not-false _ (c .before .before .before .before .if1 .left)) (search needs))
+returns-7 c =
+    let at4 = c .before .before .before .before in
+    let at6 = at4 .before .before in
+    c .unless6 .ensures
+    ∙ sym (fault-of (at6 .args .next) (at6 .args .counts) (at6 .args .row) Moves
+    (c .before .enum-told6 .given .1) (not-false _ (at4 .if1 .left)) (search needs))
 
 returns-8 : tie.Need-returns-8
 unfolding fault
-returns-8 c = c .move-reason .ensures ∙ sym (fault-of (c .before .before .before .before .before .before .args .next) (c .before .before .before .before .before .before .args .counts) (c .before .before .before .before .before .before .args .row) Move (c .before .enum-told7 .given .1) (not-false _ (c .before .before .before .before .if1 .left)) (search needs))
+returns-8 c =
+    let at4 = c .before .before .before .before in
+    let at6 = at4 .before .before in
+    c .move-reason .ensures
+    ∙ sym (fault-of (at6 .args .next) (at6 .args .counts) (at6 .args .row) Move (c .before .enum-told7 .given .1) (not-false _ (at4 .if1 .left)) (search needs))
 
 returns-9 : tie.Need-returns-9
 unfolding fault
-returns-9 c = c .unless7 .ensures ∙ ap (λ b. cond b 0 3) (c .before .effect-right .ensures) ∙ sym (fault-of (c .before .before .before .before .before .before .before .args .next) (c .before .before .before .before .before .before .before .args .counts) (c .before .before .before .before .before .before .before .args .row) Effect (c .before .before .enum-told8 .given .1) (not-false _ (c .before .before .before .before .before .if1 .left)) (search needs))
+returns-9 c =
+    c .unless7 .ensures ∙ ap (λ b. cond b 0 3) (c .before .effect-right .ensures)
+    ∙ sym (fault-of (c .before .before .before .before .before .before .before .args .next)
+    (c .before .before .before .before .before .before .before .args .counts) (c .before .before .before .before .before .before .before .args .row)
+    Effect (c .before .before .enum-told8 .given .1) (not-false _ (c .before .before .before .before .before .if1 .left)) (search needs))
 
 returns-10 : tie.Need-returns-10
 unfolding fault
-returns-10 c = c .unless8 .ensures ∙ sym (fault-of (c .before .before .before .before .before .before .before .args .next) (c .before .before .before .before .before .before .before .args .counts) (c .before .before .before .before .before .before .before .args .row) Goal (c .before .before .enum-told9 .given .1) (not-false _ (c .before .before .before .before .before .if1 .left)) (search needs))
+returns-10 c =
+    let at5 = c .before .before .before .before .before in
+    let at7 = at5 .before .before in
+    c .unless8 .ensures
+    ∙ sym (fault-of (at7 .args .next) (at7 .args .counts) (at7 .args .row) Goal
+    (c .before .before .enum-told9 .given .1) (not-false _ (at5 .if1 .left)) (search needs))
 
 returns-11 : tie.Need-returns-11
 unfolding fault
-returns-11 c = c .unless9 .ensures ∙ ap (λ b. cond b 0 2) (c .before .one-to2 .ensures) ∙ sym (fault-of (c .before .before .before .before .before .before .before .args .next) (c .before .before .before .before .before .before .before .args .counts) (c .before .before .before .before .before .before .before .args .row) Program (c .before .before .enum-told10 .given .1) (not-false _ (c .before .before .before .before .before .if1 .left)) (search needs))
+returns-11 c =
+    let at5 = c .before .before .before .before .before in
+    let at7 = at5 .before .before in
+    c .unless9 .ensures ∙ ap (λ b. cond b 0 2) (c .before .one-to2 .ensures)
+    ∙ sym (fault-of (at7 .args .next) (at7 .args .counts) (at7 .args .row) Program
+    (c .before .before .enum-told10 .given .1) (not-false _ (at5 .if1 .left)) (search needs))
 
 returns-12 : tie.Need-returns-12
 unfolding fault
-returns-12 c = c .unless10 .ensures ∙ ap (λ b. cond b 0 3) (c .before .row-right .ensures) ∙ sym (fault-of (c .before .before .before .before .before .before .before .args .next) (c .before .before .before .before .before .before .before .args .counts) (c .before .before .before .before .before .before .before .args .row) Row (c .before .before .enum-told11 .given .1) (not-false _ (c .before .before .before .before .before .if1 .left)) (search needs))
+returns-12 c =
+    let at5 = c .before .before .before .before .before in
+    let at7 = at5 .before .before in
+    c .unless10 .ensures ∙ ap (λ b. cond b 0 3) (c .before .row-right .ensures)
+    ∙ sym (fault-of (at7 .args .next) (at7 .args .counts) (at7 .args .row) Row
+    (c .before .before .enum-told11 .given .1) (not-false _ (at5 .if1 .left)) (search needs))
 
 returns-13 : tie.Need-returns-13
 unfolding fault
-returns-13 c = sym (fault-of (c .before .before .before .before .before .args .next) (c .before .before .before .before .before .args .counts) (c .before .before .before .before .before .args .row) End (c .enum-told12 .given .1) (not-false _ (c .before .before .before .if1 .left)) (search needs))
+returns-13 c =
+    let at5 = c .before .before .before .before .before in
+    sym (fault-of (at5 .args .next) (at5 .args .counts) (at5 .args .row) End
+    (c .enum-told12 .given .1) (not-false _ (c .before .before .before .if1 .left)) (search needs))
 
 pub reason-spec : {M : Type 1} → statement M
 reason-spec =

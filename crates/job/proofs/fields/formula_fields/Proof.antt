@@ -21,7 +21,14 @@ returns-5 : tie.Need-returns-5
 returns-5 c = rw (c .before .match .keys5, c .listed5 .ensures .0, c .listed5 .ensures .1)
 
 returns-6 : tie.Need-returns-6
-returns-6 c = let p0 = past 0 (c .before .before .args .kind) (omega arith) (c .before .match .rest .0 .0 .0 .0 .1) in let p1 = past 1 (c .before .before .args .kind) (p0) (c .before .match .rest .0 .0 .0 .1) in let p2 = past 2 (c .before .before .args .kind) (p1) (c .before .match .rest .0 .0 .1) in let p3 = past 3 (c .before .before .args .kind) (p2) (c .before .match .rest .0 .1) in let p4 = past 4 (c .before .before .args .kind) (p3) (c .before .match .rest .1) in let e : c .before .before .args .kind ≡ 5 = omega (arith, c .before .before .pre, p4) in rw (e, c .listed6 .ensures .0, c .listed6 .ensures .1)
+returns-6 c =
+    let p0 = past 0 (c .before .before .args .kind) (omega arith) (c .before .match .rest .0 .0 .0 .0 .1) in
+    let p1 = past 1 (c .before .before .args .kind) (p0) (c .before .match .rest .0 .0 .0 .1) in
+    let p2 = past 2 (c .before .before .args .kind) (p1) (c .before .match .rest .0 .0 .1) in
+    let p3 = past 3 (c .before .before .args .kind) (p2) (c .before .match .rest .0 .1) in
+    let p4 = past 4 (c .before .before .args .kind) (p3) (c .before .match .rest .1) in
+    let e : c .before .before .args .kind ≡ 5 = omega (arith, c .before .before .pre, p4) in
+    rw (e, c .listed6 .ensures .0, c .listed6 .ensures .1)
 
 pub formula-fields-spec : {M : Type 1} → statement M
 formula-fields-spec =

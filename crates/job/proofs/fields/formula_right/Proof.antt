@@ -11,7 +11,14 @@ returns : tie.Need-returns
 returns c = rw (List·getD-eq-default formulaFields [] {n = getD (c .before .args .t1) 0 0} (c .if1 .taken))
 
 returns-2 : tie.Need-returns-2
-returns-2 c = rw (c .before .before .before .formula-fields .ensures, ← c .before .before .bound .ensures, ← c .bound2 .ensures, lt-ltb _ _ (c .before .if2 .taken), and-true)
+returns-2 c =
+    rw (
+      c .before .before .before .formula-fields .ensures,
+      ← c .before .before .bound .ensures,
+      ← c .bound2 .ensures,
+      lt-ltb _ _ (c .before .if2 .taken),
+      and-true,
+    )
 
 returns-3 : tie.Need-returns-3
 returns-3 c = rw (c .before .before .formula-fields .ensures, ← c .before .bound .ensures, le-ltb _ _ (c .if2 .left))

@@ -30,7 +30,17 @@ returns-8 : tie.Need-returns-8
 returns-8 c = rw (c .before .match .keys8, c .listed8 .ensures .0, c .listed8 .ensures .1, c .listed8 .ensures .2)
 
 returns-9 : tie.Need-returns-9
-returns-9 c = let p0 = past 0 (c .before .before .args .kind) (omega arith) (c .before .match .rest .0 .0 .0 .0 .0 .0 .0 .1) in let p1 = past 1 (c .before .before .args .kind) (p0) (c .before .match .rest .0 .0 .0 .0 .0 .0 .1) in let p2 = past 2 (c .before .before .args .kind) (p1) (c .before .match .rest .0 .0 .0 .0 .0 .1) in let p3 = past 3 (c .before .before .args .kind) (p2) (c .before .match .rest .0 .0 .0 .0 .1) in let p4 = past 4 (c .before .before .args .kind) (p3) (c .before .match .rest .0 .0 .0 .1) in let p5 = past 5 (c .before .before .args .kind) (p4) (c .before .match .rest .0 .0 .1) in let p6 = past 6 (c .before .before .args .kind) (p5) (c .before .match .rest .0 .1) in let p7 = past 7 (c .before .before .args .kind) (p6) (c .before .match .rest .1) in let e : c .before .before .args .kind ≡ 8 = omega (arith, c .before .before .pre, p7) in rw (e, c .listed9 .ensures .0, c .listed9 .ensures .1, c .listed9 .ensures .2)
+returns-9 c =
+    let p0 = past 0 (c .before .before .args .kind) (omega arith) (c .before .match .rest .0 .0 .0 .0 .0 .0 .0 .1) in
+    let p1 = past 1 (c .before .before .args .kind) (p0) (c .before .match .rest .0 .0 .0 .0 .0 .0 .1) in
+    let p2 = past 2 (c .before .before .args .kind) (p1) (c .before .match .rest .0 .0 .0 .0 .0 .1) in
+    let p3 = past 3 (c .before .before .args .kind) (p2) (c .before .match .rest .0 .0 .0 .0 .1) in
+    let p4 = past 4 (c .before .before .args .kind) (p3) (c .before .match .rest .0 .0 .0 .1) in
+    let p5 = past 5 (c .before .before .args .kind) (p4) (c .before .match .rest .0 .0 .1) in
+    let p6 = past 6 (c .before .before .args .kind) (p5) (c .before .match .rest .0 .1) in
+    let p7 = past 7 (c .before .before .args .kind) (p6) (c .before .match .rest .1) in
+    let e : c .before .before .args .kind ≡ 8 = omega (arith, c .before .before .pre, p7) in
+    rw (e, c .listed9 .ensures .0, c .listed9 .ensures .1, c .listed9 .ensures .2)
 
 pub row-fields-spec : {M : Type 1} → statement M
 row-fields-spec =

@@ -20,9 +20,11 @@ loop-holds c = (omega arith, refl)
 
 slice-write-rows : tie.Need-slice-write-rows Inv-loop μ-loop
 slice-write-rows c =
-    let a = c .before .before .args in
-    let l : length (c .before .loop .rows) ≡ length (a .rows .now) = ap length (c .before .loop .inv .1) ∙ length-sets (a .rows .now) (a .i * width) (take (c .before .loop .k) (a .t3)) in
-    omega (arith, l, c .before .before .pre .0, c .before .before .pre .1)
+    let at2 = c .before .before in
+    let a = at2 .args in
+    let l : length (c .before .loop .rows) ≡ length (a .rows .now) = ap length (c .before .loop .inv .1)
+    ∙ length-sets (a .rows .now) (a .i * width) (take (c .before .loop .k) (a .t3)) in
+    omega (arith, l, at2 .pre .0, at2 .pre .1)
 
 loop-again : tie.Need-loop-again Inv-loop μ-loop
 loop-again c =
@@ -31,7 +33,9 @@ loop-again c =
     (omega arith, rw (c .before .loop .inv .1) (sets-more (a .rows .now) (a .t3) (a .i * width) (c .before .loop .k) (omega arith)))
 
 same-length : tie.Need-same-length Inv-loop μ-loop
-same-length c = let a = c .before .before .args in ap length (c .before .loop .inv .1) ∙ length-sets (a .rows .now) (a .i * width) (take (c .before .loop .k) (a .t3))
+same-length c =
+    let a = c .before .before .args in
+    ap length (c .before .loop .inv .1) ∙ length-sets (a .rows .now) (a .i * width) (take (c .before .loop .k) (a .t3))
 
 returns : tie.Need-returns Inv-loop μ-loop
 returns c =

@@ -18,7 +18,9 @@ shared-slice-read-t15 : tie.Need-shared-slice-read-t15
 shared-slice-read-t15 c = omega (arith, c .before .before .before .pre .0 .size, limited (c .before .before .before .pre .0) .effects)
 
 returns : tie.Need-returns
-returns c = sym (effect-is (c .before .before .before .args .head) (c .before .before .before .args .rows .now) (c .before .before .before .args .i) (c .before .before .before .pre .1))
+returns c =
+    let at3 = c .before .before .before in
+    sym (effect-is (at3 .args .head) (at3 .args .rows .now) (at3 .args .i) (at3 .pre .1))
 
 pub effect-at-spec : {M : Type 1} → statement M
 effect-at-spec =

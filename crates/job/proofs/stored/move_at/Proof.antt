@@ -21,7 +21,9 @@ shared-slice-read-t19 : tie.Need-shared-slice-read-t19
 shared-slice-read-t19 c = omega (arith, c .before .before .before .before .pre .0 .size, limited (c .before .before .before .before .pre .0) .moves)
 
 returns : tie.Need-returns
-returns c = sym (move-is (c .before .before .before .before .args .head) (c .before .before .before .before .args .rows .now) (c .before .before .before .before .args .i) (c .before .before .before .before .pre .1))
+returns c =
+    let at4 = c .before .before .before .before in
+    sym (move-is (at4 .args .head) (at4 .args .rows .now) (at4 .args .i) (at4 .pre .1))
 
 pub move-at-spec : {M : Type 1} → statement M
 move-at-spec =

@@ -9,7 +9,9 @@ use Rattle.offers.proofs.room.cells.Statement.{statement}
 use Rattle.offers.proofs.room.cells.Tie as tie
 
 mul-result : tie.Need-mul-result
-mul-result c = let few : c .state-count .result ≤ mostStates = omega (arith, c .state-count .ensures, states-few (c .before .before .pre)) in omega (arith, mul-le-mul-right (c .before .before .args .positions) few)
+mul-result c =
+    let few : c .state-count .result ≤ mostStates = omega (arith, c .state-count .ensures, states-few (c .before .before .pre)) in
+    omega (arith, mul-le-mul-right (c .before .before .args .positions) few)
 
 returns : tie.Need-returns
 returns c = ap (λ (k : ℕ). k * c .before .before .args .positions) (c .state-count .ensures)

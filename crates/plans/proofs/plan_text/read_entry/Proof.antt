@@ -4,10 +4,14 @@ use Rattle.plans.proofs.plan_text.read_entry.Statement.{statement}
 use Rattle.plans.proofs.plan_text.read_entry.Tie as tie
 
 returns : tie.Need-returns
-returns c = entry-below _ _ _ _ _ _ (c .before .before .before .before .before .value .ensures) (c .before .before .before .read-numbers .ensures) (c .before .if1 .taken) (c .if2 .taken)
+returns c =
+    let at5 = c .before .before .before .before .before in
+    entry-below _ _ _ _ _ _ (at5 .value .ensures) (c .before .before .before .read-numbers .ensures) (c .before .if1 .taken) (c .if2 .taken)
 
 returns-2 : tie.Need-returns-2
-returns-2 c = entry-past _ _ _ _ _ _ (c .before .before .before .before .before .value .ensures) (c .before .before .before .read-numbers .ensures) (c .before .if1 .taken) (c .if2 .left)
+returns-2 c =
+    let at5 = c .before .before .before .before .before in
+    entry-past _ _ _ _ _ _ (at5 .value .ensures) (c .before .before .before .read-numbers .ensures) (c .before .if1 .taken) (c .if2 .left)
 
 returns-3 : tie.Need-returns-3
 returns-3 c = entry-none _ _ _ _ _ _ (c .before .before .before .before .value .ensures) (c .before .before .read-numbers .ensures) (c .if1 .left)

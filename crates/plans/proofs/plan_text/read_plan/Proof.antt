@@ -13,14 +13,31 @@ part-read-entry-end c = omega (arith, c .line-end .ensures, length-le (c .before
 
 returns : tie.Need-returns
 unfolding bytes
-returns c = (sym (first-wrong _ _ _ (c .before .before .before .before .before .before .before .before .before .args .text .now) (c .before .before .before .before .before .line-end .ensures ∙ omega arith) (sym (c .before .before .read-entry .ensures) ∙ ap entryOf (c .enum-told .given .1))), omega arith)
+returns c =
+    let at5 = c .before .before .before .before .before in
+    let at9 = at5 .before .before .before .before in (
+      sym (first-wrong _ _ _ (at9 .args .text .now) (at5 .line-end .ensures ∙ omega arith)
+          (sym (c .before .before .read-entry .ensures) ∙ ap entryOf (c .enum-told .given .1))),
+      omega arith,
+    )
 
 read-entries-requires : tie.Need-read-entries-requires
-read-entries-requires c κs = (omega (arith, entry-number _ _ _ _ (sym (c .before .before .before .before .read-entry .ensures) ∙ ap entryOf (c .before .before .first .given .1)) .0), c .before .before .before .before .before .before .before .before .before .before .before .pre)
+read-entries-requires c κs =
+    let at4 = c .before .before .before .before in
+    let at11 = at4 .before .before .before .before .before .before .before in
+    (omega (arith, entry-number _ _ _ _ (sym (at4 .read-entry .ensures) ∙ ap entryOf (c .before .before .first .given .1)) .0), at11 .pre)
 
 returns-2 : tie.Need-returns-2
 unfolding bytes
-returns-2 c = (c .before .before .read-entries .ensures .0 ∙ sym (first-right _ _ _ (c .before .before .before .before .before .before .before .before .before .before .before .before .before .before .args .text .now) (c .before .before .before .before .before .before .before .before .before .before .line-end .ensures ∙ omega arith) _ (sym (c .before .before .before .before .before .before .before .read-entry .ensures) ∙ ap entryOf (c .before .before .before .before .before .first .given .1))), c .before .before .read-entries .ensures .1)
+returns-2 c = (
+  c .before .before .read-entries .ensures .0
+      ∙ sym (first-right _ _ _
+      (c .before .before .before .before .before .before .before .before .before .before .before .before .before .before .args .text .now)
+      (c .before .before .before .before .before .before .before .before .before .before .line-end .ensures ∙ omega arith) _
+      (sym (c .before .before .before .before .before .before .before .read-entry .ensures)
+      ∙ ap entryOf (c .before .before .before .before .before .first .given .1))),
+  c .before .before .read-entries .ensures .1,
+)
 
 pub read-plan-spec : {M : Type 1} → statement M
 read-plan-spec =

@@ -12,7 +12,9 @@ returns c = let e : isEnd (c .before .before .before .args .s .next) ≡ true = 
 
 returns-2 : tie.Need-returns-2
 unfolding ended
-returns-2 c = let e : isEnd (c .before .before .before .before .args .s .next) ≡ false = sym (c .before .before .is-end .ensures) ∙ c .before .if1 .left in λ l. ap (λ a. outcomeOf a l) (c .refused .ensures) ∙ rw e
+returns-2 c =
+    let e : isEnd (c .before .before .before .before .args .s .next) ≡ false = sym (c .before .before .is-end .ensures) ∙ c .before .if1 .left in
+    λ l. ap (λ a. outcomeOf a l) (c .refused .ensures) ∙ rw e
 
 pub finish-spec : {M : Type 1} → statement M
 finish-spec = tie.close (tie.spec (λ c κs. search needs) returns (λ c. search needs) (λ c κs. search needs) returns-2)

@@ -8,7 +8,8 @@ use Rattle.report.proofs.lines.plan.Tie as tie
 
 returns : tie.Need-returns
 unfolding bytes
-returns c = put-as 64 refl (omega arith) (put-append (c .before .before .before .before .before .before .before .line .ensures) (c .before .before .text .ensures))
+returns c =
+    put-as 64 refl (omega arith) (put-append (c .before .before .before .before .before .before .before .line .ensures) (c .before .before .text .ensures))
 
 pub plan-spec : {M : Type 1} → statement M
 plan-spec =

@@ -8,7 +8,12 @@ use Rattle.report.proofs.lines.refusal.Tie as tie
 
 returns : tie.Need-returns
 unfolding bytes
-returns c = put-as 64 (refused-text (c .before .before .before .before .before .before .before .before .before .before .before .before .before .before .before .before .args .r)) (omega arith) (put-append (put-append (c .before .before .before .before .before .before .before .before .before .before .before .before .text .ensures) (c .before .before .before .before .before .before .before .number .ensures)) (c .before .before .line .ensures))
+returns c =
+    let at7 = c .before .before .before .before .before .before .before in
+    let at12 = at7 .before .before .before .before .before in
+    let at16 = at12 .before .before .before .before in
+    put-as 64 (refused-text (at16 .args .r)) (omega arith)
+    (put-append (put-append (at12 .text .ensures) (at7 .number .ensures)) (c .before .before .line .ensures))
 
 pub refusal-spec : {M : Type 1} → statement M
 refusal-spec =

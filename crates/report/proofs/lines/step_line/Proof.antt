@@ -6,7 +6,17 @@ use Rattle.report.proofs.lines.step_line.Statement.{statement}
 use Rattle.report.proofs.lines.step_line.Tie as tie
 
 returns : tie.Need-returns
-returns c = put-as 26 (step-text (c .before .before .before .before .before .before .before .before .before .before .before .before .before .before .before .before .before .before .before .before .before .before .before .before .before .args .kind) (c .before .before .before .before .before .before .before .before .before .before .before .before .before .before .before .before .before .before .before .before .before .before .before .before .before .args .from) (c .before .before .before .before .before .before .before .before .before .before .before .before .before .before .before .before .before .before .before .before .before .before .before .before .before .args .to) (c .before .before .before .before .before .before .before .before .before .before .before .before .before .before .before .before .before .before .before .before .before .before .before .before .before .args .arg)) (omega arith) (put-append (put-append (put-append (put-append (put-append (c .before .before .before .before .before .before .before .before .before .before .before .before .before .before .before .before .before .before .before .before .before .before .byte .ensures) (c .before .before .before .before .before .before .before .before .before .before .before .before .before .before .before .before .before .before .marked .ensures)) (c .before .before .before .before .before .before .before .before .before .before .before .before .before .before .marked2 .ensures)) (c .before .before .before .before .before .before .before .before .before .before .marked3 .ensures)) (c .before .before .before .before .before .before .marked4 .ensures)) (c .before .before .byte2 .ensures))
+returns c =
+    let at6 = c .before .before .before .before .before .before in
+    let at10 = at6 .before .before .before .before in
+    let at14 = at10 .before .before .before .before in
+    let at18 = at14 .before .before .before .before in
+    let at22 = at18 .before .before .before .before in
+    let at25 = at22 .before .before .before in
+    put-as 26 (step-text (at25 .args .kind) (at25 .args .from) (at25 .args .to) (at25 .args .arg)) (omega arith)
+    (put-append (put-append (put-append
+    (put-append (put-append (at22 .byte .ensures) (at18 .marked .ensures)) (at14 .marked2 .ensures))
+    (at10 .marked3 .ensures)) (at6 .marked4 .ensures)) (c .before .before .byte2 .ensures))
 
 pub step-line-spec : {M : Type 1} → statement M
 step-line-spec =

@@ -17,7 +17,10 @@ loop-holds : tie.Need-loop-holds Inv-loop μ-loop
 loop-holds c = (refl, onward-start (c .before .before .args .list .now) (c .before .before .args .out .now) (c .before .before .args .at))
 
 loop-again : tie.Need-loop-again Inv-loop μ-loop
-loop-again c = (c .before .before .step-line .kept .0 ∙ c .before .before .before .before .before .before .before .before .before .loop .inv .0, onward-more (c .before .before .before .before .before .before .before .before .before .loop .inv .1) (omega arith) (c .before .before .step-line .ensures))
+loop-again c =
+    let at2 = c .before .before in
+    let at9 = at2 .before .before .before .before .before .before .before in
+    (at2 .step-line .kept .0 ∙ at9 .loop .inv .0, onward-more (at9 .loop .inv .1) (omega arith) (at2 .step-line .ensures))
 
 returns : tie.Need-returns Inv-loop μ-loop
 returns c = onward-end (c .before .loop .inv .1) (omega arith)

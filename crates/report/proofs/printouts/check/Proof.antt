@@ -7,10 +7,14 @@ use Rattle.report.proofs.printouts.check.Statement.{statement}
 use Rattle.report.proofs.printouts.check.Tie as tie
 
 returns : tie.Need-returns
-returns c = put-prints (omega arith) (put-as 64 (sym (ap checkPrintout (c .before .before .before .before .before .answer .given .1))) (omega arith) (c .before .before .verdict .ensures))
+returns c =
+    let at5 = c .before .before .before .before .before in
+    put-prints (omega arith) (put-as 64 (sym (ap checkPrintout (at5 .answer .given .1))) (omega arith) (c .before .before .verdict .ensures))
 
 returns-2 : tie.Need-returns-2
-returns-2 c = put-prints (omega arith) (put-as 64 (sym (ap checkPrintout (c .before .before .before .before .before .answer2 .given .1))) (omega arith) (c .before .before .refusal .ensures))
+returns-2 c =
+    let at5 = c .before .before .before .before .before in
+    put-prints (omega arith) (put-as 64 (sym (ap checkPrintout (at5 .answer2 .given .1))) (omega arith) (c .before .before .refusal .ensures))
 
 pub check-spec : {M : Type 1} → statement M
 check-spec =

@@ -7,10 +7,18 @@ use Rattle.report.proofs.printouts.compile.Statement.{statement}
 use Rattle.report.proofs.printouts.compile.Tie as tie
 
 returns : tie.Need-returns
-returns c = put-prints (omega arith) (put-as 28800 (sym (ap (λ a. compilePrintout a (c .before .before .before .before .before .before .before .before .before .args .list .now)) (c .before .before .before .before .before .answer .given .1))) (omega arith) (c .before .before .compiled .ensures))
+returns c =
+    let at5 = c .before .before .before .before .before in
+    let at9 = at5 .before .before .before .before in
+    put-prints (omega arith)
+    (put-as 28800 (sym (ap (λ a. compilePrintout a (at9 .args .list .now)) (at5 .answer .given .1))) (omega arith) (c .before .before .compiled .ensures))
 
 returns-2 : tie.Need-returns-2
-returns-2 c = put-prints (omega arith) (put-as 64 (sym (ap (λ a. compilePrintout a (c .before .before .before .before .before .before .before .before .before .args .list .now)) (c .before .before .before .before .before .answer2 .given .1))) (omega arith) (c .before .before .refusal .ensures))
+returns-2 c =
+    let at5 = c .before .before .before .before .before in
+    let at9 = at5 .before .before .before .before in
+    put-prints (omega arith)
+    (put-as 64 (sym (ap (λ a. compilePrintout a (at9 .args .list .now)) (at5 .answer2 .given .1))) (omega arith) (c .before .before .refusal .ensures))
 
 pub compile-spec : {M : Type 1} → statement M
 compile-spec =

@@ -8,7 +8,8 @@ use Rattle.report.proofs.printouts.costs.Tie as tie
 
 returns : tie.Need-returns
 unfolding bytes
-returns c = put-as 64 refl (omega arith) (put-append (c .before .before .before .before .before .before .before .line .ensures) (c .before .before .line2 .ensures))
+returns c =
+    put-as 64 refl (omega arith) (put-append (c .before .before .before .before .before .before .before .line .ensures) (c .before .before .line2 .ensures))
 
 pub costs-spec : {M : Type 1} → statement M
 costs-spec =

@@ -7,14 +7,47 @@ use Rattle.report.proofs.printouts.counts.Statement.{statement}
 use Rattle.report.proofs.printouts.counts.Tie as tie
 
 line-requires-5 : tie.Need-line-requires-5
-line-requires-5 c κs = omega (arith, c .before .before .before .before .before .before .before .before .before .before .before .before .before .before .before .before .before .before .before .before .before .before .before .line .kept .0, c .before .before .before .before .before .before .before .before .before .before .before .before .before .before .before .before .before .before .before .before .before .before .before .line .ensures .laid .place, c .before .before .before .before .before .before .before .before .before .before .before .before .before .before .before .before .before .before .before .before .before .before .before .line .ensures .short, c .before .before .before .before .before .before .before .before .before .before .before .before .before .before .before .before .before .line2 .kept .0, c .before .before .before .before .before .before .before .before .before .before .before .before .before .before .before .before .before .line2 .ensures .laid .place, c .before .before .before .before .before .before .before .before .before .before .before .before .before .before .before .before .before .line2 .ensures .short, c .before .before .before .before .before .before .before .before .before .before .before .line3 .kept .0, c .before .before .before .before .before .before .before .before .before .before .before .line3 .ensures .laid .place, c .before .before .before .before .before .before .before .before .before .before .before .line3 .ensures .short, c .before .before .before .before .before .line4 .kept .0, c .before .before .before .before .before .line4 .ensures .laid .place, c .before .before .before .before .before .line4 .ensures .short, c .before .before .before .before .before .before .before .before .before .before .before .before .before .before .before .before .before .before .before .before .before .before .before .before .before .before .before .before .pre)
+line-requires-5 c κs =
+    let at5 = c .before .before .before .before .before in
+    let at11 = at5 .before .before .before .before .before .before in
+    let at17 = at11 .before .before .before .before .before .before in
+    let at23 = at17 .before .before .before .before .before .before in
+    let at28 = at23 .before .before .before .before .before in
+    omega (
+      arith,
+      at23 .line .kept .0,
+      at23 .line .ensures .laid .place,
+      at23 .line .ensures .short,
+      at17 .line2 .kept .0,
+      at17 .line2 .ensures .laid .place,
+      at17 .line2 .ensures .short,
+      at11 .line3 .kept .0,
+      at11 .line3 .ensures .laid .place,
+      at11 .line3 .ensures .short,
+      at5 .line4 .kept .0,
+      at5 .line4 .ensures .laid .place,
+      at5 .line4 .ensures .short,
+      at28 .pre,
+    )
 
 same-length : tie.Need-same-length
-same-length c = c .before .before .line5 .kept .0 ∙ c .before .before .before .before .before .before .before .before .line4 .kept .0 ∙ c .before .before .before .before .before .before .before .before .before .before .before .before .before .before .line3 .kept .0 ∙ c .before .before .before .before .before .before .before .before .before .before .before .before .before .before .before .before .before .before .before .before .line2 .kept .0 ∙ c .before .before .before .before .before .before .before .before .before .before .before .before .before .before .before .before .before .before .before .before .before .before .before .before .before .before .line .kept .0
+same-length c =
+    let at8 = c .before .before .before .before .before .before .before .before in
+    let at14 = at8 .before .before .before .before .before .before in
+    let at20 = at14 .before .before .before .before .before .before in
+    let at26 = at20 .before .before .before .before .before .before in
+    c .before .before .line5 .kept .0 ∙ at8 .line4 .kept .0 ∙ at14 .line3 .kept .0 ∙ at20 .line2 .kept .0 ∙ at26 .line .kept .0
 
 returns : tie.Need-returns
 unfolding bytes
-returns c = put-as 160 refl (omega arith) (put-append (put-append (put-append (put-append (c .before .before .before .before .before .before .before .before .before .before .before .before .before .before .before .before .before .before .before .before .before .before .before .before .before .before .line .ensures) (c .before .before .before .before .before .before .before .before .before .before .before .before .before .before .before .before .before .before .before .before .line2 .ensures)) (c .before .before .before .before .before .before .before .before .before .before .before .before .before .before .line3 .ensures)) (c .before .before .before .before .before .before .before .before .line4 .ensures)) (c .before .before .line5 .ensures))
+returns c =
+    let at8 = c .before .before .before .before .before .before .before .before in
+    let at14 = at8 .before .before .before .before .before .before in
+    let at20 = at14 .before .before .before .before .before .before in
+    let at26 = at20 .before .before .before .before .before .before in
+    put-as 160 refl (omega arith)
+    (put-append (put-append (put-append (put-append (at26 .line .ensures) (at20 .line2 .ensures)) (at14 .line3 .ensures))
+    (at8 .line4 .ensures)) (c .before .before .line5 .ensures))
 
 pub counts-spec : {M : Type 1} → statement M
 counts-spec =

@@ -9,11 +9,17 @@ use Rattle.report.proofs.printouts.judgement.Tie as tie
 
 returns : tie.Need-returns
 unfolding bytes
-returns c = put-as 128 (sym (ap judgementLines (c .before .before .before .before .before .before .before .before .before .before .j .given .1))) (omega arith) (put-append (c .before .before .before .before .before .before .before .costs .ensures) (c .before .before .text .ensures))
+returns c =
+    let at7 = c .before .before .before .before .before .before .before in
+    put-as 128 (sym (ap judgementLines (at7 .before .before .before .j .given .1)))
+    (omega arith) (put-append (at7 .costs .ensures) (c .before .before .text .ensures))
 
 returns-2 : tie.Need-returns-2
 unfolding bytes
-returns-2 c = put-as 128 (sym (ap judgementLines (c .before .before .before .before .before .before .before .before .before .before .j2 .given .1))) (omega arith) (put-append (c .before .before .before .before .before .before .before .costs2 .ensures) (c .before .before .text2 .ensures))
+returns-2 c =
+    let at7 = c .before .before .before .before .before .before .before in
+    put-as 128 (sym (ap judgementLines (at7 .before .before .before .j2 .given .1)))
+    (omega arith) (put-append (at7 .costs2 .ensures) (c .before .before .text2 .ensures))
 
 returns-3 : tie.Need-returns-3
 returns-3 c = put-as 128 (sym (ap judgementLines (c .before .before .before .before .before .j3 .given .1))) (omega arith) (c .before .before .verdict .ensures)

@@ -9,14 +9,20 @@ use Rattle.report.proofs.printouts.least_cost.Tie as tie
 
 returns : tie.Need-returns
 unfolding bytes
-returns c = put-prints (omega arith) (put-as 64 (sym (ap leastPrintout (c .before .before .before .before .before .before .answer .given .1))) (omega arith) (c .before .before .line .ensures))
+returns c =
+    let at6 = c .before .before .before .before .before .before in
+    put-prints (omega arith) (put-as 64 (sym (ap leastPrintout (at6 .answer .given .1))) (omega arith) (c .before .before .line .ensures))
 
 returns-2 : tie.Need-returns-2
 unfolding bytes
-returns-2 c = put-prints (omega arith) (put-as 64 (sym (ap leastPrintout (c .before .before .before .before .before .enum-told .given .1))) (omega arith) (c .before .before .text .ensures))
+returns-2 c =
+    let at5 = c .before .before .before .before .before in
+    put-prints (omega arith) (put-as 64 (sym (ap leastPrintout (at5 .enum-told .given .1))) (omega arith) (c .before .before .text .ensures))
 
 returns-3 : tie.Need-returns-3
-returns-3 c = put-prints (omega arith) (put-as 64 (sym (ap leastPrintout (c .before .before .before .before .before .answer2 .given .1))) (omega arith) (c .before .before .refusal .ensures))
+returns-3 c =
+    let at5 = c .before .before .before .before .before in
+    put-prints (omega arith) (put-as 64 (sym (ap leastPrintout (at5 .answer2 .given .1))) (omega arith) (c .before .before .refusal .ensures))
 
 pub least-cost-spec : {M : Type 1} → statement M
 least-cost-spec =

@@ -7,10 +7,14 @@ use Rattle.report.proofs.printouts.read.Statement.{statement}
 use Rattle.report.proofs.printouts.read.Tie as tie
 
 returns : tie.Need-returns
-returns c = put-prints (omega arith) (put-as 160 (sym (ap readPrintout (c .before .before .before .before .before .answer .given .1))) (omega arith) (c .before .before .counts .ensures))
+returns c =
+    let at5 = c .before .before .before .before .before in
+    put-prints (omega arith) (put-as 160 (sym (ap readPrintout (at5 .answer .given .1))) (omega arith) (c .before .before .counts .ensures))
 
 returns-2 : tie.Need-returns-2
-returns-2 c = put-prints (omega arith) (put-as 64 (sym (ap readPrintout (c .before .before .before .before .before .answer2 .given .1))) (omega arith) (c .before .before .refusal .ensures))
+returns-2 c =
+    let at5 = c .before .before .before .before .before in
+    put-prints (omega arith) (put-as 64 (sym (ap readPrintout (at5 .answer2 .given .1))) (omega arith) (c .before .before .refusal .ensures))
 
 pub read-spec : {M : Type 1} → statement M
 read-spec =

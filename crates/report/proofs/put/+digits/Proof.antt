@@ -33,16 +33,25 @@ digits-returns : (t : ℕ) → digits-lts.Need-returns (claims t) (digits-at t) 
 digits-returns t c = digit-laid (c .before .before .before .before .if1 .taken) (c .before .before .digit .ensures)
 
 digits-digits-requires : (t : ℕ) → digits-lts.Need-digits-requires (claims t) (digits-at t) digits.Post
-digits-digits-requires t c κs = (omega (arith, c .before .before .before .pre .0), omega (arith, tens-length (c .before .before .before .args .n) (omega (arith, c .before .if1 .left)), c .before .before .before .pre .1))
+digits-digits-requires t c κs =
+    let at3 = c .before .before .before in
+    (omega (arith, at3 .pre .0), omega (arith, tens-length (at3 .args .n) (omega (arith, c .before .if1 .left)), at3 .pre .1))
 
 digits-digit-requires-2 : (t : ℕ) → digits-lts.Need-digit-requires-2 (claims t) (digits-at t) digits.Post
-digits-digit-requires-2 t c κs = omega (arith, tens-length (c .before .before .before .before .before .before .before .args .n) (omega (arith, c .before .before .before .before .before .if1 .left)), c .before .before .before .digits .ensures .place, c .before .before .before .digits .kept .0, c .before .before .before .before .before .before .before .pre .1)
+digits-digit-requires-2 t c κs =
+    let at3 = c .before .before .before in
+    let at7 = at3 .before .before .before .before in
+    omega (arith, tens-length (at7 .args .n) (omega (arith, at3 .before .before .if1 .left)), at3 .digits .ensures .place, at3 .digits .kept .0, at7 .pre .1)
 
 digits-same-length-2 : (t : ℕ) → digits-lts.Need-same-length-2 (claims t) (digits-at t) digits.Post
 digits-same-length-2 t c = search needs
 
 digits-returns-2 : (t : ℕ) → digits-lts.Need-returns-2 (claims t) (digits-at t) digits.Post
-digits-returns-2 t c = let h : 10 ≤ c .before .before .before .before .before .before .before .before .before .before .args .n = omega (arith, c .before .before .before .before .before .before .before .before .if1 .left) in tens-laid h (c .before .before .before .before .before .before .digits .ensures) (c .before .before .digit2 .ensures)
+digits-returns-2 t c =
+    let at6 = c .before .before .before .before .before .before in
+    let at10 = at6 .before .before .before .before in
+    let h : 10 ≤ at10 .args .n = omega (arith, at6 .before .before .if1 .left) in
+    tens-laid h (at6 .digits .ensures) (c .before .before .digit2 .ensures)
 
 pub +digits-spec : {M : Type 1} → statement M
 +digits-spec =

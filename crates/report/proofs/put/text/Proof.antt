@@ -20,8 +20,11 @@ loop-holds c = (omega arith, refl, refl)
 loop-again : tie.Need-loop-again Inv-loop μ-loop
 loop-again c =
     let o = c .before .before .before .args in
-    let l = c .before .before .loop in
-    (omega arith, simp length-set (l .inv .1), ap (λ x. set x (o .at + l .k) (getD (o .t .now) (l .k) 0)) (l .inv .2) ∙ copy-more (o .out .now) (o .t .now) (o .at) (l .k) (omega arith))
+    let l = c .before .before .loop in (
+      omega arith,
+      simp length-set (l .inv .1),
+      ap (λ x. set x (o .at + l .k) (getD (o .t .now) (l .k) 0)) (l .inv .2) ∙ copy-more (o .out .now) (o .t .now) (o .at) (l .k) (omega arith),
+    )
 
 returns : tie.Need-returns Inv-loop μ-loop
 returns c =

@@ -31,7 +31,9 @@ same-length-2 : tie.Need-same-length-2 Inv-loop μ-loop
 same-length-2 c = c .before .before .before .loop .inv .size
 
 returns : tie.Need-returns Inv-loop μ-loop
-returns c = settling-end (c .before .before .before .loop .inv) (c .before .choose .ensures) (c .if1 .taken) (c .before .before .before .before .before .before .before .before .before .before .pre .0 .states)
+returns c =
+    let at10 = c .before .before .before .before .before .before .before .before .before .before in
+    settling-end (c .before .before .before .loop .inv) (c .before .choose .ensures) (c .if1 .taken) (at10 .pre .0 .states)
 
 cast-t14 : tie.Need-cast-t14 Inv-loop μ-loop
 cast-t14 c =
@@ -51,7 +53,10 @@ loop-less : tie.Need-loop-less Inv-loop μ-loop
 loop-less c = c .before .before .before .before .visit .ensures .less
 
 loop-again : tie.Need-loop-again Inv-loop μ-loop
-loop-again c = settling-more (c .before .before .before .before .before .before .before .before .before .before .loop .inv) (c .before .before .before .before .visit .ensures)
+loop-again c =
+    let at4 = c .before .before .before .before in
+    let at10 = at4 .before .before .before .before .before .before in
+    settling-more (at10 .loop .inv) (at4 .visit .ensures)
 
 pub settle-spec : {M : Type 1} → statement M
 settle-spec =

@@ -17,13 +17,18 @@ sweep-requires c κs =
 
 sift-up-requires : tie.Need-sift-up-requires
 sift-up-requires c κs =
-    let p = c .before .before .before .before .before .before .before .before .before .before .before .before .before .before .before .before .before .before .before .pre in
+    let at6 = c .before .before .before .before .before .before in
+    let at19 = at6 .before .before .before .before .before .before .before .before .before .before .before .before .before in
+    let p = at19 .pre in
     let keys = p .0 .keys in
     let is = p .0 .states in
-    (record { size = c .before .before .before .before .before .before .sweep .ensures .size ∙ keys .size; few = omega (arith, is, keys .few) }, omega (arith, is, p .1 .0 .0))
+    (record { size = at6 .sweep .ensures .size ∙ keys .size; few = omega (arith, is, keys .few) }, omega (arith, is, p .1 .0 .0))
 
 returns : tie.Need-returns
-returns c = better-named (c .before .before .before .before .before .before .before .before .before .before .before .before .before .before .before .before .before .before .before .before .before .before .pre .0 .keys .few) refl (c .before .before .before .before .before .before .before .before .before .sweep .ensures) (c .before .before .sift-up .ensures)
+returns c =
+    let at9 = c .before .before .before .before .before .before .before .before .before in
+    let at22 = at9 .before .before .before .before .before .before .before .before .before .before .before .before .before in
+    better-named (at22 .pre .0 .keys .few) refl (at9 .sweep .ensures) (c .before .before .sift-up .ensures)
 
 pub visit-spec : {M : Type 1} → statement M
 visit-spec =

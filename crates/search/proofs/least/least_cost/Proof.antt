@@ -16,8 +16,9 @@ fill-requires c κs = let p = c .before .before .before .before .before .pre in 
 
 least-entry-requires : tie.Need-least-entry-requires
 least-entry-requires c κs =
-    let p = c .before .before .before .before .before .before .before .before .before .pre in
-    ((p .0 .stored, c .before .before .before .before .before .state-count .ensures), (some-position (p .0), omega (arith, p .1, c .before .before .before .fill .ensures .size)))
+    let at5 = c .before .before .before .before .before in
+    let p = at5 .before .before .before .before .pre in
+    ((p .0 .stored, at5 .state-count .ensures), (some-position (p .0), omega (arith, p .1, c .before .before .before .fill .ensures .size)))
 
 returns : tie.Need-returns
 returns c =

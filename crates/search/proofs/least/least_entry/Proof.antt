@@ -56,8 +56,9 @@ loop-again c = (omega (arith, c .before .before .loop-test .taken), lowest-more 
 
 returns : tie.Need-returns Inv-loop μ-loop
 returns c =
-    let a = c .before .before .before .before .args in
-    let e : c .before .loop .s ≡ domainIn (a .head) (a .rows .now) .states = omega (arith, c .loop-test .left, c .before .loop .inv .0, c .before .before .before .before .pre .0 .1) in
+    let at4 = c .before .before .before .before in
+    let a = at4 .args in
+    let e : c .before .loop .s ≡ domainIn (a .head) (a .rows .now) .states = omega (arith, c .loop-test .left, c .before .loop .inv .0, at4 .pre .0 .1) in
     rw e at (c .before .loop .inv .1)
 
 pub least-entry-spec : {M : Type 1} → statement M

@@ -22,7 +22,8 @@ returns-2 : tie.Need-returns-2
 returns-2 c = rw (← (c .before .before .before .cell .ensures)) (kept (omega (arith, c .before .if1 .left, c .if2 .taken)))
 
 add-costs : tie.Need-add-costs
-add-costs c = record { fits = omega (arith, c .before .if1 .left, c .if2 .left, c .before .before .slice-known4 .given (c .before .before .before .cell .result)) }
+add-costs c =
+    record { fits = omega (arith, c .before .if1 .left, c .if2 .left, c .before .before .slice-known4 .given (c .before .before .before .cell .result)) }
 
 mul-costs : tie.Need-mul-costs
 mul-costs c =
@@ -36,8 +37,9 @@ slice-write-costs c =
 
 add-lower : tie.Need-add-lower
 add-lower c =
-    let old = c .before .before .before .before .before .before .slice-known4 .given (c .before .before .before .before .before .before .before .cell .result) in
-    record { fits = omega (arith, c .before .before .before .before .before .if1 .left, c .before .before .before .before .if2 .left, old) }
+    let at4 = c .before .before .before .before in
+    let old = at4 .before .before .slice-known4 .given (at4 .before .before .before .cell .result) in
+    record { fits = omega (arith, at4 .before .if1 .left, at4 .if2 .left, old) }
 
 returns-3 : tie.Need-returns-3
 returns-3 c =

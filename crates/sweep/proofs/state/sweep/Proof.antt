@@ -23,13 +23,15 @@ Inv-loop costs₀ queue₀ cache₀ rows list adjacency values origin s position
     Sweeping G (D .states) (origin .state) key costs₀ queue₀ costs queue marks p × Cached D (origin .state) cache
 
 abbrev μ-loop : tie.MeasureT-loop
-μ-loop costs₀ queue₀ cache₀ rows list adjacency values origin s positions key marks₀ p₀ costs queue cache marks p = sum costs * suc mostPositions + (positions - p)
+μ-loop costs₀ queue₀ cache₀ rows list adjacency values origin s positions key marks₀ p₀ costs queue cache marks p =
+    sum costs * suc mostPositions + (positions - p)
 
 loop-holds : tie.Need-loop-holds Inv-loop μ-loop
 loop-holds c =
-    let p = c .before .before .before .before .before .before .before .before .before .pre .1 in
+    let at9 = c .before .before .before .before .before .before .before .before .before in
+    let p = at9 .pre .1 in
     let row = p .0 .0 in
-    (sweeping-start _ _ _ _ (c .before .before .before .before .before .before .before .before .before .args .queue .now) (omega (arith, row .standing .inside, row .keys .few, row .keys .size)) (p .1), row .standing .successors)
+    (sweeping-start _ _ _ _ (at9 .args .queue .now) (omega (arith, row .standing .inside, row .keys .few, row .keys .size)) (p .1), row .standing .successors)
 
 slice-aggregate-scan : tie.Need-slice-aggregate-scan Inv-loop μ-loop
 slice-aggregate-scan c = sym (c .before .before .before .before .before .loop .inv .0 .width)
@@ -43,27 +45,38 @@ scan-requires c κs =
     (p .0, ((row, c .before .before .before .before .loop-test .taken, x .0 .width), x .0 .relaxed))
 
 loop-less : tie.Need-loop-less Inv-loop μ-loop
-loop-less c = let y = c .before .before .before .before .before .before .before .scan .ensures .0 in omega (arith, y .falls, y .low, c .before .before .before .before .before .before .before .before .before .before .before .before .loop-test .taken)
+loop-less c =
+    let y = c .before .before .before .before .before .before .before .scan .ensures .0 in
+    omega (arith, y .falls, y .low, c .before .before .before .before .before .before .before .before .before .before .before .before .loop-test .taken)
 
 loop-again : tie.Need-loop-again Inv-loop μ-loop
-loop-again c = (sweeping-more (c .before .before .before .before .before .before .before .before .before .before .before .before .before .loop .inv .0) (c .before .before .before .before .before .before .before .scan .ensures .0), c .before .before .before .before .before .before .before .scan .ensures .1)
+loop-again c =
+    let at7 = c .before .before .before .before .before .before .before in
+    let at13 = at7 .before .before .before .before .before .before in
+    (sweeping-more (at13 .loop .inv .0) (at7 .scan .ensures .0), at7 .scan .ensures .1)
 
 same-length : tie.Need-same-length Inv-loop μ-loop
 same-length c = runs-length (c .before .loop .inv .0 .runs)
 
 same-length-2 : tie.Need-same-length-2 Inv-loop μ-loop
-same-length-2 c = let a = c .before .before .before .before .before .before .before .before .before .before .before .args in c .before .loop .inv .0 .size ∙ length-set (a .queue .now) (a .origin .state) unreached
+same-length-2 c =
+    let a = c .before .before .before .before .before .before .before .before .before .before .before .args in
+    c .before .loop .inv .0 .size ∙ length-set (a .queue .now) (a .origin .state) unreached
 
 same-length-3 : tie.Need-same-length-3 Inv-loop μ-loop
-same-length-3 c = c .before .loop .inv .1 .size ∙ sym (c .before .before .before .before .before .before .before .before .before .before .before .pre .1 .0 .0 .standing .successors .size)
+same-length-3 c =
+    let at11 = c .before .before .before .before .before .before .before .before .before .before .before in
+    c .before .loop .inv .1 .size ∙ sym (at11 .pre .1 .0 .0 .standing .successors .size)
 
 returns : tie.Need-returns Inv-loop μ-loop
 returns c =
-    let p = c .before .before .before .before .before .before .before .before .before .before .before .pre in
+    let at11 = c .before .before .before .before .before .before .before .before .before .before .before in
+    let p = at11 .pre in
     let row = p .1 .0 in
-    let a = c .before .before .before .before .before .before .before .before .before .before .before .args in
+    let a = at11 .args in
     let room : a .origin .state < length (a .queue .now) = omega (arith, row .0 .standing .inside, row .0 .keys .few, row .0 .keys .size) in
-    sweeping-end _ _ _ _ (a .queue .now) room (graph-closed (p .0 .0)) (row .0 .standing .inside) (row .1) (c .before .loop .inv .0) (omega (arith, c .loop-test .left))
+    sweeping-end _ _ _ _ (a .queue .now) room (graph-closed (p .0 .0)) (row .0 .standing .inside)
+    (row .1) (c .before .loop .inv .0) (omega (arith, c .loop-test .left))
 
 pub sweep-spec : {M : Type 1} → statement M
 sweep-spec =

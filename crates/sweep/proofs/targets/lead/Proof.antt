@@ -17,9 +17,10 @@ move-count-requires c κs = c .before .before .before .before .before .before .p
 
 returns-2 : tie.Need-returns-2
 returns-2 c =
-    let a = c .before .before .before .before .before .before .before .before .args in
+    let at8 = c .before .before .before .before .before .before .before .before in
+    let a = at8 .args in
     let h : 3 ≤ a .step .kind = omega (arith, c .before .before .if1 .left) in
-    (reaches-nowhere _ _ _ _ h (successor-past _ _ _ (omega (arith, c .if2 .taken, c .before .move-count .ensures))), refl, c .before .before .before .before .before .before .before .before .pre .successors)
+    (reaches-nowhere _ _ _ _ h (successor-past _ _ _ (omega (arith, c .if2 .taken, c .before .move-count .ensures))), refl, at8 .pre .successors)
 
 successor-requires : tie.Need-successor-requires
 successor-requires c κs =
@@ -35,8 +36,10 @@ returns-3 c =
 
 cost-requires : tie.Need-cost-requires
 cost-requires c κs =
-    let p = c .before .before .before .before .before .before .before .before .before .before .before .before .before .before .before .pre in
-    ((p .stored, p .told), omega (arith, c .before .before .before .before .before .before .before .if2 .left, c .before .before .before .before .before .before .before .before .move-count .ensures))
+    let at7 = c .before .before .before .before .before .before .before in
+    let at15 = at7 .before .before .before .before .before .before .before .before in
+    let p = at15 .pre in
+    ((p .stored, p .told), omega (arith, at7 .if2 .left, at7 .before .move-count .ensures))
 
 returns-4 : tie.Need-returns-4
 returns-4 c =

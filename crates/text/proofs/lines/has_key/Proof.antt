@@ -15,19 +15,32 @@ abbrev μ-loop : tie.MeasureT-loop
 μ-loop line key i₀ i = length key - i
 
 returns : tie.Need-returns Inv-loop μ-loop
-returns c = sym (c .before .before .loop .inv .1 ∙ key-past-line (c .before .before .before .args .key .now) (c .before .before .before .args .line .now) (c .before .before .loop .i) (search needs) (search needs))
+returns c =
+    let at2 = c .before .before in
+    sym (at2 .loop .inv .1 ∙ key-past-line (at2 .before .args .key .now) (at2 .before .args .line .now) (at2 .loop .i) (search needs) (search needs))
 
 returns-2 : tie.Need-returns-2 Inv-loop μ-loop
-returns-2 c = sym (c .before .before .before .before .before .loop .inv .1 ∙ key-at-other (c .before .before .before .before .before .before .args .key .now) (c .before .before .before .before .before .before .args .line .now) (c .before .before .before .before .before .loop .i) (search needs) (search needs) (c .if2 .taken))
+returns-2 c =
+    let at5 = c .before .before .before .before .before in
+    sym (at5 .loop .inv .1
+    ∙ key-at-other (at5 .before .args .key .now) (at5 .before .args .line .now) (at5 .loop .i) (search needs) (search needs) (c .if2 .taken))
 
 loop-again : tie.Need-loop-again Inv-loop μ-loop
-loop-again c = (omega arith, c .before .before .before .before .before .loop .inv .1 ∙ key-at-same (c .before .before .before .before .before .before .args .key .now) (c .before .before .before .before .before .before .args .line .now) (c .before .before .before .before .before .loop .i) (search needs) (search needs) (c .if2 .left))
+loop-again c =
+    let at5 = c .before .before .before .before .before in (
+      omega arith,
+      at5 .loop .inv .1 ∙ key-at-same (at5 .before .args .key .now) (at5 .before .args .line .now) (at5 .loop .i) (search needs) (search needs) (c .if2 .left),
+    )
 
 returns-3 : tie.Need-returns-3 Inv-loop μ-loop
-returns-3 c = sym (c .before .before .loop .inv .1 ∙ key-past-both (c .before .before .before .args .key .now) (c .before .before .before .args .line .now) (c .before .before .loop .i) (search needs) (search needs))
+returns-3 c =
+    let at2 = c .before .before in
+    sym (at2 .loop .inv .1 ∙ key-past-both (at2 .before .args .key .now) (at2 .before .args .line .now) (at2 .loop .i) (search needs) (search needs))
 
 returns-4 : tie.Need-returns-4 Inv-loop μ-loop
-returns-4 c = sym (c .before .before .before .loop .inv .1 ∙ key-at-equals (c .before .before .before .before .args .key .now) (c .before .before .before .before .args .line .now) (c .before .before .before .loop .i) (search needs) (search needs))
+returns-4 c =
+    let at3 = c .before .before .before in
+    sym (at3 .loop .inv .1 ∙ key-at-equals (at3 .before .args .key .now) (at3 .before .args .line .now) (at3 .loop .i) (search needs) (search needs))
 
 pub has-key-spec : {M : Type 1} → statement M
 has-key-spec =

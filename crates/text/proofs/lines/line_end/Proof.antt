@@ -15,10 +15,12 @@ abbrev μ-loop : tie.MeasureT-loop
 μ-loop text at i₀ i = length text - i
 
 returns : tie.Need-returns Inv-loop μ-loop
-returns c = omega (arith, length-at-feed (c .before .before .before .before .args .text .now) (c .before .before .before .loop .i) (search needs) (c .if1 .taken))
+returns c =
+    omega (arith, length-at-feed (c .before .before .before .before .args .text .now) (c .before .before .before .loop .i) (search needs) (c .if1 .taken))
 
 loop-again : tie.Need-loop-again Inv-loop μ-loop
-loop-again c = omega (arith, length-at-other (c .before .before .before .before .args .text .now) (c .before .before .before .loop .i) (search needs) (c .if1 .left))
+loop-again c =
+    omega (arith, length-at-other (c .before .before .before .before .args .text .now) (c .before .before .before .loop .i) (search needs) (c .if1 .left))
 
 returns-2 : tie.Need-returns-2 Inv-loop μ-loop
 returns-2 c = omega (arith, length-at-end (c .before .before .args .text .now) (c .before .loop .i) (search needs))

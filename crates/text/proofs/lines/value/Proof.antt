@@ -13,18 +13,28 @@ use Rattle.text.proofs.lines.value.Statement.{statement}
 use Rattle.text.proofs.lines.value.Tie as tie
 
 sub-result : tie.Need-sub-result
-sub-result c = omega (arith, key-within (c .before .before .before .before .args .key .now) (c .before .before .before .before .args .line .now) (sym (c .before .has-key .ensures) ∙ c .if1 .taken))
+sub-result c =
+    let at4 = c .before .before .before .before in
+    omega (arith, key-within (at4 .args .key .now) (at4 .args .line .now) (sym (c .before .has-key .ensures) ∙ c .if1 .taken))
 
 part-result-start : tie.Need-part-result-start
-part-result-start c = omega (arith, key-within (c .before .before .before .before .args .key .now) (c .before .before .before .before .args .line .now) (sym (c .before .has-key .ensures) ∙ c .if1 .taken))
+part-result-start c =
+    let at4 = c .before .before .before .before in
+    omega (arith, key-within (at4 .args .key .now) (at4 .args .line .now) (sym (c .before .has-key .ensures) ∙ c .if1 .taken))
 
 returns : tie.Need-returns
 unfolding valueOf
-returns c = let a = c .before .before .before .before .before .args in let e : hasKey (a .key .now) (a .line .now) ≡ true = sym (c .before .before .has-key .ensures) ∙ c .before .if1 .taken in rw (e, take-all (length (a .line .now) - (length (a .key .now) + 1)) (drop (length (a .key .now) + 1) (a .line .now)) (simp length-drop (le-refl _)))
+returns c =
+    let a = c .before .before .before .before .before .args in
+    let e : hasKey (a .key .now) (a .line .now) ≡ true = sym (c .before .before .has-key .ensures) ∙ c .before .if1 .taken in
+    rw (e, take-all (length (a .line .now) - (length (a .key .now) + 1)) (drop (length (a .key .now) + 1) (a .line .now)) (simp length-drop (le-refl _)))
 
 returns-2 : tie.Need-returns-2
 unfolding valueOf
-returns-2 c = let a = c .before .before .before .before .before .args in let e : hasKey (a .key .now) (a .line .now) ≡ false = sym (c .before .before .has-key .ensures) ∙ c .before .if1 .left in rw (e, drop-length (a .line .now), take-nil)
+returns-2 c =
+    let a = c .before .before .before .before .before .args in
+    let e : hasKey (a .key .now) (a .line .now) ≡ false = sym (c .before .before .has-key .ensures) ∙ c .before .if1 .left in
+    rw (e, drop-length (a .line .now), take-nil)
 
 pub value-spec : {M : Type 1} → statement M
 value-spec =

@@ -10,16 +10,28 @@ more-digits-requires : tie.Need-more-digits-requires
 more-digits-requires c κs = sym (c .before .is-digit .ensures) ∙ c .if1 .taken
 
 returns : tie.Need-returns
-returns c = step-digit _ _ (c .before .before .before .before .before .before .before .args .b) (c .before .before .before .before .before .before .before .args .out .now) (c .before .before .before .before .before .before .before .pre) _ _ (c .before .before .before .before .p2 .given .1) (sym (c .before .before .is-digit .ensures) ∙ c .before .if1 .taken) (c .more-digits .ensures)
+returns c =
+    let at4 = c .before .before .before .before in
+    let at7 = at4 .before .before .before in
+    step-digit _ _ (at7 .args .b) (at7 .args .out .now) (at7 .pre) _ _ (at4 .p2 .given .1)
+    (sym (c .before .before .is-digit .ensures) ∙ c .before .if1 .taken) (c .more-digits .ensures)
 
 number-end-requires : tie.Need-number-end-requires
-number-end-requires c κs = let e = ap completeCount (c .before .before .before .before .p2 .given .1) in omega (arith, c .before .before .before .before .before .before .before .pre, e)
+number-end-requires c κs =
+    let e = ap completeCount (c .before .before .before .before .p2 .given .1) in
+    omega (arith, c .before .before .before .before .before .before .before .pre, e)
 
 returns-2 : tie.Need-returns-2
-returns-2 c = step-start _ _ (c .before .before .before .before .before .args .b) (c .before .before .before .before .before .args .out .now) (c .before .before .before .before .before .pre) _ (c .before .before .p .given .1) (c .first-digit .ensures)
+returns-2 c =
+    let at5 = c .before .before .before .before .before in
+    step-start _ _ (at5 .args .b) (at5 .args .out .now) (at5 .pre) _ (c .before .before .p .given .1) (c .first-digit .ensures)
 
 returns-3 : tie.Need-returns-3
-returns-3 c = step-end _ _ (c .before .before .before .before .before .before .before .before .before .before .args .b) (c .before .before .before .before .before .before .before .before .before .before .args .out .now) (c .before .before .before .before .before .before .before .before .before .before .pre) _ _ _ (c .before .before .before .before .before .before .before .p2 .given .1) (sym (c .before .before .before .before .before .is-digit .ensures) ∙ c .before .before .before .before .if1 .left) (c .before .before .number-end .ensures)
+returns-3 c =
+    let at4 = c .before .before .before .before in
+    let at10 = at4 .before .before .before .before .before .before in
+    step-end _ _ (at10 .args .b) (at10 .args .out .now) (at10 .pre) _ _ _ (at4 .before .before .before .p2 .given .1)
+    (sym (at4 .before .is-digit .ensures) ∙ at4 .if1 .left) (c .before .before .number-end .ensures)
 
 returns-4 : tie.Need-returns-4
 returns-4 c = step-done _ (c .before .before .before .args .b) (c .before .before .before .args .out .now) (c .enum-told .given .1)

@@ -33,10 +33,17 @@ array-write-adjacency-2 : tie.Need-array-write-adjacency-2 Inv-loop μ-loop
 array-write-adjacency-2 c = omega (arith, c .before .before .before .pre .from _ (c .before .loop-test .taken))
 
 loop-again : tie.Need-loop-again Inv-loop μ-loop
-loop-again c = (links-more _ _ _ _ (c .before .before .loop .inv .0) (omega (arith, c .before .loop-test .taken, c .before .before .before .pre .few)) refl (c .before .before .before .pre .from _ (c .before .loop-test .taken)), omega (arith, c .before .loop-test .taken))
+loop-again c =
+    let at3 = c .before .before .before in (
+      links-more _ _ _ _ (c .before .before .loop .inv .0) (omega (arith, c .before .loop-test .taken, at3 .pre .few))
+          refl (at3 .pre .from _ (c .before .loop-test .taken)),
+      omega (arith, c .before .loop-test .taken),
+    )
 
 returns : tie.Need-returns Inv-loop μ-loop
-returns c = let e : c .before .loop .k ≡ length (c .before .before .args .list .now) / 4 = omega (arith, c .before .loop .inv .1, c .loop-test .left) in rw (← e) (c .before .loop .inv .0)
+returns c =
+    let e : c .before .loop .k ≡ length (c .before .before .args .list .now) / 4 = omega (arith, c .before .loop .inv .1, c .loop-test .left) in
+    rw (← e) (c .before .loop .inv .0)
 
 pub adjacency-of-spec : {M : Type 1} → statement M
 adjacency-of-spec =

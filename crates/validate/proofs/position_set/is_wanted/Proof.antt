@@ -7,7 +7,9 @@ returns : tie.Need-returns
 returns c = wanted-no-move _ _ _ (c .before .before .wanted .given .1) (c .if1 .taken)
 
 returns-2 : tie.Need-returns-2
-returns-2 c = wanted-silent (c .before .before .before .before .args .values .now) (c .before .before .before .before .args .kind) (c .before .before .before .before .args .arg) (c .before .enum-told .given .1) (c .is-silent .ensures)
+returns-2 c =
+    let at4 = c .before .before .before .before in
+    wanted-silent (at4 .args .values .now) (at4 .args .kind) (at4 .args .arg) (c .before .enum-told .given .1) (c .is-silent .ensures)
 
 returns-3 : tie.Need-returns-3
 returns-3 c = wanted-move _ _ _ (c .before .before .wanted .given .1) (c .if1 .left)

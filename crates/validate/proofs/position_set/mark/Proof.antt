@@ -11,7 +11,9 @@ mul-members : tie.Need-mul-members
 mul-members c = omega (arith, mark-room _ _ _ _ (c .before .before .before .pre .0) (c .before .before .before .pre .1) (c .if2 .left))
 
 slice-write-members : tie.Need-slice-write-members
-slice-write-members c = omega (arith, mark-room _ _ _ _ (c .before .before .before .pre .0) (c .before .before .before .pre .1) (c .if2 .left), c .before .before .before .pre .0 .room)
+slice-write-members c =
+    let at3 = c .before .before .before in
+    omega (arith, mark-room _ _ _ _ (at3 .pre .0) (at3 .pre .1) (c .if2 .left), at3 .pre .0 .room)
 
 add-result : tie.Need-add-result
 add-result c = omega (arith, mark-room _ _ _ _ (c .before .before .before .pre .0) (c .before .before .before .pre .1) (c .if2 .left))

@@ -45,9 +45,10 @@ add-cost c =
 
 loop-again : tie.Need-loop-again Inv-loop μ-loop
 loop-again c =
-    let r = c .before .before .before .before .before .before .before .before .before .before .before .pre .0 in
+    let at5 = c .before .before .before .before .before in
+    let r = at5 .before .before .before .before .before .before .pre .0 in
     let made = rw (c .before .step .given .1, r .steps) at (c .before .before .before .make-step .ensures) in
-    stepping-more (c .before .before .before .before .before .before .loop .inv) (c .before .before .before .before .before .loop-test .taken) (job-bounded r) made
+    stepping-more (at5 .before .loop .inv) (at5 .loop-test .taken) (job-bounded r) made
 
 returns-2 : tie.Need-returns-2 Inv-loop μ-loop
 returns-2 c =

@@ -25,17 +25,23 @@ array-read-p : tie.Need-array-read-p Inv-loop μ-loop
 array-read-p c = omega (arith, c .loop-test .taken, counted-few (c .before .before .before .before .before .pre .0))
 
 follow-requires : tie.Need-follow-requires Inv-loop μ-loop
-follow-requires c κs = ((c .before .before .before .before .loop .inv .counted, member-inside (c .before .before .before .before .before .before .before .before .pre .0) _ (c .before .before .before .loop-test .taken)), c .before .before .before .before .before .before .before .before .pre .1)
+follow-requires c κs =
+    let at4 = c .before .before .before .before in
+    let at8 = at4 .before .before .before .before in
+    ((at4 .loop .inv .counted, member-inside (at8 .pre .0) _ (c .before .before .before .loop-test .taken)), at8 .pre .1)
 
 loop-less : tie.Need-loop-less Inv-loop μ-loop
 loop-less c = omega (arith, c .before .before .before .before .before .before .loop-test .taken)
 
 loop-again : tie.Need-loop-again Inv-loop μ-loop
-loop-again c = advancing-more _ _ _ _ (c .before .before .before .before .before .before .before .loop .inv) (c .before .before .before .before .before .before .loop-test .taken) (c .before .before .follow .ensures)
+loop-again c =
+    let at6 = c .before .before .before .before .before .before in
+    advancing-more _ _ _ _ (at6 .before .loop .inv) (at6 .loop-test .taken) (c .before .before .follow .ensures)
 
 returns : tie.Need-returns Inv-loop μ-loop
 unfolding wantedBy
-returns c = (advancing-end _ _ _ _ (c .before .before .before .before .before .pre .0) (c .before .loop .inv) (c .loop-test .left), c .before .loop .inv .counted)
+returns c =
+    (advancing-end _ _ _ _ (c .before .before .before .before .before .pre .0) (c .before .loop .inv) (c .loop-test .left), c .before .loop .inv .counted)
 
 pub advanced-spec : {M : Type 1} → statement M
 advanced-spec =

@@ -24,20 +24,32 @@ array-read-p : tie.Need-array-read-p Inv-loop μ-loop
 array-read-p c = omega (arith, c .loop-test .taken, counted-few (c .before .loop .inv .counted))
 
 follow-requires : tie.Need-follow-requires Inv-loop μ-loop
-follow-requires c κs = ((c .before .before .before .loop .inv .counted, member-inside (c .before .before .before .loop .inv .counted) _ (c .before .before .loop-test .taken)), c .before .before .before .before .before .before .before .before .before .pre .1)
+follow-requires c κs =
+    let at3 = c .before .before .before in
+    let at9 = at3 .before .before .before .before .before .before in
+    ((at3 .loop .inv .counted, member-inside (at3 .loop .inv .counted) _ (c .before .before .loop-test .taken)), at9 .pre .1)
 
 add-at : tie.Need-add-at Inv-loop μ-loop
-add-at c = omega (arith, c .before .before .before .before .before .loop-test .taken, counted-few (c .before .before .before .before .before .before .loop .inv .counted))
+add-at c =
+    let at5 = c .before .before .before .before .before in
+    omega (arith, at5 .loop-test .taken, counted-few (at5 .before .loop .inv .counted))
 
 loop-less : tie.Need-loop-less Inv-loop μ-loop
-loop-less c = omega (arith, c .before .before .before .before .before .loop-test .taken, counted-few (c .before .before .before .before .before .before .loop .inv .counted))
+loop-less c =
+    let at5 = c .before .before .before .before .before in
+    omega (arith, at5 .loop-test .taken, counted-few (at5 .before .loop .inv .counted))
 
 loop-again : tie.Need-loop-again Inv-loop μ-loop
-loop-again c = closing-more _ _ _ (c .before .before .before .before .before .before .before .before .before .before .before .before .pre .1 .0) (c .before .before .before .before .before .before .before .before .before .before .before .before .pre .0 .size) (c .before .before .before .before .before .before .loop .inv) (c .before .before .before .before .before .loop-test .taken) (c .before .before .follow .ensures)
+loop-again c =
+    let at5 = c .before .before .before .before .before in
+    let at12 = at5 .before .before .before .before .before .before .before in
+    closing-more _ _ _ (at12 .pre .1 .0) (at12 .pre .0 .size) (at5 .before .loop .inv) (at5 .loop-test .taken) (c .before .before .follow .ensures)
 
 returns : tie.Need-returns Inv-loop μ-loop
 unfolding wantedBy
-returns c = (closing-end _ _ _ (c .before .before .before .before .before .before .before .pre .0 .size) (c .before .loop .inv) (c .loop-test .left), c .before .loop .inv .counted)
+returns c =
+    let at7 = c .before .before .before .before .before .before .before in
+    (closing-end _ _ _ (at7 .pre .0 .size) (c .before .loop .inv) (c .loop-test .left), c .before .loop .inv .counted)
 
 pub closed-spec : {M : Type 1} → statement M
 closed-spec =
