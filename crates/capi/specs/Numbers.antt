@@ -12,7 +12,7 @@ use Rattle.jesmovit.specs.declared.compiling.CompileAnswer as C
 use Rattle.jesmovit.specs.declared.checking.CheckAnswer as K
 use Rattle.jesmovit.specs.declared.job_text.ReadAnswer as R
 use Rattle.capi.specs.declared.numbers.Numbers.{Numbers}
-use Rattle.capi.specs.declared.numbers.Outcome.{Outcome}
+use Rattle.capi.specs.declared.numbers.Coded.{Coded}
 
 -- nothing is refused: 0, and five values
 abbrev pub done : ℕ → ℕ → ℕ → ℕ → ℕ → Numbers
@@ -22,18 +22,18 @@ done a b c d e = record { number = 0; values = a ∷ b ∷ c ∷ d ∷ e ∷ [] 
 abbrev pub refusalNumbers : Refusal → Numbers
 refusalNumbers r = record { number = r .number; values = r .place ∷ 0 ∷ 0 ∷ 0 ∷ 0 ∷ [] }
 
-abbrev pub outcome : ℕ → ℕ → ℕ → Outcome
+abbrev pub outcome : ℕ → ℕ → ℕ → Coded
 outcome number first second = record { number = number; first = first; second = second }
 
 -- the verdicts, numbered from 0 in the order of "Verdicts": "plan, with its cost", "blocked i", "unfinished", "goal missed"
-abbrev pub verdictOutcome : Verdict → Outcome
+abbrev pub verdictOutcome : Verdict → Coded
 verdictOutcome (Plan cost) = outcome 0 cost 0
 verdictOutcome (Blocked i) = outcome 1 i 0
 verdictOutcome Unfinished = outcome 2 0 0
 verdictOutcome Missed = outcome 3 0 0
 
 -- and on: "adds least or dearer with both costs; for others it repeats the check's verdict"
-abbrev pub judgementOutcome : Judgement → Outcome
+abbrev pub judgementOutcome : Judgement → Coded
 judgementOutcome (Least cost) = outcome 4 cost cost
 judgementOutcome (Dearer cost least) = outcome 5 cost least
 judgementOutcome (Other v) = verdictOutcome v
@@ -46,7 +46,7 @@ abbrev pub compileNumbers : C.CompileAnswer → Numbers
 compileNumbers (C.the-variants.Compiled positions steps) = done positions steps 0 0 0
 compileNumbers (C.the-variants.Refused r) = refusalNumbers r
 
-abbrev pub said : Outcome → Numbers
+abbrev pub said : Coded → Numbers
 said o = done (o .number) (o .first) 0 0 0
 
 abbrev pub checkNumbers : K.CheckAnswer → Numbers
@@ -59,7 +59,7 @@ leastNumbers (L.the-variants.Costs cost) = done 6 cost 0 0 0
 leastNumbers L.the-variants.NoPlan = done 7 0 0 0 0
 leastNumbers (L.the-variants.Refused r) = refusalNumbers r
 
-abbrev pub judged : ℕ → ℕ → Outcome → Numbers
+abbrev pub judged : ℕ → ℕ → Coded → Numbers
 judged positions steps o = done positions steps (o .number) (o .first) (o .second)
 
 abbrev pub judgeNumbers : J.JudgeAnswer → Numbers

@@ -18,32 +18,32 @@ pub struct Numbers {
 }
 
 // What is said of a plan: its number, and two numbers beside it.
-pub struct Outcome {
+pub struct Coded {
     pub number: u64,
     pub first: u64,
     pub second: u64,
 }
 
-pub fn of_verdict(v: Verdict) -> Outcome
+pub fn of_verdict(v: Verdict) -> Coded
     ensures { λ r. ⌜ r ≡ verdictOutcome v ⌝ }
 {
     match v {
-        Verdict::Plan(cost) => Outcome {
+        Verdict::Plan(cost) => Coded {
             number: 0,
             first: cost as u64,
             second: 0,
         },
-        Verdict::Blocked(i) => Outcome {
+        Verdict::Blocked(i) => Coded {
             number: 1,
             first: i as u64,
             second: 0,
         },
-        Verdict::Unfinished => Outcome {
+        Verdict::Unfinished => Coded {
             number: 2,
             first: 0,
             second: 0,
         },
-        Verdict::Missed => Outcome {
+        Verdict::Missed => Coded {
             number: 3,
             first: 0,
             second: 0,
@@ -51,16 +51,16 @@ pub fn of_verdict(v: Verdict) -> Outcome
     }
 }
 
-pub fn of_judgement(g: Judgement) -> Outcome
+pub fn of_judgement(g: Judgement) -> Coded
     ensures { λ r. ⌜ r ≡ judgementOutcome g ⌝ }
 {
     match g {
-        Judgement::Least(cost) => Outcome {
+        Judgement::Least(cost) => Coded {
             number: 4,
             first: cost as u64,
             second: cost as u64,
         },
-        Judgement::Dearer(cost, least) => Outcome {
+        Judgement::Dearer(cost, least) => Coded {
             number: 5,
             first: cost as u64,
             second: least as u64,

@@ -15,7 +15,7 @@ use limits::STEPS;
 // A size that is above both limits, as which all such sizes are counted.
 const CAP: usize = STEPS + 1;
 
-const ROWS: usize = PROGRAM as usize;
+const PROGRAM_ROWS: usize = PROGRAM as usize;
 
 // What an `any` row counts, and what a row of two branches and one that repeats its part add.
 pub struct Weights {
@@ -69,7 +69,7 @@ fn program_size(head: Head, rows: &[u16], w: Weights) -> u16
     ensures { λ r. ⌜ r ≡ cap (size w (programOf (jobOf head (now (rows .entry))))) ⌝ }
 {
     let n = head.counts.program;
-    let mut sizes = [0u16; ROWS];
+    let mut sizes = [0u16; PROGRAM_ROWS];
     let mut i: u16 = 0;
     while i < n {
         let construct = crate::rows::construct_at(head, rows, i);

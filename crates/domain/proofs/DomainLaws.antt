@@ -35,7 +35,7 @@ domain-bounded j k = record { start = k .init; successors = stays; costs = λ m 
     stays m w t h e =
         let x : Move = moveAt j m in
         let y : ℕ = affected (j .formulas) (effectsOf j x) w in
-        let below : y < stateCount (j .scalars .facts) = affected-below j k (x .first) (x .count) (j .formulas) w h in
+        let below : y < stateCount (j .scalars .facts) = affected-below j k (x .first) (x .effects) (j .formulas) w h in
         let P : ℕ → Type 0 = λ u. u < stateCount (j .scalars .facts) in
         let-through P (ltb m (length (j .moves))) (cond (holdsIn j (x .pre) w) (some y) none)
         (let-through P (holdsIn j (x .pre) w) (some y) (λ u d. let q : y ≡ u = cc in rw q at below)) t e

@@ -14,8 +14,8 @@ use Rattle.domain.specs.Domain.{effectsOf, holdsIn, successorOf, domainO
 use Rattle.domain.proofs.EffectLaws.{applied-same}
 
 module _ (j : Job) (m w : ℕ) (vs : List Bool) (t : Tells (domainOf j) w vs) (g : m < domainOf j .moves) {x : Move} (e : x ≡ moveAt j m) where
-  known : ltb m (length (j .moves)) ≡ true
-  known = lt-ltb m (length (j .moves)) g
+  is-move : ltb m (length (j .moves)) ≡ true
+  is-move = lt-ltb m (length (j .moves)) g
 
   pub successor-some : (y z : ℕ) → getD vs (x .pre) false ≡ true → y ≡ applied vs 0 (effectsOf j x) w → z ≡ applied vs 1 (effectsOf j x) y → some z ≡ successorOf j m w
   unfolding successorOf holdsIn affected
@@ -23,11 +23,11 @@ module _ (j : Job) (m w : ℕ) (vs : List Bool) (t : Tells (domainOf j) w vs) (g
       let us = values w (j .formulas) in
       let k : z ≡ applied us 1 (effectsOf j x) (applied us 0 (effectsOf j x) w) =
       b ∙ applied-same vs us t 1 (effectsOf j x) y ∙ ap (applied us 1 (effectsOf j x)) (a ∙ applied-same vs us t 0 (effectsOf j x) w) in
-      rw (known, ← e, sym (t (x .pre)) ∙ p) (ap some k)
+      rw (is-move, ← e, sym (t (x .pre)) ∙ p) (ap some k)
 
   pub successor-none : getD vs (x .pre) false ≡ false → none ≡ successorOf j m w
   unfolding successorOf holdsIn
-  successor-none p = rw (known, ← e, sym (t (x .pre)) ∙ p)
+  successor-none p = rw (is-move, ← e, sym (t (x .pre)) ∙ p)
 
 -- past the last move there is none
 pub successor-past : (j : Job) (m w : ℕ) → domainOf j .moves ≤ m → none ≡ domainOf j .successor m w

@@ -1,4 +1,4 @@
--- The values of formulas, stored one behind the other in a table that is false at first.
+-- The values of formulas, stored one behind the other in an array that is false at first.
 -- Assumes nothing.
 use Prim.Native.Nat.{ℕ, zero, suc, _+_, _≤_, _<_}
 use mathlib.Core.Path.{_≡_, refl, sym, _∙_, ap}

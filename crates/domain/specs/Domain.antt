@@ -16,7 +16,7 @@ use Rattle.domain.specs.Cost.{classCost}
 
 -- the lines `e=` of a move
 abbrev pub effectsOf : Job → Move → List Effect
-effectsOf j x = take (x .count) (drop (x .first) (j .effects))
+effectsOf j x = take (x .effects) (drop (x .first) (j .effects))
 
 unfoldable pub holdsIn : Job → ℕ → ℕ → Bool
 holdsIn j a w = getD (values w (j .formulas)) a false

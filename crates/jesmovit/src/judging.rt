@@ -13,6 +13,7 @@ use limits::ENTRIES;
 use offers::load::Loaded;
 use offers::offer::Offered;
 use offers::offer::Sort;
+use sweep::Grid;
 use validate::verdict::Verdict;
 
 // The least cost of all plans that the job's program allows, or none where it allows no plan of any length; or why the text, the list or the table is refused.
@@ -51,13 +52,17 @@ pub fn least_cost(text: &[u8], list: &mut [u16], table: &mut [u32]) -> LeastAnsw
         let short = offers::room::too_short(need);
         return LeastAnswer::Refused(short);
     }
-    let cells = offers::room::cells(head, &rows, sizes.positions);
+    let grid = Grid {
+        states: domain::states::state_count(head, &rows),
+        positions: sizes.positions,
+    };
+    let cells = offers::room::cells(grid.states, grid.positions);
     if table.len() < cells {
         let short = offers::room::too_short(cells);
         return LeastAnswer::Refused(short);
     }
     compile::program::compile(head, &rows, list);
-    let least = search::least::least_cost(table, head, &rows, &list[0..need], sizes.positions);
+    let least = search::least::least_cost(table, head, &rows, &list[0..need], grid);
     if least < sweep::UNREACHED {
         return LeastAnswer::Costs(least);
     }
@@ -80,19 +85,19 @@ fn judge_entries(
     head: Head,
     rows: &[u16],
     list: &[u16],
-    positions: u16,
+    grid: Grid,
     plan: &[u16],
 ) -> Judgement
-    requires { ⌜ Ready head (now rows) (now list) positions ⌝ }
+    requires { ⌜ Ready head (now rows) (now list) (grid .positions) × (grid .states ≡ domainIn head (now rows) .states) ⌝ }
     requires { ⌜ EntriesBelow (now plan) (domainIn head (now rows) .moves) ⌝ }
-    requires { ⌜ domainIn head (now rows) .states * positions ≤ length (now costs) ⌝ }
+    requires { ⌜ domainIn head (now rows) .states * grid .positions ≤ length (now costs) ⌝ }
     ensures { λ r. ⌜ Found (jobOf head (now (rows .entry))) (now (plan .entry)) r (now (costs .entry)) (now (costs .exit)) ⌝ }
 {
-    let verdict = validate::moves::check_moves(head, rows, list, positions, plan);
+    let verdict = validate::moves::check_moves(head, rows, list, grid.positions, plan);
     let Verdict::Plan(cost) = verdict else {
         return Judgement::Other(verdict);
     };
-    let least = search::least::least_cost(costs, head, rows, list, positions);
+    let least = search::least::least_cost(costs, head, rows, list, grid);
     compare(cost, least)
 }
 
@@ -113,19 +118,16 @@ pub fn judge(text: &[u8], plan: &[u8], list: &mut [u16], table: &mut [u32]) -> J
         let short = offers::room::too_short(need);
         return JudgeAnswer::Refused(short);
     }
-    let size = offers::room::cells(head, &rows, sizes.positions);
+    let grid = Grid {
+        states: domain::states::state_count(head, &rows),
+        positions: sizes.positions,
+    };
+    let size = offers::room::cells(grid.states, grid.positions);
     if table.len() < size {
         let short = offers::room::too_short(size);
         return JudgeAnswer::Refused(short);
     }
     compile::program::compile(head, &rows, list);
-    let found = judge_entries(
-        table,
-        head,
-        &rows,
-        &list[0..need],
-        sizes.positions,
-        &entries[0..n],
-    );
+    let found = judge_entries(table, head, &rows, &list[0..need], grid, &entries[0..n]);
     JudgeAnswer::Judged(sizes.positions, sizes.steps, found)
 }

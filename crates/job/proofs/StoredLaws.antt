@@ -80,7 +80,7 @@ module _ {h : Head} {l : List ℕ} (s : Stored h l) where
     pub move-class : i < h .counts .moves → moveAt (jobOf h l) i .class ≤ lastClass
     move-class g = s .job .move i (omega (arith, move-count h l)) .class
 
-    pub move-effects : i < h .counts .moves → moveAt (jobOf h l) i .first + moveAt (jobOf h l) i .count ≤ h .counts .effects
+    pub move-effects : i < h .counts .moves → moveAt (jobOf h l) i .first + moveAt (jobOf h l) i .effects ≤ h .counts .effects
     move-effects g =
         omega (arith, tiled-own (moveOf 0 []) 0 (length (jobOf h l .effects)) (jobOf h l .moves) (s .job .tiled) i (omega (arith, move-count h l)), effect-count h l)
 

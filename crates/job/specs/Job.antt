@@ -14,7 +14,7 @@ pub record Formula : Type 0 where
 pub record Move : Type 0 where
   pub pre : ℕ
   pub class : ℕ
-  pub count : ℕ
+  pub effects : ℕ
   pub first : ℕ
 
 -- `e=cond,fact,value`
@@ -57,7 +57,7 @@ abbrev pub formulaOf : List ℕ → Formula
 formulaOf r = record { kind = getD r 0 0; a = getD r 1 0; b = getD r 2 0 }
 
 abbrev pub moveOf : ℕ → List ℕ → Move
-moveOf first r = record { pre = getD r 0 0; class = getD r 1 0; count = getD r 2 0; first = first }
+moveOf first r = record { pre = getD r 0 0; class = getD r 1 0; effects = getD r 2 0; first = first }
 
 abbrev pub effectOf : List ℕ → Effect
 effectOf r = record { cond = getD r 0 0; fact = getD r 1 0; value = getD r 2 0 }

@@ -32,5 +32,5 @@ formOf Row = form "p" 4
 formOf End = form "" 0
 
 -- the numbers of a line that is to be of this sort, or none where its form is wrong
-unfoldable pub rowNumbers : Line → List ℕ → Option (List ℕ)
-rowNumbers next line = numbers (formOf next .width) (valueOf (formOf next .key) line)
+unfoldable pub lineNumbers : Line → List ℕ → Option (List ℕ)
+lineNumbers next line = numbers (formOf next .width) (valueOf (formOf next .key) line)

@@ -8,7 +8,7 @@ use lib.ListN.{length, getD}
 use Rattle.text.specs.Lines.{lines}
 use Rattle.job.specs.Job as J
 use Rattle.job.specs.Job.{addFormula, addMove, addEffect, addRow, withScalars, formulaOf, moveOf, effectOf, rowOf, countsOf}
-use Rattle.job.specs.Line.{rowNumbers}
+use Rattle.job.specs.Line.{lineNumbers}
 use Rattle.job.specs.Fault.{fault}
 use Rattle.job.specs.declared.line.Line.{Line}
 use Rattle.job.specs.declared.line.Line.the-variants.{Job, Facts, Init, Formulas, Formula, Moves, Move, Effect, Goal, Program, Row, End}
@@ -81,7 +81,7 @@ ended n s = cond (isEnd (s .next)) (read n (s .job)) (refused 1 (n + 1))
 unfoldable pub readFrom : ℕ → Reading → List (List ℕ) → Outcome
 readFrom n s [] = ended n s
 readFrom n s (line ∷ rest) =
-    let row = rowNumbers (s .next) line in
+    let row = lineNumbers (s .next) line in
     let reason = fault (s .next) (countsOf (s .job)) row in
     cond (eqb reason 0) (readFrom (n + 1) (taken s (Option·getD row [])) rest) (refused reason (n + 1))
 

@@ -20,6 +20,13 @@ use Rattle.job.specs.declared.stored.ProgramRow.{ProgramRow}
 abbrev pub width : ℕ
 width = 8
 
+-- the numbers of a move's row that say how many effects it has, and which of all is its first
+abbrev pub effectCount : ℕ
+effectCount = 2
+
+abbrev pub firstEffect : ℕ
+firstEffect = 7
+
 -- where the rows of each sort begin, how many rows there are in all, and how many numbers they take
 abbrev pub formulasFrom : ℕ
 formulasFrom = 0
@@ -50,9 +57,9 @@ unfoldable pub rowsFrom : {A : Type 0} → (List ℕ → A) → List ℕ → ℕ
 rowsFrom f l first zero = []
 rowsFrom f l first (suc n) = rowsFrom f l first n ++ (f (rowAt l (first + n)) ∷ [])
 
--- a move's row has as its last number the first of its effects
+-- a move's row has the number of its first effect, too
 abbrev pub storedMove : List ℕ → J.Move
-storedMove r = moveOf (getD r 7 0) r
+storedMove r = moveOf (getD r firstEffect 0) r
 
 abbrev pub jobOf : Head → List ℕ → Job
 jobOf h l = record {
@@ -68,7 +75,7 @@ abbrev pub formulaIn : Formula → J.Formula
 formulaIn r = record { kind = r .kind; a = r .a; b = r .b }
 
 abbrev pub moveIn : Move → J.Move
-moveIn r = record { pre = r .pre; class = r .class; count = r .count; first = r .first }
+moveIn r = record { pre = r .pre; class = r .class; effects = r .effects; first = r .first }
 
 abbrev pub effectIn : Effect → J.Effect
 effectIn r = record { cond = r .cond; fact = r .fact; value = r .value }

@@ -24,7 +24,7 @@ FormulaRows facts = Every (formulaOf []) (λ i f. Within (beforeFormula facts i)
 pub record MoveFits (formulas : ℕ) (m : Move) : Type 0 where
   pub pre : m .pre < formulas
   pub class : m .class ≤ lastClass
-  pub count : m .count ≤ mostMoveEffects
+  pub effects : m .effects ≤ mostMoveEffects
 
 abbrev pub MoveRows : ℕ → List Move → Type 0
 MoveRows formulas = Every (moveOf 0 []) (λ i m. MoveFits formulas m)
@@ -32,7 +32,7 @@ MoveRows formulas = Every (moveOf 0 []) (λ i m. MoveFits formulas m)
 -- the effects of the moves stand move after move, from number `first` on, and are all before number `last`
 abbrev pub Tiled : ℕ → List Move → ℕ → Type 0
 Tiled first [] last = first ≡ last
-Tiled first (m ∷ ms) last = (m .first ≡ first) × Tiled (first + m .count) ms last
+Tiled first (m ∷ ms) last = (m .first ≡ first) × Tiled (first + m .effects) ms last
 
 -- an effect beside so many facts and formulas
 pub record EffectFits (facts formulas : ℕ) (e : Effect) : Type 0 where

@@ -67,14 +67,14 @@ fn init_right(init: u16, facts: u16) -> bool
 }
 
 // The reason that refuses a line of the sort that comes next, or 0.
-pub fn reason(next: Line, row: LineNumbers, counts: Counts) -> u8
+pub fn reason(next: Line, line: LineNumbers, counts: Counts) -> u8
     requires { ⌜ counts .facts ≤ mostFacts ⌝ }
-    ensures { λ r. ⌜ r ≡ fault next counts (numbersOf next row) ⌝ }
+    ensures { λ r. ⌜ r ≡ fault next counts (numbersOf next line) ⌝ }
 {
-    if !row.formed {
+    if !line.formed {
         return 1;
     }
-    let n = row.numbers;
+    let n = line.numbers;
     let first = n[0];
     match next {
         Line::Job => unless(first == 1, 1),

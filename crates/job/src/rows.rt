@@ -1,12 +1,17 @@
 // The rows of a job in one array, eight numbers a row, every sort from a row of its own on.
 ghost use mathlib.Core.Path.{_≡_};
-ghost use Prim.Native.Nat.{_-_, _*_, _<_};
-ghost use lib.ListN.{length, set};
+ghost use Prim.Native.Nat.{_*_, _<_};
+ghost use lib.ListN.{length, getD, set};
 ghost use lib.Seq.{sets};
-ghost use Rattle.job.specs.Store.{allRows, width, storeSize};
+ghost use Rattle.job.specs.Store.{allRows, width, storeSize, firstEffect, effectCount};
 
-// How many numbers a row has. No line has more than seven; a move's last one is the number of its first effect.
+// How many numbers a row has; no other crate knows which of them is which.
 pub const WIDTH: usize = 8;
+
+// The numbers of a move's row that say how many effects it has, and which of all is its first.
+pub const EFFECT_COUNT: usize = 2;
+
+pub const FIRST_EFFECT: usize = 7;
 
 // Where the moves, the effects and the program rows begin; the formulas come first.
 pub const MOVES_FROM: u16 = limits::FORMULAS;
@@ -20,12 +25,19 @@ const ALL_ROWS: u16 = PROGRAM_FROM + limits::PROGRAM;
 // How many numbers the rows take: 11,768, of two bytes each.
 pub const STORE: usize = (ALL_ROWS as usize) * WIDTH;
 
+// How many effects a move has, by the numbers of its line.
+pub fn effect_count(line: [u16; WIDTH]) -> u16
+    ensures { λ r. ⌜ r ≡ getD line effectCount 0 ⌝ }
+{
+    line[EFFECT_COUNT]
+}
+
 // The row of a move: the numbers of its line, and the number of its first effect.
 pub fn move_row(line: [u16; WIDTH], first: u16) -> [u16; WIDTH]
-    ensures { λ r. ⌜ r ≡ set line (width - 1) first ⌝ }
+    ensures { λ r. ⌜ r ≡ set line firstEffect first ⌝ }
 {
     let mut numbers = line;
-    numbers[WIDTH - 1] = first;
+    numbers[FIRST_EFFECT] = first;
     numbers
 }
 

@@ -1,11 +1,13 @@
-// The rows of a stored job, read by name. Here alone it is known which number of a row is which.
+// The rows of a stored job, read by name.
 ghost use mathlib.Core.Path.{_≡_};
 ghost use Prim.Native.Nat.{_<_};
 ghost use Rattle.job.specs.Job.{formulaAt, moveAt, effectAt, programRowAt};
 ghost use Rattle.job.specs.Store.{jobOf, formulaIn, moveIn, effectIn, rowIn};
 ghost use Rattle.job.specs.Stored.{Stored};
 use crate::head::Head;
+use crate::rows::EFFECT_COUNT;
 use crate::rows::EFFECTS_FROM;
+use crate::rows::FIRST_EFFECT;
 use crate::rows::MOVES_FROM;
 use crate::rows::PROGRAM_FROM;
 use crate::rows::WIDTH;
@@ -21,7 +23,7 @@ pub struct Formula {
 pub struct Move {
     pub pre: u16,
     pub class: u16,
-    pub count: u16,
+    pub effects: u16,
     pub first: u16,
 }
 
@@ -60,8 +62,8 @@ pub fn move_at(head: Head, rows: &[u16], i: u16) -> Move
     Move {
         pre: rows[at],
         class: rows[at + 1],
-        count: rows[at + 2],
-        first: rows[at + 7],
+        effects: rows[at + EFFECT_COUNT],
+        first: rows[at + FIRST_EFFECT],
     }
 }
 

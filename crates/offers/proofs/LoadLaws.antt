@@ -22,7 +22,7 @@ use Rattle.reader.proofs.ReadLaws.{read-stored}
 use Rattle.compile.specs.CompiledJob.{positionCount, stepCount, fits}
 use Rattle.compile.specs.Size.{capped}
 use Rattle.compile.specs.declared.sizes.Sizes.{Sizes}
-use Rattle.offers.specs.Refusals.{passed, refused, limits, jobIn}
+use Rattle.offers.specs.Refusals.{passed, refused, compilable, jobIn}
 use Rattle.offers.specs.Load.{checkedOf, Sized, Measured, loadRefusal}
 use Rattle.offers.specs.declared.load.Loaded.{Loaded}
 
@@ -46,7 +46,7 @@ module _ (text rows : List ℕ) where
       → checkedOf (Loaded.Refused r) rows ≡ jobIn text
   unfolding jobIn
   load-refused {a} {q} {r} g f e =
-      ap (λ (x : Refusal). refused (x .number) (x .place)) (f ∙ ap S.readRefusal g) ∙ ap limits (ap (λ (x : Answer). outcomeOf x rows) (sym g) ∙ e)
+      ap (λ (x : Refusal). refused (x .number) (x .place)) (f ∙ ap S.readRefusal g) ∙ ap compilable (ap (λ (x : Answer). outcomeOf x rows) (sym g) ∙ e)
 
   module _ {a : Answer} (n : ℕ) (h : Head) (g : a ≡ Answer.Read n h) (e : outcomeOf a rows ≡ readJob text) where
     abbrev j : Job
@@ -60,7 +60,7 @@ module _ (text rows : List ℕ) where
 
     limited : (b : Bool) → fits j ≡ b → cond b (passed j) (refused 4 n) ≡ jobIn text
     unfolding jobIn
-    limited b f = ap (λ (x : Bool). cond x (passed j) (refused 4 n)) (sym f) ∙ ap limits (sym reads)
+    limited b f = ap (λ (x : Bool). cond x (passed j) (refused 4 n)) (sym f) ∙ ap compilable (sym reads)
 
     module _ (s : Sizes) (m : (s .positions ≡ capped (positionCount j)) × (s .steps ≡ capped (stepCount j))) where
       pub load-positions : mostPositions < s .positions → refused 4 n ≡ jobIn text
@@ -80,7 +80,7 @@ module _ (text rows : List ℕ) where
 
 -- what is handed on was read, and fits
 module _ (text : List ℕ) (j : Job) where
-  within : (o : R.Outcome) → limits o ≡ passed j → (n : ℕ) × (o ≡ R.read n j) × (fits j ≡ true)
+  within : (o : R.Outcome) → compilable o ≡ passed j → (n : ℕ) × (o ≡ R.read n j) × (fits j ≡ true)
   within (R.read n k) f = by (fits k) refl f
     where
       by : (b : Bool) → fits k ≡ b → cond b (passed k) (refused 4 n) ≡ passed j → (m : ℕ) × (R.read n k ≡ R.read m j) × (fits j ≡ true)

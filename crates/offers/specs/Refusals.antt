@@ -25,13 +25,13 @@ next (passed a) reason = reason a
 next (refused number place) reason = refused number place
 
 -- 4 "too many positions or steps", at the last job line
-abbrev pub limits : Outcome → Checked Job
-limits (R.read lines j) = cond (fits j) (passed j) (refused 4 lines)
-limits (R.refused number place) = refused number place
+abbrev pub compilable : Outcome → Checked Job
+compilable (R.read lines j) = cond (fits j) (passed j) (refused 4 lines)
+compilable (R.refused number place) = refused number place
 
 -- reasons 1 to 4: "Texts are accepted where no reason but 6 refuses them."
 unfoldable pub jobIn : List ℕ → Checked Job
-jobIn text = limits (readJob text)
+jobIn text = compilable (readJob text)
 
 -- a job, and the entries of a plan that is offered for it
 pub record Offer : Type 0 where

@@ -21,7 +21,7 @@ pub enum PlanEntry {
 }
 
 // How many entries a plan has is below this number.
-const COUNTS: u16 = (ENTRIES as u16) + 1;
+const COUNT_BOUND: u16 = (ENTRIES as u16) + 1;
 
 // The one number of a line with this key, where it is below a limit.
 fn read_entry(line: &[u8], key: &[u8], limit: u16) -> PlanEntry
@@ -78,7 +78,7 @@ pub fn read_plan(text: &[u8], key: &[u8], bound: u16, entries: &mut [u16]) -> Pl
     ensures { λ r. ⌜ (planOf r (now (entries .exit)) ≡ readPlan (now (key .entry)) bound (now (text .entry))) × (entryCount r ≤ mostEntries) ⌝ }
 {
     let e = text::lines::line_end(text, 0);
-    let first = read_entry(&text[0..e], b"plan", COUNTS);
+    let first = read_entry(&text[0..e], b"plan", COUNT_BOUND);
     let PlanEntry::Number(count) = first else {
         return PlanAnswer::Refused(1);
     };

@@ -11,7 +11,7 @@ use Rattle.job.specs.Job as J
 use Rattle.job.specs.Job.{formulaOf, moveOf, effectOf, rowOf, addFormula, addMove, addEffect, addRow}
 use Rattle.job.specs.Line.{formOf}
 use Rattle.job.specs.ReadJob.{Reading, on, taken, takenAt}
-use Rattle.job.specs.Store.{width, formulasFrom, movesFrom, effectsFrom, programFrom, storeSize, storedMove, jobOf, listOf}
+use Rattle.job.specs.Store.{width, formulasFrom, movesFrom, effectsFrom, programFrom, storeSize, storedMove, jobOf, listOf, firstEffect}
 use Rattle.job.specs.declared.head.Counts.{Counts}
 use Rattle.job.specs.declared.head.Head.{Head}
 use Rattle.job.specs.declared.line.Line.{Line}
@@ -20,7 +20,7 @@ use Rattle.job.specs.declared.line.LineNumbers.{LineNumbers}
 use Rattle.job.proofs.StoreLaws.{rows-length, by-columns, put-behind, put-before, put-next}
 use Rattle.reader.specs.Reading.{readingOf}
 use Rattle.reader.specs.Room.{Room}
-use Rattle.reader.specs.declared.reading.State.{State}
+use Rattle.reader.specs.declared.reading.ReaderState.{ReaderState}
 
 abbrev counted : Head → ℕ → ℕ → ℕ → ℕ → Head
 counted h f m e p = record {
@@ -30,8 +30,8 @@ counted h f m e p = record {
 }
 
 -- a move's row, whose last number is the first of its effects
-stored-move : (first : ℕ) (n : List ℕ) → length n ≡ width → storedMove (set n (width - 1) first) ≡ moveOf first n
-stored-move first = by-columns (λ n. storedMove (set n (width - 1) first) ≡ moveOf first n) (λ a b c d e f g h. refl)
+stored-move : (first : ℕ) (n : List ℕ) → length n ≡ width → storedMove (set n firstEffect first) ≡ moveOf first n
+stored-move first = by-columns (λ n. storedMove (set n firstEffect first) ≡ moveOf first n) (λ a b c d e f g h. refl)
 
 -- room for the rows of each sort
 abbrev WithinLimits : Counts → Type 0
@@ -57,11 +57,11 @@ module _ (h : Head) (l n : List ℕ) (len : length l ≡ storeSize) (eight : len
   -- a move, whose effects begin behind all others
   pub move-added : h .counts .moves < mostMoves
       → jobOf (counted h (h .counts .formulas) (h .counts .moves + 1) (h .counts .effects) (h .counts .program))
-      (with-row (movesFrom + h .counts .moves) (set n (width - 1) (h .counts .effects)))
+      (with-row (movesFrom + h .counts .moves) (set n firstEffect (h .counts .effects)))
       ≡ addMove (jobOf h l) (moveOf (length (jobOf h l .effects)) n)
   move-added g =
       let i : ℕ = movesFrom + h .counts .moves in
-      let v : List ℕ = set n (width - 1) (h .counts .effects) in
+      let v : List ℕ = set n firstEffect (h .counts .effects) in
       let w : length v ≡ width = simp length-set eight in
       rw (
         put-behind formulaOf l i v w formulasFrom (h .counts .formulas) (omega arith),
@@ -97,7 +97,7 @@ module _ (h : Head) (l n : List ℕ) (len : length l ≡ storeSize) (eight : len
       )
 
 -- what a state stands for, by its parts
-pub reading-of : {r : State} {t : List ℕ} (next : Line) (due effects : ℕ) (h : Head) (u : List ℕ) (n : Line) (g : Head) (j : J.Job)
+pub reading-of : {r : ReaderState} {t : List ℕ} (next : Line) (due effects : ℕ) (h : Head) (u : List ℕ) (n : Line) (g : Head) (j : J.Job)
     → r ≡ record { next = next; due = due; effects = effects; head = h } → t ≡ u → next ≡ n → h ≡ g → jobOf g u ≡ j → readingOf r t ≡ on n due effects j
 reading-of next due effects h u n g j e f d b k = rw (e, f, d, b) (ap (on n due effects) k)
 
@@ -124,7 +124,7 @@ module _ (s : Reading) where
   taken-front k = by-columns (Front k) (front k)
 
 -- a line taken in, by the sort that came next
-module _ (s : State) (l : List ℕ) (r : LineNumbers) (k : Line) (e : s .next ≡ k) where
+module _ (s : ReaderState) (l : List ℕ) (r : LineNumbers) (k : Line) (e : s .next ≡ k) where
   pub taken-of : length (r .numbers) ≡ width → taken (readingOf s l) (listOf (s .next) r) ≡ takenAt k (readingOf s l) (r .numbers)
   unfolding taken
   taken-of h = ap (λ q. takenAt q (readingOf s l) (listOf q r)) e ∙ taken-front (readingOf s l) k (r .numbers) h

@@ -59,9 +59,9 @@ module _ (j : J.Job) where
   no-row e i h = absurd (omega arith)
 
 -- one move more behind, with its effects to come
-tiled-more : (first last : ℕ) (ms : List J.Move) (m : J.Move) → Tiled first ms last → m .first ≡ last → Tiled first (ms ++ (m ∷ [])) (last + m .count)
+tiled-more : (first last : ℕ) (ms : List J.Move) (m : J.Move) → Tiled first ms last → m .first ≡ last → Tiled first (ms ++ (m ∷ [])) (last + m .effects)
 tiled-more first last [] m t e = (e ∙ sym t, omega (arith, t))
-tiled-more first last (k ∷ ms) m t e = (t .0, tiled-more (first + k .count) last ms m (t .1) e)
+tiled-more first last (k ∷ ms) m t e = (t .0, tiled-more (first + k .effects) last ms m (t .1) e)
 
 tiled-none : (ms : List J.Move) (last : ℕ) → length ms ≡ 0 → last ≡ 0 → Tiled 0 ms last
 tiled-none [] last e h = sym h
@@ -112,7 +112,7 @@ module _ (s : Reading) (r : List ℕ) where
             (record {
               pre = ltb-true (getD r 0 0) (c .formulas) (and-left (ltb (getD r 0 0) (c .formulas)) (leb (getD r 1 0) lastClass) (x .fields));
               class = leb-true (getD r 1 0) lastClass (and-right (ltb (getD r 0 0) (c .formulas)) (leb (getD r 1 0) lastClass) (x .fields));
-              count = leb-true (getD r 2 0) mostMoveEffects (x .range);
+              effects = leb-true (getD r 2 0) mostMoveEffects (x .range);
             });
         tiled = tiled-more 0 (length (j .effects)) (j .moves) m (subst (Tiled 0 (j .moves)) e (f .tiled)) refl;
         effect = f .effect;

@@ -14,7 +14,7 @@ use Rattle.text.specs.Lines.{lines, lineLength}
 use Rattle.text.proofs.LineLaws.{lines-at, lines-past}
 use Rattle.job.specs.Job as J
 use Rattle.job.specs.Job.{countsOf}
-use Rattle.job.specs.Line.{rowNumbers}
+use Rattle.job.specs.Line.{lineNumbers}
 use Rattle.job.specs.Fault.{fault}
 use Rattle.job.specs.ReadJob.{Reading, read, refused, isEnd, ended, readFrom, begun, taken, readJob}
 use Rattle.job.specs.Store.{storeSize, jobOf, listOf, numbersOf}
@@ -28,17 +28,17 @@ use Rattle.job.proofs.FaultLaws.{right-formed}
 use Rattle.job.proofs.StoreLaws.{counts-of}
 use Rattle.reader.specs.Reading.{readingOf, outcomeOf}
 use Rattle.reader.specs.Room.{Room}
-use Rattle.reader.specs.declared.reading.State.{State}
+use Rattle.reader.specs.declared.reading.ReaderState.{ReaderState}
 use Rattle.reader.specs.declared.reading.Answer.the-variants.{Read}
 use Rattle.reader.proofs.RoomLaws.{Right, fault-right}
 use Rattle.reader.proofs.KeptLaws.{Kept, taken-kept, begun-kept, end-well-formed}
 
 abbrev reason : Reading → List ℕ → ℕ
-reason s line = fault (s .next) (countsOf (s .job)) (rowNumbers (s .next) line)
+reason s line = fault (s .next) (countsOf (s .job)) (lineNumbers (s .next) line)
 
 -- one line more: it is right, or it decides
 module _ (n : ℕ) (s : Reading) (line : List ℕ) (rest : List (List ℕ)) where
-  pub line-right : (r : List ℕ) → rowNumbers (s .next) line ≡ some r → reason s line ≡ 0 → readFrom n s (line ∷ rest) ≡ readFrom (n + 1) (taken s r) rest
+  pub line-right : (r : List ℕ) → lineNumbers (s .next) line ≡ some r → reason s line ≡ 0 → readFrom n s (line ∷ rest) ≡ readFrom (n + 1) (taken s r) rest
   unfolding readFrom
   line-right r e h = rw (eq-eqb _ _ h, e)
 
@@ -49,7 +49,7 @@ module _ (n : ℕ) (s : Reading) (line : List ℕ) (rest : List (List ℕ)) wher
 -- the text from place i on, whose first line ends at e
 module _ (text : List ℕ) (i e n : ℕ) (s : Reading) (within : i < length text) (line-end : e ≡ i + lineLength (drop i text))
     (so-far : readJob text ≡ readFrom n s (lines (drop i text))) where
-  pub read-on : (r : List ℕ) → rowNumbers (s .next) (take (e - i) (drop i text)) ≡ some r → reason s (take (e - i) (drop i text)) ≡ 0
+  pub read-on : (r : List ℕ) → lineNumbers (s .next) (take (e - i) (drop i text)) ≡ some r → reason s (take (e - i) (drop i text)) ≡ 0
       → readJob text ≡ readFrom (n + 1) (taken s r) (lines (drop e text))
   read-on r g h = so-far ∙ ap (readFrom n s) (lines-at text i e within line-end) ∙ line-right n s _ _ r g h
 
@@ -61,12 +61,12 @@ unfolding readFrom
 read-ended text i n s h e = e ∙ rw (lines-past text i h)
 
 -- the numbers of a line as the code has them
-module _ (s : State) (rows line : List ℕ) (r : LineNumbers) (numbers-read : numbersOf (s .next) r ≡ rowNumbers (s .next) line) where
+module _ (s : ReaderState) (rows line : List ℕ) (r : LineNumbers) (numbers-read : numbersOf (s .next) r ≡ lineNumbers (s .next) line) where
   pub reason-of : fault (s .next) (s .head .counts) (numbersOf (s .next) r) ≡ reason (readingOf s rows) line
   reason-of = rw (counts-of (s .head) rows, numbers-read)
 
   module _ (zero-reason : fault (s .next) (s .head .counts) (numbersOf (s .next) r) ≡ 0) where
-    pub row-of : rowNumbers (s .next) line ≡ some (listOf (s .next) r)
+    pub row-of : lineNumbers (s .next) line ≡ some (listOf (s .next) r)
     row-of = sym numbers-read ∙ rw (right-formed (s .next) (s .head .counts) r zero-reason)
 
     pub right-of : Right (s .next) (countsOf (jobOf (s .head) rows)) (listOf (s .next) r)
@@ -74,7 +74,7 @@ module _ (s : State) (rows line : List ℕ) (r : LineNumbers) (numbers-read : nu
         fault-right (s .next) (countsOf (jobOf (s .head) rows)) (listOf (s .next) r)
         (ap (fault (s .next) (countsOf (jobOf (s .head) rows))) (sym row-of) ∙ sym reason-of ∙ zero-reason)
 
-pub room-of : (s : State) (rows : List ℕ) → Kept (readingOf s rows) → Room (s .next) (s .due) (s .effects) (s .head .counts)
+pub room-of : (s : ReaderState) (rows : List ℕ) → Kept (readingOf s rows) → Room (s .next) (s .due) (s .effects) (s .head .counts)
 room-of s rows k = rw (counts-of (s .head) rows) at (k .room)
 
 -- the end, where a text is read
@@ -98,13 +98,13 @@ not-read a b m j e = let z : _≡_ {A = ℕ} 0 1 = cc in absurd (omega arith)
 -- what holds at the end, and before a right line where it holds after it, holds wherever the text is read
 module _ (m : ℕ) (j : J.Job) (P : ℕ → Reading → List (List ℕ) → Type 0)
     (at-end : (s : Reading) → s .next ≡ End → s .job ≡ j → P m s [])
-    (at-line : (n : ℕ) (s : Reading) (line r : List ℕ) (ls : List (List ℕ)) → rowNumbers (s .next) line ≡ some r → Right (s .next) (countsOf (s .job)) r
+    (at-line : (n : ℕ) (s : Reading) (line r : List ℕ) (ls : List (List ℕ)) → lineNumbers (s .next) line ≡ some r → Right (s .next) (countsOf (s .job)) r
     → P (n + 1) (taken s r) ls → P n s (line ∷ ls)) where
   end-by : (n : ℕ) (s : Reading) (b : Bool) → isEnd (s .next) ≡ b → cond b (read n (s .job)) (refused 1 (n + 1)) ≡ read m j → P n s []
   end-by n s true g e = let a : m ≡ n = cc in subst (λ k. P k s []) a (at-end s (end-is (s .next) g) (cc))
   end-by n s false g e = not-read 1 (n + 1) m j e
 
-  line-by : (n : ℕ) (s : Reading) (ls : List (List ℕ)) (line : List ℕ) (o : Option (List ℕ)) (b : Bool) → rowNumbers (s .next) line ≡ o
+  line-by : (n : ℕ) (s : Reading) (ls : List (List ℕ)) (line : List ℕ) (o : Option (List ℕ)) (b : Bool) → lineNumbers (s .next) line ≡ o
       → eqb (fault (s .next) (countsOf (s .job)) o) 0 ≡ b
       → cond b (readFrom (n + 1) (taken s (Option·getD o [])) ls) (refused (fault (s .next) (countsOf (s .job)) o) (n + 1)) ≡ read m j
       → ((q : Reading) → readFrom (n + 1) q ls ≡ read m j → P (n + 1) q ls) → P n s (line ∷ ls)
@@ -118,7 +118,7 @@ module _ (m : ℕ) (j : J.Job) (P : ℕ → Reading → List (List ℕ) → Type
   pub read-has : (n : ℕ) (s : Reading) (ls : List (List ℕ)) → readFrom n s ls ≡ read m j → P n s ls
   unfolding readFrom ended
   read-has n s [] e = end-by n s (isEnd (s .next)) refl e
-  read-has n s (line ∷ ls) e = line-by n s ls line (rowNumbers (s .next) line) _ refl refl e (λ q. read-has (n + 1) q ls)
+  read-has n s (line ∷ ls) e = line-by n s ls line (lineNumbers (s .next) line) _ refl refl e (λ q. read-has (n + 1) q ls)
 
 -- every job that is read is well formed
 pub read-well-formed : (text : List ℕ) (n : ℕ) (j : J.Job) → readJob text ≡ read n j → WellFormed j

@@ -5,7 +5,7 @@ use Rattle.job.specs.ReadJob.{Reading, on, Outcome, read, refused}
 use Rattle.job.specs.Store.{jobOf}
 use Rattle.job.specs.declared.head.Head.{Head}
 use Rattle.job.specs.declared.head.Refusal.{Refusal}
-use Rattle.reader.specs.declared.reading.State.{State}
+use Rattle.reader.specs.declared.reading.ReaderState.{ReaderState}
 use Rattle.reader.specs.declared.reading.Answer.{Answer}
 use Rattle.reader.specs.declared.reading.Answer.the-variants.{Read, Refused}
 
@@ -23,7 +23,7 @@ withNumbers h facts init goal = record {
   goal = goal;
 }
 
-abbrev pub readingOf : State → List ℕ → Reading
+abbrev pub readingOf : ReaderState → List ℕ → Reading
 readingOf s l = on (s .next) (s .due) (s .effects) (jobOf (s .head) l)
 
 -- the paper's number and values for each case of the answer, with the rows as they are stored

@@ -1,7 +1,7 @@
 // The numbers of a line of the sort that comes next.
 ghost use mathlib.Core.Path.{_≡_};
 ghost use Rattle.text.specs.Lines.{valueOf};
-ghost use Rattle.job.specs.Line.{formOf, rowNumbers};
+ghost use Rattle.job.specs.Line.{formOf, lineNumbers};
 ghost use Rattle.job.specs.Store.{numbersOf};
 use job::line::Line;
 use job::line::LineNumbers;
@@ -49,7 +49,7 @@ fn value(next: Line, line: &[u8]) -> &[u8]
 
 // A line of the sort that comes next, as numbers.
 pub fn read_line(next: Line, line: &[u8]) -> LineNumbers
-    ensures { λ r. ⌜ numbersOf next r ≡ rowNumbers next (now (line .entry)) ⌝ }
+    ensures { λ r. ⌜ numbersOf next r ≡ lineNumbers next (now (line .entry)) ⌝ }
 {
     let mut n = [0u16; WIDTH];
     let w = width(next);

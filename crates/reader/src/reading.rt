@@ -19,7 +19,7 @@ use job::rows::PROGRAM_FROM;
 use job::rows::WIDTH;
 
 // A text that is being read: the line that comes next, the rows of its sort and the effects of the last move that are due, and the head so far.
-pub struct State {
+pub struct ReaderState {
     pub next: Line,
     pub due: u16,
     pub effects: u16,
@@ -79,10 +79,10 @@ fn after_rows(due: u16) -> Line
     if due == 0 { Line::End } else { Line::Row }
 }
 
-fn on(next: Line, due: u16, effects: u16, head: Head) -> State
+fn on(next: Line, due: u16, effects: u16, head: Head) -> ReaderState
     ensures { λ r. ⌜ r ≡ record { next = next; due = due; effects = effects; head = head } ⌝ }
 {
-    State {
+    ReaderState {
         next: next,
         due: due,
         effects: effects,
@@ -113,7 +113,7 @@ fn with_counts(head: Head, c: Counts) -> Head
 }
 
 // Each line that is a row adds it to the rows, behind the earlier rows of its sort.
-fn add_formula(s: State, numbers: [u16; WIDTH], rows: &mut [u16]) -> State
+fn add_formula(s: ReaderState, numbers: [u16; WIDTH], rows: &mut [u16]) -> ReaderState
     requires { ⌜ Room Line.Formula (s .due) (s .effects) (s .head .counts) ⌝ }
     requires { ⌜ length (now rows) ≡ storeSize ⌝ }
     ensures { λ r. ⌜ readingOf r (now (rows .exit)) ≡ takenAt Line.Formula (readingOf s (now (rows .entry))) numbers ⌝ }
@@ -128,7 +128,7 @@ fn add_formula(s: State, numbers: [u16; WIDTH], rows: &mut [u16]) -> State
     on(after_formulas(due), due, s.effects, h)
 }
 
-fn add_move(s: State, numbers: [u16; WIDTH], rows: &mut [u16]) -> State
+fn add_move(s: ReaderState, numbers: [u16; WIDTH], rows: &mut [u16]) -> ReaderState
     requires { ⌜ Room Line.Move (s .due) (s .effects) (s .head .counts) ⌝ }
     requires { ⌜ length (now rows) ≡ storeSize ⌝ }
     ensures { λ r. ⌜ readingOf r (now (rows .exit)) ≡ takenAt Line.Move (readingOf s (now (rows .entry))) numbers ⌝ }
@@ -141,11 +141,11 @@ fn add_move(s: State, numbers: [u16; WIDTH], rows: &mut [u16]) -> State
     c.moves = i + 1;
     let h = with_counts(head, c);
     let due = s.due - 1;
-    let effects = numbers[2];
+    let effects = job::rows::effect_count(numbers);
     on(after_moves(due, effects), due, effects, h)
 }
 
-fn add_effect(s: State, numbers: [u16; WIDTH], rows: &mut [u16]) -> State
+fn add_effect(s: ReaderState, numbers: [u16; WIDTH], rows: &mut [u16]) -> ReaderState
     requires { ⌜ Room Line.Effect (s .due) (s .effects) (s .head .counts) ⌝ }
     requires { ⌜ length (now rows) ≡ storeSize ⌝ }
     ensures { λ r. ⌜ readingOf r (now (rows .exit)) ≡ takenAt Line.Effect (readingOf s (now (rows .entry))) numbers ⌝ }
@@ -160,7 +160,7 @@ fn add_effect(s: State, numbers: [u16; WIDTH], rows: &mut [u16]) -> State
     on(after_moves(s.due, effects), s.due, effects, h)
 }
 
-fn add_row(s: State, numbers: [u16; WIDTH], rows: &mut [u16]) -> State
+fn add_row(s: ReaderState, numbers: [u16; WIDTH], rows: &mut [u16]) -> ReaderState
     requires { ⌜ Room Line.Row (s .due) (s .effects) (s .head .counts) ⌝ }
     requires { ⌜ length (now rows) ≡ storeSize ⌝ }
     ensures { λ r. ⌜ readingOf r (now (rows .exit)) ≡ takenAt Line.Row (readingOf s (now (rows .entry))) numbers ⌝ }
@@ -176,17 +176,17 @@ fn add_row(s: State, numbers: [u16; WIDTH], rows: &mut [u16]) -> State
 }
 
 // The numbers of a right line taken in.
-fn take_line(s: State, row: LineNumbers, rows: &mut [u16]) -> State
+fn take_line(s: ReaderState, line: LineNumbers, rows: &mut [u16]) -> ReaderState
     requires { ⌜ Room (s .next) (s .due) (s .effects) (s .head .counts) ⌝ }
     requires { ⌜ length (now rows) ≡ storeSize ⌝ }
-    ensures { λ r. ⌜ readingOf r (now (rows .exit)) ≡ taken (readingOf s (now (rows .entry))) (listOf (s .next) row) ⌝ }
+    ensures { λ r. ⌜ readingOf r (now (rows .exit)) ≡ taken (readingOf s (now (rows .entry))) (listOf (s .next) line) ⌝ }
 {
     let next = s.next;
     let h = s.head;
     let due = s.due;
     let effects = s.effects;
     let facts = h.counts.facts;
-    let numbers = row.numbers;
+    let numbers = line.numbers;
     let first = numbers[0];
     match next {
         Line::Job => on(Line::Facts, due, effects, h),
@@ -219,7 +219,7 @@ fn take_line(s: State, row: LineNumbers, rows: &mut [u16]) -> State
     }
 }
 
-fn start() -> State
+fn start() -> ReaderState
     ensures { λ r. ⌜ ((l : List ℕ) → readingOf r l ≡ begun) ⌝ }
 {
     let c = Counts {
@@ -257,7 +257,7 @@ fn is_end(next: Line) -> bool
 }
 
 // The answer where the text has no more lines.
-fn finish(s: State, n: usize) -> Answer
+fn finish(s: ReaderState, n: usize) -> Answer
     requires { ⌜ n < 2 ^ 63 ⌝ }
     ensures { λ r. ⌜ ((l : List ℕ) → outcomeOf r l ≡ ended n (readingOf s l)) ⌝ }
 {
@@ -281,14 +281,14 @@ pub fn read_job(text: &[u8], rows: &mut [u16]) -> Answer
         let e = text::lines::line_end(text, at);
         let line = &text[at..e];
         let next = s.next;
-        let row = crate::line::read_line(next, line);
+        let numbers = crate::line::read_line(next, line);
         let counts = s.head.counts;
         n += 1;
-        let reason = job::fault::reason(next, row, counts);
+        let reason = job::fault::reason(next, numbers, counts);
         if reason != 0 {
             return refused(reason, n);
         }
-        s = take_line(s, row, rows);
+        s = take_line(s, numbers, rows);
         at = e;
     }
     finish(s, n)

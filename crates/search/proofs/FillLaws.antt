@@ -27,7 +27,7 @@ use Rattle.sweep.specs.Cells.{Cleared}
 use Rattle.sweep.specs.declared.Grid.{Grid}
 use Rattle.sweep.specs.Queue.{Queue, queueSize, SameKeys, Lowered, Chosen}
 use Rattle.sweep.specs.Successors.{Cached}
-use Rattle.sweep.specs.Scans.{graphOf, Indexed, Keyed, potential}
+use Rattle.sweep.specs.Sweeps.{graphOf, Indexed, Keyed, potential}
 use Rattle.sweep.specs.Relaxation.{Sweep, Better}
 use Rattle.search.specs.Filling.{Search, Exhausted}
 use Rattle.sweep.proofs.GraphLaws.{graph-closed, positions-few}
@@ -54,9 +54,9 @@ settling-end x chosen e is = record {
 }
 
 -- the order is made anew
-pub better-named : {G : Graph} {n : ℕ} {T queue T′ queue′ queue″ : List ℕ} → n ≤ mostStates → n ≡ G .domain .states → Better G n T queue T′ queue′ → SameKeys queue′ queue″
+pub better-sifted : {G : Graph} {n : ℕ} {T queue T′ queue′ queue″ : List ℕ} → n ≤ mostStates → n ≡ G .domain .states → Better G n T queue T′ queue′ → SameKeys queue′ queue″
     → Better G n T queue T′ queue″
-better-named {n = n} {T′ = T′} {queue′} {queue″} few is x same = record {
+better-sifted {n = n} {T′ = T′} {queue′} {queue″} few is x same = record {
   runs = x .runs;
   size = same .size ∙ x .size;
   relaxed = λ i s p t q c l e claim. x .relaxed i s p t q c l e (omega (arith, claim, same .keys s (omega (arith, e .inside))));
@@ -64,7 +64,7 @@ better-named {n = n} {T′ = T′} {queue′} {queue″} few is x same = record 
 }
 
 module _ {head : Head} {rows list adjacency : List ℕ} {grid : Grid} {T queue : List ℕ} (x : Search head rows list adjacency grid T queue) where
-  -- a state, where nothing is cached yet but the formulas' values
+  -- a state to sweep, with its formulas' values and a cache of its successors
   pub search-sweep : {values : List Bool} {state : ℕ} {cache : List ℕ} → Tells (domainIn head rows) state values → state < domainIn head rows .states
       → Cached (domainIn head rows) state cache → Sweep (record { head = head; grid = grid; state = state }) rows values T queue cache
   search-sweep told inside cache = record {
@@ -99,7 +99,7 @@ module _ {head : Head} {rows list : List ℕ} {grid : Grid} (r : Ready head rows
   pub start-inside : s₀ < domainIn head rows .states
   start-inside = rw start (job-bounded r .start)
 
-  pub start-below : s₀ * grid .positions < length T
+  pub start-below : cell (grid .positions) s₀ 0 < length T
   start-below = omega (arith, cell-below positions s₀ 0 (D .states) start-inside (some-position r))
 
   fits : D .states * positions * mostCost < unreached
@@ -111,7 +111,7 @@ module _ {head : Head} {rows list : List ℕ} {grid : Grid} (r : Ready head rows
 
     -- nothing is reached but the start, and only its state has a key
     pub start-relaxed : {queue₀ queue : List ℕ} → SameKeys (replicate queueSize unreached) queue₀ → Lowered s₀ 0 queue₀ queue
-        → Relaxed (graphOf head rows list (grid .positions)) (Keyed queue) (set T₁ (s₀ * grid .positions) 0)
+        → Relaxed (graphOf head rows list (grid .positions)) (Keyed queue) (set T₁ (cell (grid .positions) s₀ 0) 0)
     start-relaxed {queue₀} {queue} same low i s p t q c l e claim =
         let w = edge-within (graph-closed r) e in
         let few = states-few (r .stored) in
@@ -120,26 +120,26 @@ module _ {head : Head} {rows list : List ℕ} {grid : Grid} (r : Ready head rows
           | no a ↦ (
               let key : getD queue s 0 ≡ unreached =
               low .others s (omega (arith, e .inside)) a ∙ same .keys s (omega (arith, e .inside)) ∙ getD-replicate {A = ℕ} queueSize s unreached 0 (omega (arith, e .inside)) in
-              let apart : cell positions s p ≡ s₀ * positions → ⊥ = λ z. a (cell-state positions s p s₀ 0 (w .start) (some-position r) (omega arith)) in
-              let clear : entry G (set T₁ (s₀ * positions) 0) s p ≡ unreached =
-              getD-set-other T₁ (s₀ * positions) (cell positions s p) 0 0 apart ∙ cleared .clear (cell positions s p) (w .from) in
+              let apart : cell positions s p ≡ cell positions s₀ 0 → ⊥ = λ z. a (cell-state positions s p s₀ 0 (w .start) (some-position r) z) in
+              let clear : entry G (set T₁ (cell positions s₀ 0) 0) s p ≡ unreached =
+              getD-set-other T₁ (cell positions s₀ 0) (cell positions s p) 0 0 apart ∙ cleared .clear (cell positions s p) (w .from) in
               absurd (omega (arith, claim))
               )
         ]
 
     pub search-ready : {adjacency queue : List ℕ} → Indexed list adjacency (grid .positions) → Queue queue (grid .states)
-        → Search head rows list adjacency grid (set T₁ (s₀ * grid .positions) 0) queue
+        → Search head rows list adjacency grid (set T₁ (cell (grid .positions) s₀ 0) 0) queue
     search-ready indexed keys = record {
       ready = r;
       indexed = indexed;
       states = is;
-      room = omega (arith, length-set T₁ (s₀ * positions) 0, cleared .size);
+      room = omega (arith, length-set T₁ (cell positions s₀ 0) 0, cleared .size);
       keys = rw is at keys;
     }
 
-    pub settled-fills : {U : List ℕ} → Exhausted (graphOf head rows list (grid .positions)) (set T₁ (s₀ * grid .positions) 0) U
+    pub settled-fills : {U : List ℕ} → Exhausted (graphOf head rows list (grid .positions)) (set T₁ (cell (grid .positions) s₀ 0) 0) U
         → Filled (domainIn head rows) (stepsOf (jobOf head rows)) (grid .positions) T U
     settled-fills {U} x =
-        let e : s₀ * positions ≡ cell positions (D .start) 0 = omega (arith, ap (λ (k : ℕ). k * positions) start) in
+        let e : cell positions s₀ 0 ≡ cell positions (D .start) 0 = ap (λ (k : ℕ). cell positions k 0) start in
         rw (← (r .steps)) (runs-fill G mostCost (graph-closed r) (some-position r) fits T T₁ U (cleared .size) (cleared .later)
         (omega (arith, cleared .size)) (cleared .clear) (rw e at (x .runs)) (x .relaxed))

@@ -13,7 +13,7 @@ use Rattle.domain.specs.Domain.{domainIn}
 use Rattle.validate.specs.Ready.{Ready}
 use Rattle.sweep.specs.declared.Grid.{Grid}
 use Rattle.sweep.specs.Queue.{Queue}
-use Rattle.sweep.specs.Scans.{Indexed}
+use Rattle.sweep.specs.Sweeps.{Indexed}
 
 -- a job, its steps, and room for its table and keys
 pub record Search (head : Head) (rows list adjacency : List ℕ) (grid : Grid) (T queue : List ℕ) : Type 0 where

@@ -8,7 +8,7 @@ ghost use Rattle.semantics.specs.Cells.{Relaxed};
 ghost use Rattle.domain.specs.Domain.{domainIn};
 ghost use Rattle.compile.specs.CompiledJob.{stepsOf};
 ghost use Rattle.validate.specs.Ready.{Ready};
-ghost use Rattle.sweep.specs.Scans.{graphOf, Keyed};
+ghost use Rattle.sweep.specs.Sweeps.{graphOf, Keyed};
 ghost use Rattle.sweep.specs.Relaxation.{Better};
 ghost use Rattle.search.specs.Filling.{Search, Exhausted};
 use job::head::Head;
@@ -86,14 +86,14 @@ pub fn fill(costs: &mut [u32], head: Head, rows: &[u16], list: &[u16], grid: Gri
     requires { ⌜ domainIn head (now rows) .states * grid .positions ≤ length (now costs) ⌝ }
     ensures { λ _. ⌜ Filled (domainIn head (now (rows .entry))) (stepsOf (jobOf head (now (rows .entry)))) (grid .positions) (now (costs .entry)) (now (costs .exit)) ⌝ }
 {
-    let width = grid.positions;
+    let positions = grid.positions as usize;
     let states = grid.states as usize;
-    let start = domain::states::start(head, rows) as usize;
+    let start = domain::states::start(head, rows);
     let adjacency = validate::adjacency::adjacency_of(list);
     let mut queue = [UNREACHED; QUEUE];
     sweep::queue::order(&mut queue, states);
-    sweep::queue::lower(&mut queue, states, start, 0);
-    sweep::cells::clear(costs, states * width);
-    costs[start * width] = 0;
+    sweep::queue::lower(&mut queue, states, start as usize, 0);
+    sweep::cells::clear(costs, states * positions);
+    costs[sweep::steps::cell(start, grid.positions, 0)] = 0;
     settle(costs, &mut queue, head, rows, list, &adjacency, grid);
 }

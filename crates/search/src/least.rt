@@ -2,6 +2,7 @@
 ghost use mathlib.Core.Path.{_≡_};
 ghost use Prim.Native.Nat.{_-_, _*_, _≤_, _<_};
 ghost use lib.ListN.{length};
+ghost use Rattle.limits.specs.Limits.{mostPositions};
 ghost use Rattle.job.specs.Store.{jobOf};
 ghost use Rattle.job.specs.Stored.{Stored};
 ghost use Rattle.semantics.specs.CostTable.{Filled, LeastOr};
@@ -31,15 +32,15 @@ fn lesser(head: Head, rows: &[u16], state: u16, least: u32, x: u32) -> u32
 // The least entry at the last position, of the states where the goal holds.
 fn least_entry(costs: &[u32], head: Head, rows: &[u16], grid: Grid) -> u32
     requires { ⌜ Stored head (now rows) × (grid .states ≡ domainIn head (now rows) .states) ⌝ }
-    requires { ⌜ (1 ≤ grid .positions) × (domainIn head (now rows) .states * grid .positions ≤ length (now costs)) ⌝ }
+    requires { ⌜ (1 ≤ grid .positions) × (grid .positions ≤ mostPositions) × (domainIn head (now rows) .states * grid .positions ≤ length (now costs)) ⌝ }
     ensures { λ r. ⌜ Lowest (domainIn head (now (rows .entry))) (grid .positions) (now (costs .entry)) (grid .positions - 1) (domainIn head (now (rows .entry)) .states) r ⌝ }
 {
-    let positions = grid.positions;
     let states = grid.states;
+    let last = (grid.positions as usize) - 1;
     let mut least = UNREACHED;
     let mut s: u16 = 0;
     while s < states {
-        let x = costs[(s as usize) * positions + (positions - 1)];
+        let x = costs[sweep::steps::cell(s, grid.positions, last)];
         least = lesser(head, rows, s, least, x);
         s += 1;
     }
@@ -47,15 +48,11 @@ fn least_entry(costs: &[u32], head: Head, rows: &[u16], grid: Grid) -> u32
 }
 
 // Fills the table, and answers the least cost of all plans; UNREACHED where there is none. The list holds the steps of the job's program.
-pub fn least_cost(costs: &mut [u32], head: Head, rows: &[u16], list: &[u16], positions: u16) -> u32
-    requires { ⌜ Ready head (now rows) (now list) positions ⌝ }
-    requires { ⌜ domainIn head (now rows) .states * positions ≤ length (now costs) ⌝ }
-    ensures { λ r. ⌜ Filled (domainIn head (now (rows .entry))) (stepsOf (jobOf head (now (rows .entry)))) positions (now (costs .entry)) (now (costs .exit)) × LeastOr (domainIn head (now (rows .entry))) (programOf (jobOf head (now (rows .entry)))) r ⌝ }
+pub fn least_cost(costs: &mut [u32], head: Head, rows: &[u16], list: &[u16], grid: Grid) -> u32
+    requires { ⌜ Ready head (now rows) (now list) (grid .positions) × (grid .states ≡ domainIn head (now rows) .states) ⌝ }
+    requires { ⌜ domainIn head (now rows) .states * grid .positions ≤ length (now costs) ⌝ }
+    ensures { λ r. ⌜ Filled (domainIn head (now (rows .entry))) (stepsOf (jobOf head (now (rows .entry)))) (grid .positions) (now (costs .entry)) (now (costs .exit)) × LeastOr (domainIn head (now (rows .entry))) (programOf (jobOf head (now (rows .entry)))) r ⌝ }
 {
-    let grid = Grid {
-        states: domain::states::state_count(head, rows),
-        positions: positions as usize,
-    };
     crate::fill::fill(costs, head, rows, list, grid);
     least_entry(costs, head, rows, grid)
 }

@@ -19,7 +19,7 @@ use Rattle.compile.proofs.FitLaws.{few-positions}
 use Rattle.validate.specs.Adjacency.{stepsOn, Adjacency}
 use Rattle.validate.specs.Ready.{Ready}
 use Rattle.validate.proofs.ReadyLaws.{job-bounded, ready-listed}
-use Rattle.sweep.specs.Scans.{graphOf, Indexed}
+use Rattle.sweep.specs.Sweeps.{graphOf, Indexed}
 
 module _ {head : Head} {rows list : List ℕ} {positions : ℕ} (r : Ready head rows list positions) where
   inside : (i p q : ℕ) (l : Label) → StepAt (stepsOn list) i p l q → (p < positions) × (q < positions)
@@ -36,7 +36,7 @@ module _ {head : Head} {rows list : List ℕ} {positions : ℕ} (r : Ready head 
   pub steps-indexed : {adjacency : List ℕ} → Adjacency list (length list / 4) adjacency → Indexed list adjacency positions
   steps-indexed x = record {
     listed = ready-listed r;
-    linked = x;
+    by-start = x;
     few = positions-few;
     to = λ k h. inside k _ _ _ (steps-at (length list / 4) list k h) .1;
   }

@@ -6,4 +6,4 @@ pub mod GraphLaws
 pub mod PotentialLaws
 pub mod TargetLaws
 pub mod RelaxationLaws
-pub mod ScanLaws
+pub mod SweepLaws

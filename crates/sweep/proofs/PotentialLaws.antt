@@ -11,7 +11,7 @@ use Rattle.semantics.specs.Cells.{sum}
 use Rattle.semantics.proofs.Totals.{total-same, total-but, total-set}
 use Rattle.semantics.proofs.CellLaws.{sum-falls}
 use Rattle.sweep.specs.Queue.{SameKeys, Lowered}
-use Rattle.sweep.specs.Scans.{potential}
+use Rattle.sweep.specs.Sweeps.{potential}
 
 abbrev gap : ℕ → ℕ
 gap x = unreached - x

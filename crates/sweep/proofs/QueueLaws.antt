@@ -17,7 +17,7 @@ same-keys-none q = record { size = refl; keys = λ k h. refl }
 pub queue-kept : {n : ℕ} {old new : List ℕ} → Queue old n → SameKeys old new → Queue new n
 queue-kept q s = record { size = s .size ∙ q .size; few = q .few }
 
--- a node of the order renamed
+-- a node of the order written
 pub same-keys-more : {old new : List ℕ} (i x : ℕ) → SameKeys old new → SameKeys old (set new (mostStates + i) x)
 same-keys-more {old} {new} i x s = record {
   size = length-set new (mostStates + i) x ∙ s .size;

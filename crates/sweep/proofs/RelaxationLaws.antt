@@ -32,9 +32,9 @@ use Rattle.sweep.specs.Cells.{Idle, followed, low, far, due}
 use Rattle.sweep.specs.Queue.{Queue, Lowered}
 use Rattle.sweep.specs.Successors.{Cached}
 use Rattle.sweep.specs.Targets.{Standing, Leads}
-use Rattle.sweep.specs.Scans.{graphOf, Only, passed, marked, Processed, below, past, potential}
+use Rattle.sweep.specs.Sweeps.{graphOf, Only, passed, marked, Processed, below, past, potential}
 use Rattle.sweep.specs.Relaxation.{Sweep, Relaxing, kept, within, lowered, Stepped, stays, leads, Scanned}
-use Rattle.sweep.proofs.StepLaws.{Link, first-link, first-last, link-step, next-link, adjacency-of}
+use Rattle.sweep.proofs.StepLaws.{Link, first-link, first-last, link-step, next-link, link-steps}
 use Rattle.sweep.proofs.GraphLaws.{graph-closed}
 use Rattle.sweep.proofs.PotentialLaws.{store-falls}
 
@@ -111,7 +111,7 @@ pub record Scanning (G : Graph) (n w k x p : ℕ) (list T₀ queue₀ T queue : 
   pub relaxed : Relaxed G (Only queue w (Processed k next marks p h)) T
 
 module _ {origin : Origin} {rows list : List ℕ} {values : List Bool} {T₀ queue₀ cache : List ℕ} (ready : Ready (origin .head) rows list (origin .grid .positions))
-    (row : Sweep origin rows values T₀ queue₀ cache) (k p : ℕ) (p-inside : p < origin .grid .positions) where
+    (swept : Sweep origin rows values T₀ queue₀ cache) (k p : ℕ) (p-inside : p < origin .grid .positions) where
   abbrev positions : ℕ
   positions = origin .grid .positions
 
@@ -208,7 +208,7 @@ module _ {origin : Origin} {rows list : List ℕ} {values : List Bool} {T₀ que
   }
 
   module _ {x : ℕ} {T queue : List ℕ} {marks : List Bool} {next h g : ℕ} (X : Scanning G n w k x p list T₀ queue₀ T queue marks next h) (j : ℕ) (e : h ≡ suc j)
-      (adjacency : g ≡ lastFrom list (getD list (j * 4 + 1) 0) j) where
+      (is-next : g ≡ lastFrom list (getD list (j * 4 + 1) 0) j) where
     abbrev to : ℕ
     to = getD list (j * 4 + 2) 0
 
@@ -224,7 +224,7 @@ module _ {origin : Origin} {rows list : List ℕ} {values : List Bool} {T₀ que
         | below f ↦ R i s m t q c l d (claim .0, λ _. below f)
         | past b f ↦ elim (ℕ-discrete m p) [
           | no o ↦ R i s m t q c l d (claim .0, λ _. past b (λ y. absurd (o y)))
-          | yes o ↦ elim (adjacency-of list p (X .link) j e adjacency i (f o) (rw o at (d .step))) [
+          | yes o ↦ elim (link-steps list p (X .link) j e is-next i (f o) (rw o at (d .step))) [
             | inr u ↦ R i s m t q c l d (claim .0, λ _. past b (λ _. u))
             | inl u ↦ (
                 let at = steps-only (length list / 4) list (rw u at (d .step)) in
@@ -248,7 +248,7 @@ module _ {origin : Origin} {rows list : List ℕ} {values : List Bool} {T₀ que
       key = X .key;
       due = X .due;
       here = X .here;
-      link = next-link list p (X .link) j e adjacency;
+      link = next-link list p (X .link) j e is-next;
       low = X .low;
       falls = X .falls;
       less = X .less;
@@ -263,10 +263,10 @@ module _ {origin : Origin} {rows list : List ℕ} {values : List Bool} {T₀ que
       U = set T v (x + c)
 
       edge : Edge G j lab w p t to c
-      edge = record { inside = row .standing .inside; step = link-step list p (X .link) j e; made = L .made; does = L .does; costs = L .costs }
+      edge = record { inside = swept .standing .inside; step = link-step list p (X .link) j e; made = L .made; does = L .does; costs = L .costs }
 
       room-at : v < length T
-      room-at = omega (arith, edge-within inside edge .to, row .room, runs-length (X .runs))
+      room-at = omega (arith, edge-within inside edge .to, swept .room, runs-length (X .runs))
 
       -- the cell lowered
       moved : {queue′ : List ℕ} {marks′ : List Bool} {r : ℕ} → x + c < getD T v 0 → length queue′ ≡ length queue → length marks′ ≡ length marks → getD queue′ w 0 ≤ getD queue w 0
@@ -281,9 +281,9 @@ module _ {origin : Origin} {rows list : List ℕ} {values : List Bool} {T₀ que
             key = omega (arith, X .key);
             due = X .due;
             here = stays-at;
-            link = next-link list p (X .link) j e adjacency;
+            link = next-link list p (X .link) j e is-next;
             low = omega (arith, X .low);
-            falls = omega (arith, X .falls, X .low, row .few, sum-falls T v (x + c) room-at lower);
+            falls = omega (arith, X .falls, X .low, swept .few, sum-falls T v (x + c) room-at lower);
             less = omega (arith, X .less);
             relaxed = advance U queue′ marks′ r stays-at R (λ u ks d. (
                 let z = L .alone u ks d in
@@ -322,11 +322,11 @@ module _ {origin : Origin} {rows list : List ℕ} {values : List Bool} {T₀ que
             | past a _ ↦ elim a [ passed b _ ↦ omega arith | marked b ↦ never (sym (getD-set-same marks to false false bound) ∙ b) ]
           ]))
       relaxed-to (lowered {queue′} lower key) =
-          moved lower (key .size) refl (keys-fall key w (omega (arith, row .standing .inside, row .keys .few))) (omega arith)
-          (store-falls n T queue queue′ v (x + c) t (x + c) (row .keys .few) room-at lower (omega (arith, edge-within inside edge .state)) key)
+          moved lower (key .size) refl (keys-fall key w (omega (arith, swept .standing .inside, swept .keys .few))) (omega arith)
+          (store-falls n T queue queue′ v (x + c) t (x + c) (swept .keys .few) room-at lower (omega (arith, edge-within inside edge .state)) key)
           (relaxed-store inside (Only queue w (Processed k next marks p h)) (Only queue′ w (Processed k next marks p h)) T t to (x + c) (X .relaxed) room-at
           (edge-within inside edge .end) (omega arith)
-          (λ i s m z l b claim. (omega (arith, claim .0, keys-fall key s (omega (arith, row .keys .few))), claim .1))
+          (λ i s m z l b claim. (omega (arith, claim .0, keys-fall key s (omega (arith, swept .keys .few))), claim .1))
           (λ i l claim. omega (arith, claim .0, key .at-most)))
 
     scanning-more : {T′ queue′ : List ℕ} {marks′ : List Bool} {r : ℕ} → Stepped D positions lab w to x next T queue marks T′ queue′ marks′ r
@@ -339,4 +339,4 @@ module _ {origin : Origin} {rows list : List ℕ} {values : List Bool} {T₀ que
       → {kind to arg : ℕ} → (kind ≡ getD list (j * 4) 0) × (to ≡ getD list (j * 4 + 2) 0) × (arg ≡ getD list (j * 4 + 3) 0) → g ≡ lastFrom list (getD list (j * 4 + 1) 0) j
       → {U queue′ : List ℕ} {marks′ : List Bool} {r : ℕ} → Stepped D positions (labelIn kind arg) w to x next T queue marks U queue′ marks′ r
       → Scanning G n w k x p list T₀ queue₀ U queue′ marks′ r g
-  scanning-step X j e is adjacency y = scanning-more X j e adjacency (rw (is .0, is .1, is .2) at y)
+  scanning-step X j e is is-next y = scanning-more X j e is-next (rw (is .0, is .1, is .2) at y)

@@ -37,9 +37,9 @@ module _ (list : List ℕ) (p : ℕ) where
     pub link-step : StepAt (stepsOn list) k p (labelIn (getD list (k * 4) 0) (getD list (k * 4 + 3) 0)) (getD list (k * 4 + 2) 0)
     link-step = subst (λ r. StepAt (stepsOn list) k r (labelIn (getD list (k * 4) 0) (getD list (k * 4 + 3) 0)) (getD list (k * 4 + 2) 0)) (x .starts k e) (steps-at N list k link-below)
 
-    module _ {g : ℕ} (adjacency : g ≡ lastFrom list (getD list (k * 4 + 1) 0) k) where
+    module _ {g : ℕ} (is-next : g ≡ lastFrom list (getD list (k * 4 + 1) 0) k) where
       is-last : g ≡ lastFrom list p k
-      is-last = adjacency ∙ ap (λ r. lastFrom list r k) (x .starts k e)
+      is-last = is-next ∙ ap (λ r. lastFrom list r k) (x .starts k e)
 
       pub next-link : Link list p g
       next-link = record { within = omega (arith, is-last, last-within list p k, link-below); starts = λ j a. last-starts list p k j (sym is-last ∙ a) }
@@ -48,8 +48,8 @@ module _ (list : List ℕ) (p : ℕ) where
       next-less = omega (arith, is-last, last-within list p k)
 
       -- the steps from p with the next link's number and above are step k and those before
-      pub adjacency-of : (i : ℕ) {l : Label} {q : ℕ} → g ≤ i → StepAt (stepsOn list) i p l q → (i ≡ k) ⊎ (h ≤ i)
-      adjacency-of i a s = elim (decLt k i) [
+      pub link-steps : (i : ℕ) {l : Label} {q : ℕ} → g ≤ i → StepAt (stepsOn list) i p l q → (i ≡ k) ⊎ (h ≤ i)
+      link-steps i a s = elim (decLt k i) [
         | yes b ↦ inr (omega arith)
         | no b ↦ elim (decLt i k) [
           | yes c ↦ absurd (last-alone list p k i (omega (arith, is-last)) c (sym (steps-only N list s .from)))

@@ -2,5 +2,5 @@ pub mod Cells
 pub mod Queue
 pub mod Successors
 pub mod Targets
-pub mod Scans
+pub mod Sweeps
 pub mod Relaxation

@@ -13,7 +13,7 @@ use Rattle.domain.specs.Domain.{domainIn}
 use Rattle.sweep.specs.declared.Origin.{Origin}
 use Rattle.sweep.specs.Queue.{Queue, Lowered}
 use Rattle.sweep.specs.Targets.{Standing, Leads}
-use Rattle.sweep.specs.Scans.{Keyed, Only, Processed, potential}
+use Rattle.sweep.specs.Sweeps.{Keyed, Only, Processed, potential}
 
 -- an origin, and room for the table and the keys
 pub record Sweep (origin : Origin) (rows : List ℕ) (values : List Bool) (T queue cache : List ℕ) : Type 0 where

@@ -1,7 +1,7 @@
 // One state's cells of the cost table, swept.
 //
-// A state has a cell for each position. Its key is above the entry of no cell of it whose steps have yet to be followed: it is taken back when the state is
-// swept, and comes down again with the cells that other states' moves lower.
+// A state has a cell for each position. Its key is at most the entry of each of its cells whose steps are still to follow: it is taken back when the state
+// is swept, and comes down again with the cells that other states' moves lower.
 pub mod cells;
 pub mod queue;
 pub mod relaxation;
@@ -15,7 +15,7 @@ use job::head::Head;
 // The size of a cost table: a cell for each state and position.
 pub struct Grid {
     pub states: u16,
-    pub positions: usize,
+    pub positions: u16,
 }
 
 // Where steps are followed from: a state of a job, whose cost table has this size.
@@ -23,6 +23,12 @@ pub struct Origin {
     pub head: Head,
     pub grid: Grid,
     pub state: u16,
+}
+
+// How far the sweep of a state is: the key that it had, and the position whose cell is next.
+pub struct Front {
+    pub key: u32,
+    pub position: usize,
 }
 
 // What a cell holds that is not reached, and the key of a state with nothing to follow.

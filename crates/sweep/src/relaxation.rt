@@ -11,15 +11,16 @@ ghost use Rattle.semantics.specs.Cells.{cell, Relaxed};
 ghost use Rattle.validate.specs.Ready.{Ready};
 ghost use Rattle.sweep.specs.Queue.{Queue};
 ghost use Rattle.sweep.specs.Successors.{Cached};
-ghost use Rattle.sweep.specs.Scans.{graphOf, Indexed, Only, Processed};
+ghost use Rattle.sweep.specs.Sweeps.{graphOf, Indexed, Only, Processed};
 ghost use Rattle.sweep.specs.Relaxation.{Sweep, Relaxing, Stepped, Scanned};
+use crate::Front;
 use crate::Origin;
 use crate::steps::OutStep;
 use crate::targets::Target;
 use limits::POSITIONS;
 
-// Lowers the target's cell to x and the step's cost, where that is less. In the origin's own state the steps from its position are then to follow, and
-// the answer is the lesser of `next` and that position; another state's key comes down, and the answer is `next`.
+// Lowers the target's cell to x and the step's cost, where that is less. In the origin's own state the steps from the target's position are then to
+// follow, and the answer is the lesser of `next` and that position; another state's key comes down, and the answer is `next`.
 fn relax(
     costs: &mut [u32],
     queue: &mut [u32],
@@ -80,7 +81,7 @@ fn follow(
     relax(costs, queue, marks, origin, x, target, next)
 }
 
-// Follows the steps from position p of the origin's state, unless nothing is to follow there. Answers the position to go on from.
+// Follows the steps from the front's position, unless nothing is to follow there. Answers the position to go on from.
 pub fn scan(
     costs: &mut [u32],
     queue: &mut [u32],
@@ -91,14 +92,15 @@ pub fn scan(
     adjacency: &[u16],
     values: &[bool],
     origin: Origin,
-    key: u32,
-    p: usize,
+    front: Front,
 ) -> usize
     requires { ⌜ Ready (origin .head) (now rows) (now list) (origin .grid .positions) × Indexed (now list) (now adjacency) (origin .grid .positions) ⌝ }
-    requires { ⌜ Sweep origin (now rows) (now values) (now costs) (now queue) (now cache) × (p < origin .grid .positions) × (length (now marks) ≡ mostPositions) ⌝ }
-    requires { ⌜ Relaxed (graphOf (origin .head) (now rows) (now list) (origin .grid .positions)) (Only (now queue) (origin .state) (Processed key p (now marks) 0 0)) (now costs) ⌝ }
-    ensures { λ r. ⌜ Scanned (graphOf (origin .head) (now (rows .entry)) (now (list .entry)) (origin .grid .positions)) (domainIn (origin .head) (now (rows .entry)) .states) (origin .state) key p (now (costs .entry)) (now (queue .entry)) (now (costs .exit)) (now (queue .exit)) (now (marks .exit)) r × Cached (domainIn (origin .head) (now (rows .entry))) (origin .state) (now (cache .exit)) ⌝ }
+    requires { ⌜ Sweep origin (now rows) (now values) (now costs) (now queue) (now cache) × (front .position < origin .grid .positions) × (length (now marks) ≡ mostPositions) ⌝ }
+    requires { ⌜ Relaxed (graphOf (origin .head) (now rows) (now list) (origin .grid .positions)) (Only (now queue) (origin .state) (Processed (front .key) (front .position) (now marks) 0 0)) (now costs) ⌝ }
+    ensures { λ r. ⌜ Scanned (graphOf (origin .head) (now (rows .entry)) (now (list .entry)) (origin .grid .positions)) (domainIn (origin .head) (now (rows .entry)) .states) (origin .state) (front .key) (front .position) (now (costs .entry)) (now (queue .entry)) (now (costs .exit)) (now (queue .exit)) (now (marks .exit)) r × Cached (domainIn (origin .head) (now (rows .entry))) (origin .state) (now (cache .exit)) ⌝ }
 {
+    let key = front.key;
+    let p = front.position;
     let x = costs[crate::steps::cell(origin.state, origin.grid.positions, p)];
     let mut next = p + 1;
     if crate::cells::is_idle(marks[p], key, x) {

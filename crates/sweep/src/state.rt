@@ -5,8 +5,9 @@ ghost use Rattle.domain.specs.Domain.{domainIn};
 ghost use Rattle.semantics.specs.CostTable.{unreached};
 ghost use Rattle.semantics.specs.Cells.{Relaxed};
 ghost use Rattle.validate.specs.Ready.{Ready};
-ghost use Rattle.sweep.specs.Scans.{graphOf, Indexed, Keyed};
+ghost use Rattle.sweep.specs.Sweeps.{graphOf, Indexed, Keyed};
 ghost use Rattle.sweep.specs.Relaxation.{Sweep, Better};
+use crate::Front;
 use crate::Origin;
 use crate::UNREACHED;
 use limits::POSITIONS;
@@ -29,12 +30,16 @@ pub fn sweep(
     ensures { λ _. ⌜ Better (graphOf (origin .head) (now (rows .entry)) (now (list .entry)) (origin .grid .positions)) (domainIn (origin .head) (now (rows .entry)) .states) (now (costs .entry)) (now (queue .entry)) (now (costs .exit)) (now (queue .exit)) ⌝ }
 {
     let s = origin.state as usize;
-    let positions = origin.grid.positions;
+    let positions = origin.grid.positions as usize;
     let key = queue[s];
     queue[s] = UNREACHED;
     let mut marks = [false; POSITIONS];
     let mut p: usize = 0;
     while p < positions {
+        let front = Front {
+            key: key,
+            position: p,
+        };
         p = crate::relaxation::scan(
             costs,
             queue,
@@ -45,8 +50,7 @@ pub fn sweep(
             adjacency,
             values,
             origin,
-            key,
-            p,
+            front,
         );
     }
 }

@@ -12,7 +12,7 @@ pub struct OutStep {
     pub arg: u16,
 }
 
-// OutStep k of the list.
+// Step k of the list, but for where it starts.
 pub fn step_at(list: &[u16], k: usize) -> OutStep
     requires { ⌜ k < length (now list) / 4 ⌝ }
     ensures { λ r. ⌜ (r .kind ≡ getD (now (list .entry)) (k * 4) 0) × (r .to ≡ getD (now (list .entry)) (k * 4 + 2) 0) × (r .arg ≡ getD (now (list .entry)) (k * 4 + 3) 0) ⌝ }
@@ -24,7 +24,7 @@ pub fn step_at(list: &[u16], k: usize) -> OutStep
     }
 }
 
-// The link to a step that number i has.
+// Link i: the number of a step, counted from 1, or 0 for none.
 pub fn link_at(adjacency: &[u16], i: usize) -> usize
     requires { ⌜ i < length (now adjacency) ⌝ }
     ensures { λ r. ⌜ r ≡ getD (now (adjacency .entry)) i 0 ⌝ }
@@ -33,9 +33,9 @@ pub fn link_at(adjacency: &[u16], i: usize) -> usize
 }
 
 // The number of the cell at position p of a state.
-pub fn cell(state: u16, positions: usize, p: usize) -> usize
+pub fn cell(state: u16, positions: u16, p: usize) -> usize
     requires { ⌜ (positions ≤ mostPositions) × (p < positions) ⌝ }
     ensures { λ r. ⌜ r ≡ cellOf positions state p ⌝ }
 {
-    (state as usize) * positions + p
+    (state as usize) * (positions as usize) + p
 }

@@ -29,34 +29,26 @@ pub fn lead(
 {
     let head = origin.head;
     let state = origin.state;
-    if step.kind < 3 {
-        let on = validate::position_set::is_silent(values, step.kind, step.arg);
-        return Target {
-            made: on,
-            state: state,
-            position: step.to,
-            cost: 0,
-        };
-    }
-    let nowhere = Target {
+    let mut target = Target {
         made: false,
         state: state,
         position: step.to,
         cost: 0,
     };
+    if step.kind < 3 {
+        target.made = validate::position_set::is_silent(values, step.kind, step.arg);
+        return target;
+    }
     let m = step.arg;
     if domain::moves::move_count(head, rows) <= m {
-        return nowhere;
+        return target;
     }
     let after = crate::successors::successor(head, rows, values, cache, m, state);
     let Successor::To(next) = after else {
-        return nowhere;
+        return target;
     };
-    let cost = domain::moves::cost(head, rows, values, m, state);
-    Target {
-        made: true,
-        state: next,
-        position: step.to,
-        cost: cost,
-    }
+    target.made = true;
+    target.state = next;
+    target.cost = domain::moves::cost(head, rows, values, m, state);
+    target
 }

@@ -11,7 +11,7 @@ use lib.ListN.{length, getD, take, drop, set, length-set}
 use lib.Seq.{length-take-le, take-suc-set, take-all}
 use borrow.Author.Tests.{leb-true, lt-ltb, le-ltb, eq-eqb, ne-eqb}
 use Rattle.text.specs.Numbers.{PartialValue, start, done, broken, isDigit, firstDigit, moreDigits, numberEnd, byteRead, result, numbers}
-use Rattle.text.specs.Progress.{partialOf, completeCount, Goes, Steps}
+use Rattle.text.specs.Progress.{partialOf, completeCount, Goes, After}
 use Rattle.text.specs.declared.numbers.Progress.{Progress}
 use Rattle.text.specs.declared.numbers.Progress.the-variants.{Start, Digits, Done, Broken}
 use Rattle.laws.proofs.Tests.{and-left, and-right}
@@ -52,31 +52,31 @@ module _ (p r : Progress) (b : ℕ) (out : List ℕ) (h : completeCount p ≤ le
   abbrev next : PartialValue
   next = byteRead (length out) (partialOf p out) b
 
-  pub step-start : (k : ℕ) → p ≡ Start k → Goes k r (λ l. firstDigit l b) → Steps r out next
+  pub step-start : (k : ℕ) → p ≡ Start k → Goes k r (λ l. firstDigit l b) → After r out next
   unfolding byteRead
   step-start k e g = record {
     reads = g .reads out ∙ rw e;
     within = omega (arith, g .within, ap completeCount e);
   }
 
-  pub step-digit : (k n : ℕ) → p ≡ Digits k n → isDigit b ≡ true → Goes k r (λ l. moreDigits l n b) → Steps r out next
+  pub step-digit : (k n : ℕ) → p ≡ Digits k n → isDigit b ≡ true → Goes k r (λ l. moreDigits l n b) → After r out next
   unfolding byteRead
   step-digit k n e d g = record {
     reads = g .reads out ∙ rw (e, d);
     within = omega (arith, g .within, ap completeCount e);
   }
 
-  pub step-end : (after : List ℕ) (k n : ℕ) → p ≡ Digits k n → isDigit b ≡ false → Steps r after (numberEnd (length out) (take k out) n b) → Steps r after next
+  pub step-end : (after : List ℕ) (k n : ℕ) → p ≡ Digits k n → isDigit b ≡ false → After r after (numberEnd (length out) (take k out) n b) → After r after next
   unfolding byteRead
   step-end after k n e d g = record { reads = g .reads ∙ rw (e, d); within = g .within }
 
 -- nothing follows the line feed, and a broken form stays so
 module _ (p : Progress) (b : ℕ) (out : List ℕ) where
-  pub step-done : p ≡ Done → Steps Broken out (byteRead (length out) (partialOf p out) b)
+  pub step-done : p ≡ Done → After Broken out (byteRead (length out) (partialOf p out) b)
   unfolding byteRead
   step-done e = record { reads = rw e; within = omega arith }
 
-  pub step-broken : p ≡ Broken → Steps Broken out (byteRead (length out) (partialOf p out) b)
+  pub step-broken : p ≡ Broken → After Broken out (byteRead (length out) (partialOf p out) b)
   unfolding byteRead
   step-broken e = record { reads = rw e; within = omega arith }
 
@@ -84,7 +84,7 @@ module _ (p : Progress) (b : ℕ) (out : List ℕ) where
 module _ (value : List ℕ) (want i : ℕ) (p : Progress) (out : List ℕ)
     (inv : foldl (byteRead want) (start []) value ≡ foldl (byteRead want) (partialOf p out) (drop i value)) where
   pub read-again : (r : Progress) (after : List ℕ) → i < length value → length out ≡ want
-      → Steps r after (byteRead (length out) (partialOf p out) (getD value i 0))
+      → After r after (byteRead (length out) (partialOf p out) (getD value i 0))
       → foldl (byteRead want) (start []) value ≡ foldl (byteRead want) (partialOf r after) (drop (i + 1) value)
   read-again r after h e s =
       inv ∙ fed-at (byteRead want) (partialOf p out) value i 0 h

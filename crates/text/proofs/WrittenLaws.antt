@@ -63,7 +63,7 @@ small-more : (l : List ℕ) (n : ℕ) → Small l → n ≤ 65535 → Small (l +
 small-more [] n s h = (h, tt)
 small-more (m ∷ l) n s h = (s .0, small-more l n (s .1) h)
 
--- the bytes that lead to a reading, and that its numbers are small; nothing is said of a broken form
+-- the bytes that lead to a partial value, and that its numbers are small; nothing is said of a broken form
 abbrev Spelt : ℕ → PartialValue → List ℕ → Type 0
 Spelt want (start l) v = (v ≡ commas l) × Small l
 Spelt want (digits l n) v = (v ≡ commas l ++ decimal n) × Small l × (n ≤ 65535)

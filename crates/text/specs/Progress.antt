@@ -22,13 +22,13 @@ completeCount (Digits k n) = k
 completeCount Done = 0
 completeCount Broken = 0
 
--- the reading that goes on from k complete numbers, whatever they are
+-- the value goes on from k complete numbers, whatever they are
 pub record Goes (k : ℕ) (r : Progress) (next : List ℕ → PartialValue) : Type 0 where
   pub reads : (out : List ℕ) → partialOf r out ≡ next (take k out)
   pub within : completeCount r ≤ k
 
--- the reading after a byte, and the list then
-pub record Steps (r : Progress) (out : List ℕ) (next : PartialValue) : Type 0 where
+-- the value after one byte more, and the list then
+pub record After (r : Progress) (out : List ℕ) (next : PartialValue) : Type 0 where
   pub reads : partialOf r out ≡ next
   pub within : completeCount r ≤ length out
 

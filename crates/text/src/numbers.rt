@@ -4,7 +4,7 @@ ghost use Prim.Native.Nat.{_≤_, _<_};
 ghost use mathlib.Core.Bool.{true};
 ghost use lib.ListN.{length, take};
 ghost use Rattle.text.specs.Numbers.{isDigit, firstDigit, moreDigits, numberEnd, byteRead, result, numbers};
-ghost use Rattle.text.specs.Progress.{partialOf, completeCount, answered, Goes, Steps};
+ghost use Rattle.text.specs.Progress.{partialOf, completeCount, answered, Goes, After};
 
 // How far a value was read: before the first digit of number k; within number k, which is n so far; past the line feed; of wrong form.
 pub enum Progress {
@@ -51,7 +51,7 @@ fn more_digits(k: usize, n: u16, b: u8) -> Progress
 // The byte after number k, which is n: a comma or the line feed, as more numbers are due or not.
 fn number_end(k: usize, n: u16, b: u8, out: &mut [u16]) -> Progress
     requires { ⌜ k ≤ length (now out) ⌝ }
-    ensures { λ r. ⌜ Steps r (now (out .exit)) (numberEnd (length (now (out .entry))) (take k (now (out .entry))) n b) ⌝ }
+    ensures { λ r. ⌜ After r (now (out .exit)) (numberEnd (length (now (out .entry))) (take k (now (out .entry))) n b) ⌝ }
 {
     let due = out.len() - k;
     if b == b',' {
@@ -74,7 +74,7 @@ fn number_end(k: usize, n: u16, b: u8, out: &mut [u16]) -> Progress
 // One byte more.
 fn read_byte(p: Progress, b: u8, out: &mut [u16]) -> Progress
     requires { ⌜ completeCount p ≤ length (now out) ⌝ }
-    ensures { λ r. ⌜ Steps r (now (out .exit)) (byteRead (length (now (out .entry))) (partialOf p (now (out .entry))) b) ⌝ }
+    ensures { λ r. ⌜ After r (now (out .exit)) (byteRead (length (now (out .entry))) (partialOf p (now (out .entry))) b) ⌝ }
 {
     match p {
         Progress::Start(k) => first_digit(k, b),

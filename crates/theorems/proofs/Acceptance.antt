@@ -18,7 +18,7 @@ use Rattle.job.specs.WellFormed.{WellFormed}
 use Rattle.reader.proofs.ReadLaws.{read-well-formed, read-lines}
 use Rattle.compile.proofs.FitLaws.{few-positions, few-steps}
 use Rattle.plans.specs.PlanText.{listed, readPlan}
-use Rattle.offers.specs.Refusals.{Checked, passed, next, limits, jobIn, Offer, offered, keyFor, boundFor, offerIn, listNeed, tableNeed}
+use Rattle.offers.specs.Refusals.{Checked, passed, next, compilable, jobIn, Offer, offered, keyFor, boundFor, offerIn, listNeed, tableNeed}
 use Rattle.offers.specs.declared.offer.Sort.{Sort}
 use Rattle.offers.specs.declared.offer.Sort.the-variants.{Moves, Steps}
 use Rattle.offers.proofs.LoadLaws.{passed-read, fit}
@@ -46,7 +46,7 @@ read-iff text n j = (
 module _ (text : List ℕ) (j : Job) where
   job-passes : AcceptedJob text j → jobIn text ≡ passed j
   unfolding jobIn
-  job-passes a = ap limits (read-iff text (length (lines text)) j .1 (a .right, a .written, refl)) ∙ rw (fit j (a .positions) (a .steps))
+  job-passes a = ap compilable (read-iff text (length (lines text)) j .1 (a .right, a .written, refl)) ∙ rw (fit j (a .positions) (a .steps))
 
   pub job-iff : (jobIn text ≡ passed j) ↔ AcceptedJob text j
   job-iff = (

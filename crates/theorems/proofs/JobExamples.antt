@@ -5,7 +5,7 @@ use mathlib.Core.List.{[], _∷_}
 use Rattle.text.specs.Bytes.{bytes}
 use Rattle.text.specs.Lines.{lines, hasKey, valueOf}
 use Rattle.text.specs.Numbers.{byteRead, numbers}
-use Rattle.job.specs.Line.{rowNumbers}
+use Rattle.job.specs.Line.{lineNumbers}
 use Rattle.job.specs.Fault.{fault}
 use Rattle.theorems.specs.MarkedCases.{sampleWith}
 use Rattle.job.specs.ReadJob.{read, refused, taken, ended, readFrom, readJob}
@@ -14,29 +14,29 @@ use Rattle.job.specs.ReadJob.{read, refused, taken, ended, readFrom, readJob}
 reads-job : readJob (bytes "job=1\nfacts=1\ninit=0\nformulas=1\nf=2,0,0\nmoves=1\nm=0,3,1\ne=0,0,1\ngoal=0\nprogram=1\np=1,0,0,0\n") ≡ read 11 (record {
   scalars = record { facts = 1; init = 0; goal = 0 };
   formulas = record { kind = 2; a = 0; b = 0 } ∷ [];
-  moves = record { pre = 0; class = 3; count = 1; first = 0 } ∷ [];
+  moves = record { pre = 0; class = 3; effects = 1; first = 0 } ∷ [];
   effects = record { cond = 0; fact = 0; value = 1 } ∷ [];
   program = record { kind = 1; a = 0; b = 0; c = 0 } ∷ [];
 })
-unfolding bytes lines hasKey valueOf byteRead numbers rowNumbers fault taken ended readFrom readJob
+unfolding bytes lines hasKey valueOf byteRead numbers lineNumbers fault taken ended readFrom readJob
 reads-job = refl
 
 -- "`job=2`: line 1"
 refuses-form : readJob (bytes "job=2\nfacts=2\n") ≡ refused 1 1
-unfolding bytes lines hasKey valueOf byteRead numbers rowNumbers fault taken ended readFrom readJob
+unfolding bytes lines hasKey valueOf byteRead numbers lineNumbers fault taken ended readFrom readJob
 refuses-form = refl
 
 -- "`facts=13`: line 2"
 refuses-count : readJob (bytes "job=1\nfacts=13\n") ≡ refused 2 2
-unfolding bytes lines hasKey valueOf byteRead numbers rowNumbers fault taken ended readFrom readJob
+unfolding bytes lines hasKey valueOf byteRead numbers lineNumbers fault taken ended readFrom readJob
 refuses-count = refl
 
 -- "sample with `goal=4`: line 14"
 refuses-goal : readJob (sampleWith "init=0\n" "goal=4\n" "program=3\np=1,0,0,0\np=1,1,0,0\np=4,0,1,0\n") ≡ refused 3 14
-unfolding bytes lines hasKey valueOf byteRead numbers rowNumbers fault taken ended readFrom readJob
+unfolding bytes lines hasKey valueOf byteRead numbers lineNumbers fault taken ended readFrom readJob
 refuses-goal = refl
 
 -- "A missing line's place is one past the last."
 refuses-missing : readJob (bytes "job=1\n") ≡ refused 1 2
-unfolding bytes lines hasKey valueOf byteRead numbers rowNumbers fault taken ended readFrom readJob
+unfolding bytes lines hasKey valueOf byteRead numbers lineNumbers fault taken ended readFrom readJob
 refuses-missing = refl

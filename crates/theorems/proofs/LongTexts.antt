@@ -15,7 +15,7 @@ use Rattle.text.specs.Bytes.{bytes}
 use Rattle.theorems.proofs.Fronts.{front-decides}
 use Rattle.text.proofs.LineText.{mostBytes, line-short}
 use Rattle.job.specs.Job.{countsOf}
-use Rattle.job.specs.Line.{formOf, rowNumbers}
+use Rattle.job.specs.Line.{formOf, lineNumbers}
 use Rattle.job.specs.Fault.{fault}
 use Rattle.job.specs.ReadJob.{Reading, refused, begun, afterMoves, takenAt, taken, readFrom, readJob}
 use Rattle.job.specs.declared.head.Counts.{Counts}
@@ -30,8 +30,8 @@ use Rattle.reader.proofs.ReadLaws.{line-right, line-wrong}
 abbrev most : Line → ℕ
 most k = mostBytes (formOf k .key) (formOf k .width)
 
-row-short : (k : Line) (line r : List ℕ) → rowNumbers k line ≡ some r → length line ≤ most k
-unfolding rowNumbers
+row-short : (k : Line) (line r : List ℕ) → lineNumbers k line ≡ some r → length line ≤ most k
+unfolding lineNumbers
 row-short k line r e = line-short (formOf k .key) (formOf k .width) r line e
 
 -- the lines that are no rows and may still come; End is the line past the last, which is refused
@@ -107,7 +107,7 @@ module _ (s : Reading) where
   reason o = fault (s .next) c o
 
   module _ (n : ℕ) (kept : Kept s) where
-    long-by : (line : List ℕ) (o : Option (List ℕ)) → rowNumbers (s .next) line ≡ o → aheadOf s < length line → reason o ≡ 1
+    long-by : (line : List ℕ) (o : Option (List ℕ)) → lineNumbers (s .next) line ≡ o → aheadOf s < length line → reason o ≡ 1
     unfolding fault
     long-by line none e h = refl
     long-by line (some r) e h = absurd (omega (arith, row-short (s .next) line r e, falls-at r (s .next) (kept .room) .0))
@@ -115,16 +115,16 @@ module _ (s : Reading) where
     -- a line that is longer than all that may come is of wrong form
     long-wrong : (line : List ℕ) (rest : List (List ℕ)) → aheadOf s < length line → readFrom n s (line ∷ rest) ≡ refused 1 (n + 1)
     long-wrong line rest h =
-        let e = long-by line (rowNumbers (s .next) line) refl h in
+        let e = long-by line (lineNumbers (s .next) line) refl h in
         line-wrong n s line rest (λ z. omega (arith, e, z)) ∙ ap (λ k. refused k (n + 1)) e
 
     -- the same line before two rests: what is read of them decides
     module _ (line : List ℕ) (rest more : List (List ℕ))
         (after : (q : Place) → aheadOf (q .s) + length line ≤ aheadOf s → readFrom (q .n) (q .s) rest ≡ readFrom (q .n) (q .s) more) where
-      both-wrong : (reason (rowNumbers (s .next) line) ≡ 0 → ⊥) → readFrom n s (line ∷ rest) ≡ readFrom n s (line ∷ more)
+      both-wrong : (reason (lineNumbers (s .next) line) ≡ 0 → ⊥) → readFrom n s (line ∷ rest) ≡ readFrom n s (line ∷ more)
       both-wrong h = line-wrong n s line rest h ∙ sym (line-wrong n s line more h)
 
-      both-right : (r : List ℕ) → rowNumbers (s .next) line ≡ some r → reason (rowNumbers (s .next) line) ≡ 0
+      both-right : (r : List ℕ) → lineNumbers (s .next) line ≡ some r → reason (lineNumbers (s .next) line) ≡ 0
           → readFrom n s (line ∷ rest) ≡ readFrom n s (line ∷ more)
       unfolding taken
       both-right r e z =
@@ -134,16 +134,16 @@ module _ (s : Reading) where
           (omega (arith, row-short (s .next) line r e, falls-at r (s .next) (kept .room) .1 x))
           ∙ sym (line-right n s line more r e z)
 
-      both-by : (o : Option (List ℕ)) → rowNumbers (s .next) line ≡ o → readFrom n s (line ∷ rest) ≡ readFrom n s (line ∷ more)
+      both-by : (o : Option (List ℕ)) → lineNumbers (s .next) line ≡ o → readFrom n s (line ∷ rest) ≡ readFrom n s (line ∷ more)
       unfolding fault
       both-by none e = both-wrong (λ z. let y : _≡_ {A = ℕ} 0 1 = sym z ∙ ap reason e in omega arith)
-      both-by (some r) e = elim (decLt 0 (reason (rowNumbers (s .next) line))) [
+      both-by (some r) e = elim (decLt 0 (reason (lineNumbers (s .next) line))) [
         | yes h ↦ both-wrong (λ z. omega arith)
         | no h ↦ both-right r e (omega arith)
       ]
 
       both-lines : readFrom n s (line ∷ rest) ≡ readFrom n s (line ∷ more)
-      both-lines = both-by (rowNumbers (s .next) line) refl
+      both-lines = both-by (lineNumbers (s .next) line) refl
 
 -- so a program's buffer of 65,536 bytes is enough
 pub long-text : (text : List ℕ) → 65536 ≤ length text → readJob text ≡ readJob (take 65536 text)

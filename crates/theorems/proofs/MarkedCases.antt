@@ -8,7 +8,7 @@ use Rattle.laws.proofs.Tests.{never}
 use Rattle.text.specs.Bytes.{bytes}
 use Rattle.text.specs.Lines.{lines, hasKey, valueOf}
 use Rattle.text.specs.Numbers.{byteRead, numbers}
-use Rattle.job.specs.Line.{rowNumbers}
+use Rattle.job.specs.Line.{lineNumbers}
 use Rattle.job.specs.Fault.{fault}
 use Rattle.job.specs.ReadJob.{taken, ended, readFrom, readJob}
 use Rattle.semantics.specs.CompilingTable.{end, steps, branchSteps, whileSteps, starSteps}
@@ -93,7 +93,7 @@ computedOf T o = record { positions = positionCount (o .job); steps = stepCount 
 
 -- the same from the texts, or the refusal
 unfoldable judged : Case → Table → Checked Computed
-judged c T = next (judging (c .job) (c .plan) 4096 12288) (λ o. passed (computedOf T o))
+judged c T = next (judging (c .job) (c .plan) (mostSteps * 4) 12288) (λ o. passed (computedOf T o))
 
 unfoldable judgements : List Case → List Table → List (Checked Computed)
 judgements [] Ts = []
@@ -105,7 +105,7 @@ said c = passed (record { positions = c .positions; steps = c .steps; says = som
 
 computed : judgements marked tables ≡ map said marked
 unfolding bytes lines hasKey valueOf byteRead numbers
-    rowNumbers fault taken ended readFrom readJob
+    lineNumbers fault taken ended readFrom readJob
     end steps branchSteps whileSteps starSteps build programs fits
     fact putFact value values afterEffect applied affected classCost holdsIn successorOf costIn
     spread close silentIn isMove anyMark firstSet nextSet onward finished verdictFrom verdictBy verdict
@@ -116,9 +116,9 @@ computed = refl
 
 judged-right : (c : Case) (T : Table) → judged c T ≡ said c → Right c
 unfolding judged
-judged-right c T e = by (judging (c .job) (c .plan) 4096 12288) refl e
+judged-right c T e = by (judging (c .job) (c .plan) (mostSteps * 4) 12288) refl e
   where
-    by : (k : Checked Offer) → judging (c .job) (c .plan) 4096 12288 ≡ k → next k (λ o. passed (computedOf T o)) ≡ said c → Right c
+    by : (k : Checked Offer) → judging (c .job) (c .plan) (mostSteps * 4) 12288 ≡ k → next k (λ o. passed (computedOf T o)) ≡ said c → Right c
     by (passed o) f g =
         let z : computedOf T o ≡ record { positions = c .positions; steps = c .steps; says = some (c .says) } = cc in
         let j = verdict-judged (domainOf (o .job)) (programOf (o .job)) (o .entries) in

@@ -5,7 +5,7 @@ use mathlib.Core.List.{[], _∷_}
 use Rattle.text.specs.Bytes.{bytes}
 use Rattle.text.specs.Lines.{lines, hasKey, valueOf}
 use Rattle.text.specs.Numbers.{byteRead, numbers}
-use Rattle.job.specs.Line.{rowNumbers}
+use Rattle.job.specs.Line.{lineNumbers}
 use Rattle.job.specs.Fault.{fault}
 use Rattle.job.specs.ReadJob.{taken, ended, readFrom, readJob}
 use Rattle.semantics.specs.CompilingTable.{end, steps, flat}
@@ -22,49 +22,49 @@ use Rattle.jesmovit.specs.declared.compiling.CompileAnswer.{CompileAnswer}
 
 -- "`positions=3` `steps=2` `s=3,0,1,0` `s=3,1,2,1`"
 compiles-sample : compileAnswer (compiling sample 9) ≡ CompileAnswer.Compiled 3 2
-unfolding bytes lines hasKey valueOf byteRead numbers rowNumbers fault taken ended readFrom readJob end steps build programs fits jobIn compiling
+unfolding bytes lines hasKey valueOf byteRead numbers lineNumbers fault taken ended readFrom readJob end steps build programs fits jobIn compiling
 compiles-sample = refl
 
 -- with a later entry, which does not change
 fills-list : listAfter (compiling sample 9) (7 ∷ 7 ∷ 7 ∷ 7 ∷ 7 ∷ 7 ∷ 7 ∷ 7 ∷ 7 ∷ []) ≡ 3 ∷ 0 ∷ 1 ∷ 0 ∷ 3 ∷ 1 ∷ 2 ∷ 1 ∷ 7 ∷ []
-unfolding bytes lines hasKey valueOf byteRead numbers rowNumbers fault taken ended readFrom readJob end steps flat build programs fits jobIn compiling
+unfolding bytes lines hasKey valueOf byteRead numbers lineNumbers fault taken ended readFrom readJob end steps flat build programs fits jobIn compiling
 fills-list = refl
 
 -- a list that is one place too short
 refuses-list : compiling sample 7 ≡ refused 6 8
-unfolding bytes lines hasKey valueOf byteRead numbers rowNumbers fault taken ended readFrom readJob end steps build programs fits jobIn compiling
+unfolding bytes lines hasKey valueOf byteRead numbers lineNumbers fault taken ended readFrom readJob end steps build programs fits jobIn compiling
 refuses-list = refl
 
 -- "`p=1,0,0,0`, then `p=4,k,k,0` for k from 0 to 7: 257 positions"
 refuses-positions : jobIn (bytes "job=1\nfacts=0\ninit=0\nformulas=1\nf=1,0,0\nmoves=1\nm=0,0,0\ngoal=0\nprogram=9\np=1,0,0,0\np=4,0,0,0\np=4,1,1,0\np=4,2,2,0\np=4,3,3,0\np=4,4,4,0\np=4,5,5,0\np=4,6,6,0\np=4,7,7,0\n") ≡ refused 4 18
-unfolding bytes lines hasKey valueOf byteRead numbers rowNumbers fault taken ended readFrom readJob end steps build programs fits jobIn
+unfolding bytes lines hasKey valueOf byteRead numbers lineNumbers fault taken ended readFrom readJob end steps build programs fits jobIn
 refuses-positions = refl
 
 -- "`plan=1`, `m=2` on the sample: line 2"
-refuses-entry : checking Moves sample (bytes "plan=1\nm=2\n") 4096 ≡ refused 5 2
-unfolding bytes lines hasKey valueOf byteRead numbers rowNumbers fault taken ended readFrom readJob end steps build programs fits
+refuses-entry : checking Moves sample (bytes "plan=1\nm=2\n") (mostSteps * 4) ≡ refused 5 2
+unfolding bytes lines hasKey valueOf byteRead numbers lineNumbers fault taken ended readFrom readJob end steps build programs fits
     entryIn readEntries readLines readPlan jobIn offerIn checking
 refuses-entry = refl
 
 -- "An entry of the other sort is of wrong form."
-refuses-step : checking Moves sample (bytes "plan=1\nt=0\n") 4096 ≡ refused 5 2
-unfolding bytes lines hasKey valueOf byteRead numbers rowNumbers fault taken ended readFrom readJob end steps build programs fits
+refuses-step : checking Moves sample (bytes "plan=1\nt=0\n") (mostSteps * 4) ≡ refused 5 2
+unfolding bytes lines hasKey valueOf byteRead numbers lineNumbers fault taken ended readFrom readJob end steps build programs fits
     entryIn readEntries readLines readPlan jobIn offerIn checking
 refuses-step = refl
 
 -- "so 6 doesn't look at the plan": a plan that would be blocked, with a list that is one place too short
 refuses-before-verdict : checking Moves sample (bytes "plan=1\nm=1\n") 7 ≡ refused 6 8
-unfolding bytes lines hasKey valueOf byteRead numbers rowNumbers fault taken ended readFrom readJob end steps build programs fits
+unfolding bytes lines hasKey valueOf byteRead numbers lineNumbers fault taken ended readFrom readJob end steps build programs fits
     entryIn readEntries readLines readPlan jobIn offerIn checking
 refuses-before-verdict = refl
 
 -- "11 numbers for the sample's cost table: 12"
 refuses-table : costing sample 8 11 ≡ refused 6 12
-unfolding bytes lines hasKey valueOf byteRead numbers rowNumbers fault taken ended readFrom readJob end steps build programs fits jobIn compiling costing
+unfolding bytes lines hasKey valueOf byteRead numbers lineNumbers fault taken ended readFrom readJob end steps build programs fits jobIn compiling costing
 refuses-table = refl
 
 -- "Where it and a cost table are both too short, it decides."
 refuses-list-first : judging sample (bytes "plan=0\n") 7 11 ≡ refused 6 8
-unfolding bytes lines hasKey valueOf byteRead numbers rowNumbers fault taken ended readFrom readJob end steps build programs fits
+unfolding bytes lines hasKey valueOf byteRead numbers lineNumbers fault taken ended readFrom readJob end steps build programs fits
     entryIn readEntries readLines readPlan jobIn offerIn checking judging
 refuses-list-first = refl

@@ -8,7 +8,7 @@ use Rattle.text.specs.Bytes.{bytes}
 use Rattle.text.specs.Lines.{lines, hasKey, valueOf}
 use Rattle.text.specs.Numbers.{byteRead, numbers}
 use Rattle.job.specs.Job.{Job}
-use Rattle.job.specs.Line.{rowNumbers}
+use Rattle.job.specs.Line.{lineNumbers}
 use Rattle.job.specs.Fault.{fault}
 use Rattle.job.specs.ReadJob.{read, taken, ended, readFrom, readJob}
 use Rattle.semantics.specs.Program.{Program, nil, move, while, star}
@@ -31,13 +31,13 @@ abbrev caseEight : Job
 caseEight = record {
   scalars = record { facts = 2; init = 0; goal = 1 };
   formulas = record { kind = 1; a = 0; b = 0 } ∷ record { kind = 2; a = 0; b = 0 } ∷ record { kind = 2; a = 1; b = 0 } ∷ record { kind = 3; a = 1; b = 0 } ∷ [];
-  moves = record { pre = 0; class = 3; count = 1; first = 0 } ∷ record { pre = 2; class = 1; count = 1; first = 1 } ∷ [];
+  moves = record { pre = 0; class = 3; effects = 1; first = 0 } ∷ record { pre = 2; class = 1; effects = 1; first = 1 } ∷ [];
   effects = record { cond = 0; fact = 1; value = 1 } ∷ record { cond = 0; fact = 0; value = 1 } ∷ [];
   program = record { kind = 1; a = 0; b = 0; c = 0 } ∷ record { kind = 7; a = 3; b = 0; c = 0 } ∷ record { kind = 8; a = 1; b = 0; c = 0 } ∷ [];
 }
 
 case-read : readJob starOfWhile ≡ read 18 caseEight
-unfolding bytes lines hasKey valueOf byteRead numbers rowNumbers fault taken ended readFrom readJob
+unfolding bytes lines hasKey valueOf byteRead numbers lineNumbers fault taken ended readFrom readJob
 case-read = refl
 
 abbrev D : Domain

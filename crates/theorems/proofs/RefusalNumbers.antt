@@ -12,7 +12,7 @@ use lib.ListN.{length}
 use borrow.Author.Tests.{eqb-false}
 use Rattle.laws.proofs.Tests.{never, cond-has}
 use Rattle.job.specs.Job.{Job, countsOf}
-use Rattle.job.specs.Line.{rowNumbers}
+use Rattle.job.specs.Line.{lineNumbers}
 use Rattle.job.specs.Fault.{Criteria, criteria, firstReason, fault}
 use Rattle.job.specs.ReadJob as R
 use Rattle.job.specs.ReadJob.{Reading, Outcome, isEnd, ended, readFrom, begun, readJob}
@@ -22,7 +22,7 @@ use Rattle.text.specs.Lines.{lines}
 use Rattle.plans.specs.PlanText as P
 use Rattle.plans.specs.PlanText.{PlanOutcome, readPlan}
 use Rattle.compile.specs.CompiledJob.{fits}
-use Rattle.offers.specs.Refusals.{Checked, passed, refused, next, limits, jobIn, offered, keyFor, boundFor, offerIn, listNeed, tableNeed}
+use Rattle.offers.specs.Refusals.{Checked, passed, refused, next, compilable, jobIn, offered, keyFor, boundFor, offerIn, listNeed, tableNeed}
 use Rattle.offers.specs.declared.offer.Sort.{Sort}
 use Rattle.offers.specs.declared.offer.Sort.the-variants.{Moves}
 use Rattle.jesmovit.specs.Compiling.{compiling}
@@ -52,9 +52,9 @@ reading-refuses : (n : ℕ) (s : Reading) (ls : List (List ℕ)) → Ranged (rea
 unfolding readFrom ended
 reading-refuses n s [] = cond-has Ranged (isEnd (s .next)) (R.read n (s .job)) (R.refused 1 (n + 1)) (λ z a b e. never (cc)) (λ z a b e. let y : a ≡ 1 = cc in (omega arith, omega arith))
 reading-refuses n s (line ∷ ls) =
-    let reason = fault (s .next) (countsOf (s .job)) (rowNumbers (s .next) line) in
+    let reason = fault (s .next) (countsOf (s .job)) (lineNumbers (s .next) line) in
     cond-has Ranged (eqb reason 0) _ (R.refused reason (n + 1)) (λ z. reading-refuses (n + 1) _ ls)
-    (λ z a b e. let y : reason ≡ a = cc in (omega (arith, eqb-false reason 0 z), omega (arith, fault-small (s .next) (countsOf (s .job)) (rowNumbers (s .next) line))))
+    (λ z a b e. let y : reason ≡ a = cc in (omega (arith, eqb-false reason 0 z), omega (arith, fault-small (s .next) (countsOf (s .job)) (lineNumbers (s .next) line))))
 
 -- of reading a job
 pub read-number : (text : List ℕ) (number place : ℕ) → readJob text ≡ R.refused number place → UpTo 3 number
@@ -71,7 +71,7 @@ length-refuses : {A : Type 0} (P : ℕ → Type 0) (a : A) (need places : ℕ) �
 length-refuses P a need places six =
     cond-has (RefusedBy P) (leb need places) (passed a) (refused 6 need) (λ z number place e. never (cc)) (λ z number place e. let y : 6 ≡ number = cc in subst P y six)
 
-limits-refuse : (o : Outcome) → Ranged o → RefusedBy (UpTo 4) (limits o)
+limits-refuse : (o : Outcome) → Ranged o → RefusedBy (UpTo 4) (compilable o)
 limits-refuse (R.read n j) r = cond-has (RefusedBy (UpTo 4)) (fits j) (passed j) (refused 4 n) (λ z a b e. never (cc)) (λ z a b e. let y : a ≡ 4 = cc in (omega arith, omega arith))
 limits-refuse (R.refused m p) r = λ a b e. let y : m ≡ a = cc in let x = r m p refl in (omega (arith, x .0), omega (arith, x .1))
 

@@ -19,7 +19,7 @@ use Rattle.text.specs.Lines.{lines}
 use Rattle.text.proofs.LineText.{line-complete, plain, endsOnce, line-of, line-ends}
 use Rattle.job.specs.Job as J
 use Rattle.job.specs.Job.{countsOf}
-use Rattle.job.specs.Line.{formOf, rowNumbers}
+use Rattle.job.specs.Line.{formOf, lineNumbers}
 use Rattle.job.specs.Fields.{bound, within, Within, formulaFields, rowFields}
 use Rattle.job.specs.Fault.{criteria, fault}
 use Rattle.job.specs.ReadJob.{Reading, on, read, ended, begun, readFrom, readJob, taken, takenAt, afterFormulas, afterMoves, afterRows}
@@ -46,7 +46,7 @@ small-within c b [] (x ∷ xs) w = absurd w
 small-within c b (f ∷ fs) [] w = absurd w
 small-within c b (f ∷ fs) (x ∷ xs) w = (omega (arith, w .0, b f), small-within c b fs xs (w .1))
 
--- counts within the limits bound every field by a small number
+-- counts within the compilable bound every field by a small number
 bound-small : (c : Counts) → c .facts ≤ mostFacts → c .formulas ≤ mostFormulas → c .moves ≤ mostMoves → c .program ≤ mostProgram → (f : Field) → bound c f ≤ 65536
 bound-small c a b d e F.Unused = omega arith
 bound-small c a b d e F.Fact = omega arith
@@ -71,9 +71,9 @@ module _ (k : Line) (due effects : ℕ) (j : J.Job) (n a : ℕ) (ns : List ℕ) 
   text-line : length (a ∷ ns) ≡ formOf k .width → Small (a ∷ ns)
       → criteria k (countsOf j) (a ∷ ns) .form ≡ true → criteria k (countsOf j) (a ∷ ns) .range ≡ true → criteria k (countsOf j) (a ∷ ns) .fields ≡ true
       → readFrom n s (lineOf k (a ∷ ns) ∷ rest) ≡ readFrom (n + 1) (takenAt k s (a ∷ ns)) rest
-  unfolding rowNumbers taken fault
+  unfolding lineNumbers taken fault
   text-line w t x y z =
-      let e : rowNumbers k (lineOf k (a ∷ ns)) ≡ some (a ∷ ns) = line-complete (formOf k .key) (formOf k .width) a ns w t in
+      let e : lineNumbers k (lineOf k (a ∷ ns)) ≡ some (a ∷ ns) = line-complete (formOf k .key) (formOf k .width) a ns w t in
       line-right n s (lineOf k (a ∷ ns)) rest (a ∷ ns) e (rw (e, x, y, z))
 
 -- rows of one sort, one after the other: `st m` is the reading with m of them due
@@ -199,14 +199,14 @@ all-drop P (suc c) (a ∷ l) h = all-drop P c l (h .1)
 
 -- a move
 move-step : (due n : ℕ) (j : J.Job) (m : J.Move) (rest : List (List ℕ)) → length (j .formulas) ≤ mostFormulas → MoveFits (length (j .formulas)) m → m .first ≡ length (j .effects)
-    → readFrom n (on Move (suc due) 0 j) (moveLine m ∷ rest) ≡ readFrom (n + 1) (on (afterMoves due (m .count)) due (m .count) (J.addMove j m)) rest
+    → readFrom n (on Move (suc due) 0 j) (moveLine m ∷ rest) ≡ readFrom (n + 1) (on (afterMoves due (m .effects)) due (m .effects) (J.addMove j m)) rest
 move-step due n j m rest h f e =
     let d : suc due - 1 ≡ due = omega arith in
-    text-line Move (suc due) 0 j n (m .pre) (m .class ∷ m .count ∷ []) rest refl
-    (omega (arith, f .pre), (omega (arith, f .class), (omega (arith, f .count), tt))) refl (le-leb _ _ (f .count))
+    text-line Move (suc due) 0 j n (m .pre) (m .class ∷ m .effects ∷ []) rest refl
+    (omega (arith, f .pre), (omega (arith, f .class), (omega (arith, f .effects), tt))) refl (le-leb _ _ (f .effects))
     (and-both (ltb (m .pre) (length (j .formulas))) (leb (m .class) lastClass) (lt-ltb _ _ (f .pre)) (le-leb _ _ (f .class)))
-    ∙ ap (λ k. readFrom (n + 1) (on (afterMoves k (m .count)) k (m .count) (J.addMove j (J.moveOf (length (j .effects)) (m .pre ∷ m .class ∷ m .count ∷ [])))) rest) d
-    ∙ ap (λ i. readFrom (n + 1) (on (afterMoves due (m .count)) due (m .count) (J.addMove j (J.moveOf i (m .pre ∷ m .class ∷ m .count ∷ [])))) rest) (sym e)
+    ∙ ap (λ k. readFrom (n + 1) (on (afterMoves k (m .effects)) k (m .effects) (J.addMove j (J.moveOf (length (j .effects)) (m .pre ∷ m .class ∷ m .effects ∷ [])))) rest) d
+    ∙ ap (λ i. readFrom (n + 1) (on (afterMoves due (m .effects)) due (m .effects) (J.addMove j (J.moveOf i (m .pre ∷ m .class ∷ m .effects ∷ [])))) rest) (sym e)
 
 -- the moves, each with its effects
 module _ (sc : J.Scalars) (fs : List J.Formula) (few : length fs ≤ mostFormulas) where
@@ -221,25 +221,25 @@ module _ (sc : J.Scalars) (fs : List J.Formula) (few : length fs ≤ mostFormula
   moves-read [] [] ms₀ es₀ n tail t f g = let e : n + 0 ≡ n = omega arith in rw (append-nil ms₀, append-nil es₀, e)
   moves-read [] (x ∷ es) ms₀ es₀ n tail t f g = absurd (omega (arith, t))
   moves-read (m ∷ ms) es ms₀ es₀ n tail t f g =
-      let c : ℕ = m .count in
+      let c : ℕ = m .effects in
       let own = tiled-own (J.moveOf 0 []) (length es₀) (length es₀ + length es) (m ∷ ms) t 0 (omega arith) in
-      let a : List J.Effect = take (m .count) es in
-      let b : List J.Effect = drop (m .count) es in
-      let la : length (take (m .count) es) ≡ m .count = length-take-le (m .count) es (omega (arith, own, t .0)) in
+      let a : List J.Effect = take (m .effects) es in
+      let b : List J.Effect = drop (m .effects) es in
+      let la : length (take (m .effects) es) ≡ m .effects = length-take-le (m .effects) es (omega (arith, own, t .0)) in
       let mk : List J.Effect → J.Job = λ l. made sc fs (ms₀ ++ (m ∷ [])) l [] in
       let rest : List (List ℕ) = moveLines ms b ++ tail in
       let e₂ : length (es₀ ++ a) + length b ≡ length es₀ + length es =
-      omega (arith, length-append es₀ a, la, length-drop (m .count) es, own, t .0) in
-      let e₁ : length (es₀ ++ a) ≡ length es₀ + m .count = omega (arith, length-append es₀ a, la) in
+      omega (arith, length-append es₀ a, la, length-drop (m .effects) es, own, t .0) in
+      let e₁ : length (es₀ ++ a) ≡ length es₀ + m .effects = omega (arith, length-append es₀ a, la) in
       let e₃ : n + 1 + length a + length (moveLines ms b) ≡ n + suc (length (map effectLine a ++ moveLines ms b)) =
       omega (arith, length-append (map effectLine a) (moveLines ms b), length-map a effectLine) in
       rw (ne-eqb (suc (length ms)) 0 (λ z. omega arith), append-assoc (map effectLine a) (moveLines ms b) tail)
       (move-step (length ms) n (made sc fs ms₀ es₀ []) m (map effectLine a ++ rest) few (f .0) (t .0)
       ∙ ap (λ k. readFrom (n + 1) (on (afterMoves (length ms) k) (length ms) k (mk es₀)) (map effectLine a ++ rest)) (sym la)
       ∙ rows-read J.addEffect mk (λ l x. refl) EffectText (λ i x. P x) (λ l x h. h) (λ k j. on (afterMoves (length ms) k) (length ms) k j) effectLine (effect-step (length ms))
-      a es₀ (n + 1) rest (all-from P a (length es₀) (all-take P (m .count) es g))
-      ∙ moves-read ms b (ms₀ ++ (m ∷ [])) (es₀ ++ a) (n + 1 + length a) tail (rw (e₂, e₁) (t .1)) (f .1) (all-drop P (m .count) es g)
-      ∙ rw (append-assoc ms₀ (m ∷ []) ms, append-assoc es₀ a b, take-append-drop (m .count) es, e₃))
+      a es₀ (n + 1) rest (all-from P a (length es₀) (all-take P (m .effects) es g))
+      ∙ moves-read ms b (ms₀ ++ (m ∷ [])) (es₀ ++ a) (n + 1 + length a) tail (rw (e₂, e₁) (t .1)) (f .1) (all-drop P (m .effects) es g)
+      ∙ rw (append-assoc ms₀ (m ∷ []) ms, append-assoc es₀ a b, take-append-drop (m .effects) es, e₃))
 
 read-end : (n : ℕ) (j : J.Job) → readFrom n (on End 0 0 j) [] ≡ read n j
 unfolding readFrom ended
@@ -363,7 +363,7 @@ move-once : (ms : List J.Move) (es : List J.Effect) → All Once (moveLines ms e
 unfolding moveLines
 move-once [] es = tt
 move-once (m ∷ ms) es =
-    (once Move _ _, all-both (map effectLine (take (m .count) es)) (moveLines ms (drop (m .count) es)) (all-map effectLine (take (m .count) es) (λ e. once Effect _ _)) (move-once ms (drop (m .count) es)))
+    (once Move _ _, all-both (map effectLine (take (m .effects) es)) (moveLines ms (drop (m .effects) es)) (all-map effectLine (take (m .effects) es) (λ e. once Effect _ _)) (move-once ms (drop (m .effects) es)))
 
 job-once : (j : J.Job) → All Once (jobLines j)
 job-once j =

@@ -16,7 +16,7 @@ use Rattle.text.proofs.LineText.{line-sound}
 use Rattle.job.specs.Job as J
 use Rattle.job.specs.Job.{countsOf, formulaOf, moveOf, effectOf, rowOf}
 use Rattle.theorems.specs.JobText.{lineOf, formulaLine, moveLine, effectLine, rowLine, moveLines, jobLines, jobText}
-use Rattle.job.specs.Line.{formOf, rowNumbers}
+use Rattle.job.specs.Line.{formOf, lineNumbers}
 use Rattle.job.specs.ReadJob.{Reading, read, takenAt, taken, begun, readJob}
 use Rattle.job.specs.WellFormed.{Tiled}
 use Rattle.job.specs.declared.head.Counts.{Counts}
@@ -31,7 +31,7 @@ use Rattle.reader.proofs.ReadLaws.{read-has}
 -- the effects that are due are the last move's
 abbrev Open : List J.Move → ℕ → Type 0
 Open [] due = due ≡ 0
-Open (m ∷ []) due = due ≤ m .count
+Open (m ∷ []) due = due ≤ m .effects
 Open (m ∷ k ∷ ms) due = Open (k ∷ ms) due
 
 open-less : (ms : List J.Move) (due less : ℕ) → less ≤ due → Open ms due → Open ms less
@@ -44,7 +44,7 @@ open-none [] = refl
 open-none (m ∷ []) = omega arith
 open-none (m ∷ k ∷ ms) = open-none (k ∷ ms)
 
-open-last : (ms : List J.Move) (m : J.Move) → Open (ms ++ (m ∷ [])) (m .count)
+open-last : (ms : List J.Move) (m : J.Move) → Open (ms ++ (m ∷ [])) (m .effects)
 open-last [] m = omega arith
 open-last (k ∷ []) m = omega arith
 open-last (k ∷ x ∷ ms) m = open-last (x ∷ ms) m
@@ -52,7 +52,7 @@ open-last (k ∷ x ∷ ms) m = open-last (x ∷ ms) m
 open-tiled : (ms : List J.Move) (first last due : ℕ) → Tiled first ms last → Open ms due → first + due ≤ last
 open-tiled [] first last due t o = omega arith
 open-tiled (m ∷ []) first last due t o = omega (arith, t .1)
-open-tiled (m ∷ k ∷ ms) first last due t o = omega (arith, open-tiled (k ∷ ms) (first + m .count) last due (t .1) o)
+open-tiled (m ∷ k ∷ ms) first last due t o = omega (arith, open-tiled (k ∷ ms) (first + m .effects) last due (t .1) o)
 
 no-moves : (es : List J.Effect) → moveLines [] es ≡ []
 unfolding moveLines
@@ -62,13 +62,13 @@ no-moves es = refl
 moves-more : (ms : List J.Move) (es : List J.Effect) (m : J.Move) (first : ℕ) → Tiled first ms (first + length es)
     → moveLines (ms ++ (m ∷ [])) es ≡ moveLines ms es ++ (moveLine m ∷ [])
 unfolding moveLines
-moves-more [] [] m first t = rw (take-nil (m .count))
+moves-more [] [] m first t = rw (take-nil (m .effects))
 moves-more [] (e ∷ es) m first t = absurd (omega (arith, t))
 moves-more (k ∷ ms) es m first t =
     let own = tiled-own (moveOf 0 []) first (first + length es) (k ∷ ms) t 0 (omega arith) in
-    let e : first + k .count + length (drop (k .count) es) ≡ first + length es = omega (arith, own, t .0, length-drop (k .count) es) in
-    rw (moves-more ms (drop (k .count) es) m (first + k .count) (rw e (t .1)))
-    (ap (λ r. moveLine k ∷ r) (sym (append-assoc (map effectLine (take (k .count) es)) (moveLines ms (drop (k .count) es)) (moveLine m ∷ []))))
+    let e : first + k .effects + length (drop (k .effects) es) ≡ first + length es = omega (arith, own, t .0, length-drop (k .effects) es) in
+    rw (moves-more ms (drop (k .effects) es) m (first + k .effects) (rw e (t .1)))
+    (ap (λ r. moveLine k ∷ r) (sym (append-assoc (map effectLine (take (k .effects) es)) (moveLines ms (drop (k .effects) es)) (moveLine m ∷ []))))
 
 -- an effect's line behind those of the last move
 effects-more : (ms : List J.Move) (es : List J.Effect) (x : J.Effect) (first due : ℕ) → Tiled first ms (first + length es + due) → 0 < due → Open ms due
@@ -76,17 +76,17 @@ effects-more : (ms : List J.Move) (es : List J.Effect) (x : J.Effect) (first due
 unfolding moveLines
 effects-more [] es x first due t p o = absurd (omega (arith, t))
 effects-more (m ∷ []) es x first due t p o =
-    let a : length (es ++ (x ∷ [])) ≤ m .count = omega (arith, length-append es (x ∷ []), t .1) in
-    let b : length es ≤ m .count = omega (arith, t .1) in
-    rw (take-all (m .count) (es ++ (x ∷ [])) a, take-all (m .count) es b, map-append effectLine es (x ∷ []))
+    let a : length (es ++ (x ∷ [])) ≤ m .effects = omega (arith, length-append es (x ∷ []), t .1) in
+    let b : length es ≤ m .effects = omega (arith, t .1) in
+    rw (take-all (m .effects) (es ++ (x ∷ [])) a, take-all (m .effects) es b, map-append effectLine es (x ∷ []))
     (ap (λ r. moveLine m ∷ r) (append-nil (map effectLine es ++ (effectLine x ∷ [])) ∙ ap (λ r. r ++ (effectLine x ∷ [])) (sym (append-nil (map effectLine es)))))
 effects-more (m ∷ k ∷ ms) es x first due t p o =
-    let h = open-tiled (k ∷ ms) (first + m .count) (first + length es + due) due (t .1) o in
-    let b : m .count ≤ length es = omega arith in
-    let e : first + m .count + length (drop (m .count) es) + due ≡ first + length es + due = omega (arith, length-drop (m .count) es) in
-    rw (take-append-le (m .count) es (x ∷ []) b, drop-append-le (m .count) es (x ∷ []) b)
-    (ap (λ r. moveLine m ∷ (map effectLine (take (m .count) es) ++ r)) (effects-more (k ∷ ms) (drop (m .count) es) x (first + m .count) due (rw e (t .1)) p o)
-    ∙ ap (λ r. moveLine m ∷ r) (sym (append-assoc (map effectLine (take (m .count) es)) (moveLines (k ∷ ms) (drop (m .count) es)) (effectLine x ∷ []))))
+    let h = open-tiled (k ∷ ms) (first + m .effects) (first + length es + due) due (t .1) o in
+    let b : m .effects ≤ length es = omega arith in
+    let e : first + m .effects + length (drop (m .effects) es) + due ≡ first + length es + due = omega (arith, length-drop (m .effects) es) in
+    rw (take-append-le (m .effects) es (x ∷ []) b, drop-append-le (m .effects) es (x ∷ []) b)
+    (ap (λ r. moveLine m ∷ (map effectLine (take (m .effects) es) ++ r)) (effects-more (k ∷ ms) (drop (m .effects) es) x (first + m .effects) due (rw e (t .1)) p o)
+    ∙ ap (λ r. moveLine m ∷ r) (sym (append-assoc (map effectLine (take (m .effects) es)) (moveLines (k ∷ ms) (drop (m .effects) es)) (effectLine x ∷ []))))
 
 -- the lines that were read before each sort of line, with these counts of rows
 module _ (j : J.Job) where
@@ -243,9 +243,9 @@ module _ (s : Reading) (r : List ℕ) where
   open-at End x h o = o
 
 -- a line that has numbers is their text
-row-text : (k : Line) (line r : List ℕ) → rowNumbers k line ≡ some r → (length r ≡ formOf k .width) × (line ≡ lineOf k r)
-unfolding rowNumbers
-row-text k line r e = let v = line-sound (formOf k .key) (formOf k .width) r line e in (v .0 .count, v .1)
+row-text : (k : Line) (line r : List ℕ) → lineNumbers k line ≡ some r → (length r ≡ formOf k .width) × (line ≡ lineOf k r)
+unfolding lineNumbers
+row-text k line r e = let v = line-sound (formOf k .key) (formOf k .width) r line e in (v .0 .effects, v .1)
 
 -- the lines that were read, and that the effects due are the last move's
 abbrev toldOf : Reading → List (List ℕ)

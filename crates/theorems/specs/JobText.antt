@@ -15,7 +15,7 @@ abbrev pub formulaLine : J.Formula → List ℕ
 formulaLine f = lineOf Formula (f .kind ∷ f .a ∷ f .b ∷ [])
 
 abbrev pub moveLine : J.Move → List ℕ
-moveLine m = lineOf Move (m .pre ∷ m .class ∷ m .count ∷ [])
+moveLine m = lineOf Move (m .pre ∷ m .class ∷ m .effects ∷ [])
 
 abbrev pub effectLine : J.Effect → List ℕ
 effectLine e = lineOf Effect (e .cond ∷ e .fact ∷ e .value ∷ [])
@@ -26,7 +26,7 @@ rowLine r = lineOf Row (r .kind ∷ r .a ∷ r .b ∷ r .c ∷ [])
 -- "Each is a line m=pre,class,E followed by its E lines e=cond,fact,value"
 unfoldable pub moveLines : List J.Move → List J.Effect → List (List ℕ)
 moveLines [] es = []
-moveLines (m ∷ ms) es = moveLine m ∷ (map effectLine (take (m .count) es) ++ moveLines ms (drop (m .count) es))
+moveLines (m ∷ ms) es = moveLine m ∷ (map effectLine (take (m .effects) es) ++ moveLines ms (drop (m .effects) es))
 
 abbrev pub programLines : J.Job → List (List ℕ)
 programLines j = lineOf Goal (j .scalars .goal ∷ []) ∷ lineOf Program (length (j .program) ∷ []) ∷ map rowLine (j .program)

@@ -68,7 +68,7 @@ marked =
 -- program's own runs, and by all allowed plans of whatever length
 pub record Right (c : Case) : Type 0 where
   pub offer : Offer
-  pub passes : judging (c .job) (c .plan) 4096 12288 ≡ passed offer
+  pub passes : judging (c .job) (c .plan) (mostSteps * 4) 12288 ≡ passed offer
   pub positions : positionCount (offer .job) ≡ c .positions
   pub steps : stepCount (offer .job) ≡ c .steps
   pub finds : Finds (domainOf (offer .job)) (programOf (offer .job)) (offer .entries) (c .says)

@@ -68,8 +68,8 @@ module _ (list adjacency : List ℕ) (k q : ℕ) (x : Adjacency list k adjacency
   unfolding lastFrom
   last-more p = rw (add-one k, starts)
 
-  pub links-more : Adjacency list (k + 1) (set (set adjacency (mostPositions + k) (getD adjacency q 0)) q (k + 1))
-  links-more = record {
+  pub adjacency-more : Adjacency list (k + 1) (set (set adjacency (mostPositions + k) (getD adjacency q 0)) q (k + 1))
+  adjacency-more = record {
     size = length-set old q (k + 1) ∙ old-size;
     last = λ p h. last-by p h (eqb q p) refl ∙ sym (last-more p);
     before = λ i h. before-by i h (eqb i k) refl;
@@ -80,9 +80,9 @@ none-at zero p = refl
 none-at (suc n) zero = refl
 none-at (suc n) (suc p) = none-at n p
 
-pub links-none : (list : List ℕ) → Adjacency list 0 (replicate adjacencySize 0)
+pub adjacency-none : (list : List ℕ) → Adjacency list 0 (replicate adjacencySize 0)
 unfolding lastFrom
-links-none list = record {
+adjacency-none list = record {
   size = length-replicate {A = ℕ} adjacencySize 0;
   last = λ p h. none-at adjacencySize p;
   before = λ k h. absurd (omega arith);

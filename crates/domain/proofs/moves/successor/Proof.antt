@@ -20,7 +20,7 @@ apply-effects-requires : tie.Need-apply-effects-requires
 apply-effects-requires c κs =
     let a = c .before .before .before .before .before .args in
     let p = c .before .before .before .before .before .pre in
-    let made = ap (λ (x : Move). x .first + x .count) (c .before .before .move-at .ensures) in
+    let made = ap (λ (x : Move). x .first + x .effects) (c .before .before .move-at .ensures) in
     (p .0 .0, (omega (arith, made, move-effects (p .0 .0) (a .m) (omega (arith, p .1 .0, move-count (a .head) (a .rows .now)))), p .1 .1))
 
 apply-effects-requires-2 : tie.Need-apply-effects-requires-2
@@ -30,8 +30,8 @@ apply-effects-requires-2 c κs =
     let a = at6 .args in
     let p = at6 .pre in
     let x = at3 .move-at .result in
-    let made = ap (λ (x : Move). x .first + x .count) (at3 .move-at .ensures) in
-    let below = applied-below (jobOf (a .head) (a .rows .now)) (p .0 .0 .job) (x .first) (x .count) (a .values .now) 0 (a .state) (p .1 .1) in (
+    let made = ap (λ (x : Move). x .first + x .effects) (at3 .move-at .ensures) in
+    let below = applied-below (jobOf (a .head) (a .rows .now)) (p .0 .0 .job) (x .first) (x .effects) (a .values .now) 0 (a .state) (p .1 .1) in (
       p .0 .0,
       (omega (arith, made, move-effects (p .0 .0) (a .m) (omega (arith, p .1 .0, move-count (a .head) (a .rows .now)))), rw (c .apply-effects .ensures) below),
     )

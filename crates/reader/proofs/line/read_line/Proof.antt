@@ -6,7 +6,7 @@ use lib.ListN.{length}
 use lib.Seq.{take-at}
 use borrow.Rule.Slice.PartMut.{mid-len}
 use Rattle.text.specs.Numbers.{numbers}
-use Rattle.job.specs.Line.{formOf, rowNumbers}
+use Rattle.job.specs.Line.{formOf, lineNumbers}
 use Rattle.job.specs.Store.{width}
 use Rattle.reader.proofs.LineLaws.{width-within, numbers-answered}
 use borrow.Author.Needs.{needs}
@@ -17,7 +17,7 @@ part-n-end : tie.Need-part-n-end
 part-n-end c = let h : c .before .width .result ≤ width = omega (arith, c .before .width .ensures, width-within (c .before .before .before .args .next)) in h
 
 returns : tie.Need-returns
-unfolding rowNumbers
+unfolding lineNumbers
 returns c =
     let next = c .before .before .before .before .before .before .args .next in
     let e = c .before .before .before .before .width .ensures in

@@ -3,7 +3,7 @@ use mathlib.Core.Path.{_∙_}
 use native.Mathlib.Omega.{arith}
 use Rattle.semantics.proofs.CellLaws.{runs-length}
 use Rattle.domain.specs.Domain.{domainIn}
-use Rattle.sweep.specs.Scans.{graphOf, potential}
+use Rattle.sweep.specs.Sweeps.{graphOf, potential}
 use Rattle.search.proofs.FillLaws.{Settling, settling-start, settling-more, settling-end, search-on}
 use borrow.Author.Needs.{needs}
 use Rattle.search.proofs.fill.settle.Statement.{statement}

@@ -1,7 +1,7 @@
 use mathlib.Core.Path.{refl, _∙_}
 use native.Mathlib.Omega.{arith}
 use Rattle.sweep.proofs.SuccessorLaws.{cached-none}
-use Rattle.search.proofs.FillLaws.{search-sweep, better-named}
+use Rattle.search.proofs.FillLaws.{search-sweep, better-sifted}
 use borrow.Author.Needs.{needs}
 use Rattle.search.proofs.fill.visit.Statement.{statement}
 use Rattle.search.proofs.fill.visit.Tie as tie
@@ -12,8 +12,8 @@ formula-values-requires c κs = c .before .before .before .before .before .pre .
 sweep-requires : tie.Need-sweep-requires
 sweep-requires c κs =
     let p = c .before .before .before .before .before .before .before .before .before .before .before .before .pre in
-    let row = search-sweep (p .0) (c .before .before .before .before .before .before .formula-values .ensures) (p .1 .0 .0) (cached-none _ _) in
-    ((p .0 .ready, p .0 .indexed), ((row, p .1 .0 .1), p .1 .1))
+    let swept = search-sweep (p .0) (c .before .before .before .before .before .before .formula-values .ensures) (p .1 .0 .0) (cached-none _ _) in
+    ((p .0 .ready, p .0 .indexed), ((swept, p .1 .0 .1), p .1 .1))
 
 sift-up-requires : tie.Need-sift-up-requires
 sift-up-requires c κs =
@@ -28,7 +28,7 @@ returns : tie.Need-returns
 returns c =
     let at9 = c .before .before .before .before .before .before .before .before .before in
     let at22 = at9 .before .before .before .before .before .before .before .before .before .before .before .before .before in
-    better-named (at22 .pre .0 .keys .few) refl (at9 .sweep .ensures) (c .before .before .sift-up .ensures)
+    better-sifted (at22 .pre .0 .keys .few) refl (at9 .sweep .ensures) (c .before .before .sift-up .ensures)
 
 pub visit-spec : {M : Type 1} → statement M
 visit-spec =

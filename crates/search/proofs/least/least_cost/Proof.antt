@@ -3,27 +3,22 @@ use Rattle.job.specs.Store.{jobOf}
 use Rattle.domain.specs.Domain.{domainIn}
 use Rattle.compile.specs.Program.{programOf}
 use Rattle.validate.proofs.ReadyLaws.{job-bounded, last-final, some-position}
+use Rattle.sweep.proofs.GraphLaws.{positions-few}
 use Rattle.search.proofs.LowestLaws.{lowest-least}
 use borrow.Author.Needs.{needs}
 use Rattle.search.proofs.least.least_cost.Statement.{statement}
 use Rattle.search.proofs.least.least_cost.Tie as tie
 
-state-count-requires : tie.Need-state-count-requires
-state-count-requires c κs = c .before .before .before .pre .0 .stored
-
-fill-requires : tie.Need-fill-requires
-fill-requires c κs = let p = c .before .before .before .before .before .pre in ((p .0, c .before .state-count .ensures), p .1)
-
 least-entry-requires : tie.Need-least-entry-requires
 least-entry-requires c κs =
-    let at5 = c .before .before .before .before .before in
-    let p = at5 .before .before .before .before .pre in
-    ((p .0 .stored, at5 .state-count .ensures), (some-position (p .0), omega (arith, p .1, c .before .before .before .fill .ensures .size)))
+    let p = c .before .before .before .before .before .before .before .before .pre in
+    let r = p .0 .0 in
+    ((r .stored, p .0 .1), (some-position r, positions-few r, omega (arith, p .1, c .before .before .before .fill .ensures .size)))
 
 returns : tie.Need-returns
 returns c =
-    let a = c .before .before .before .before .before .before .before .before .before .before .args in
-    let ready = c .before .before .before .before .before .before .before .before .before .before .pre .0 in
+    let a = c .before .before .before .before .before .before .before .before .before .args in
+    let ready = c .before .before .before .before .before .before .before .before .before .pre .0 .0 in
     let filled = c .before .before .before .before .fill .ensures in
     let low = rw (last-final ready) at (c .least-entry .ensures) in
     (filled, lowest-least (domainIn (a .head) (a .rows .now)) (programOf (jobOf (a .head) (a .rows .now))) (job-bounded ready) (ready .positions) filled low)
@@ -32,8 +27,7 @@ pub least-cost-spec : {M : Type 1} → statement M
 least-cost-spec =
     tie.close
     (tie.spec
-    state-count-requires
-    fill-requires
+    (λ c κs. search needs)
     least-entry-requires
     (λ c. search needs)
     returns)

@@ -5,7 +5,7 @@ use lib.ListN.{getD}
 use Rattle.semantics.proofs.CellLaws.{runs-length}
 use Rattle.domain.specs.Domain.{domainIn}
 use Rattle.sweep.specs.Successors.{Cached}
-use Rattle.sweep.specs.Scans.{graphOf}
+use Rattle.sweep.specs.Sweeps.{graphOf}
 use Rattle.sweep.proofs.StepLaws.{link-below, next-less}
 use Rattle.sweep.proofs.RelaxationLaws.{cell-room, Scanning, scanned-none, scanning-start, scanning-end, scanning-step, sweep-on}
 use borrow.Author.Needs.{needs}
@@ -50,9 +50,9 @@ returns : tie.Need-returns Inv-loop μ-loop
 returns c =
     let a = c .before .before .before .before .before .before .before .before .before .before .before .before .before .args in
     let p = c .before .before .before .before .before .before .before .before .before .before .before .before .before .pre in
-    let row = p .1 .0 in
+    let swept = p .1 .0 in
     let here = ap (λ (i : ℕ). getD (a .costs .now) i 0) (c .before .before .before .before .cell .ensures) in
-    (scanned-none (p .0 .0) (row .0) _ _ (row .1) _ (row .2) (p .1 .1) here (c .before .is-idle .ensures) (c .if1 .taken), row .0 .standing .successors)
+    (scanned-none (p .0 .0) (swept .0) _ _ (swept .1) _ (swept .2) (p .1 .1) here (c .before .is-idle .ensures) (c .if1 .taken), swept .0 .standing .successors)
 
 slice-write-marks : tie.Need-slice-write-marks Inv-loop μ-loop
 slice-write-marks c =
@@ -62,7 +62,7 @@ slice-write-marks c =
 link-at-requires : tie.Need-link-at-requires Inv-loop μ-loop
 link-at-requires c κs =
     let p = c .before .before .before .before .before .before .before .before .before .before .before .before .before .pre in
-    omega (arith, p .0 .1 .linked .size, p .1 .0 .1, p .0 .1 .few)
+    omega (arith, p .0 .1 .by-start .size, p .1 .0 .1, p .0 .1 .few)
 
 loop-holds : tie.Need-loop-holds Inv-loop μ-loop
 loop-holds c =
@@ -70,11 +70,11 @@ loop-holds c =
     let at14 = at5 .before .before .before .before .before .before .before .before .before in
     let a = at14 .args in
     let p = at14 .pre in
-    let row = p .1 .0 in
+    let swept = p .1 .0 in
     let here = ap (λ (i : ℕ). getD (a .costs .now) i 0) (at5 .cell .ensures) in
-    let last = c .link-at .ensures ∙ p .0 .1 .linked .last _ (omega (arith, row .1, p .0 .1 .few)) in (
-      scanning-start (p .0 .0) (row .0) _ _ (row .1) _ (row .2) (p .1 .1) here (c .before .before .is-idle .ensures) (c .before .if1 .left) last,
-      row .0 .standing .successors,
+    let last = c .link-at .ensures ∙ p .0 .1 .by-start .last _ (omega (arith, swept .1, p .0 .1 .few)) in (
+      scanning-start (p .0 .0) (swept .0) _ _ (swept .1) _ (swept .2) (p .1 .1) here (c .before .before .is-idle .ensures) (c .before .if1 .left) last,
+      swept .0 .standing .successors,
     )
 
 step-at-requires : tie.Need-step-at-requires Inv-loop μ-loop
@@ -102,7 +102,7 @@ link-at-requires-2 c κs =
     let at14 = c .before .before .before .before .before .before .before .before .before .before .before .before .before .before in
     let at30 = at14 .before .before .before .before .before .before .before .before .before .before .before .before .before .before .before .before in
     let p = at30 .pre .0 .1 in
-    omega (arith, at14 .before .loop .inv .0 .link .within, at14 .loop-test .taken, p .listed .few, p .linked .size)
+    omega (arith, at14 .before .loop .inv .0 .link .within, at14 .loop-test .taken, p .listed .few, p .by-start .size)
 
 loop-less : tie.Need-loop-less Inv-loop μ-loop
 loop-less c =
@@ -112,7 +112,7 @@ loop-less c =
     let l = at15 .before .loop in
     let link = l .inv .0 .link in
     let some : l .h ≡ suc (l .h - 1) = omega (arith, at15 .loop-test .taken) in
-    next-less _ _ link (l .h - 1) some (c .link-at2 .ensures ∙ p .linked .before _ (link-below _ _ link (l .h - 1) some))
+    next-less _ _ link (l .h - 1) some (c .link-at2 .ensures ∙ p .by-start .before _ (link-below _ _ link (l .h - 1) some))
 
 loop-again : tie.Need-loop-again Inv-loop μ-loop
 loop-again c =
@@ -123,7 +123,7 @@ loop-again c =
     let l = at14 .before .before .loop in
     let x = l .inv .0 in
     let some : l .h ≡ suc (l .h - 1) = omega (arith, at14 .before .loop-test .taken) in
-    let next = c .link-at2 .ensures ∙ p .0 .1 .linked .before _ (link-below _ _ (x .link) (l .h - 1) some) in
+    let next = c .link-at2 .ensures ∙ p .0 .1 .by-start .before _ (link-below _ _ (x .link) (l .h - 1) some) in
     let follow = c .before .before .before .before .before .before .before .before .before .follow .ensures in
     (scanning-step (p .0 .0) (p .1 .0 .0) _ _ (p .1 .0 .1) x (l .h - 1) some (at14 .step-at .ensures) next (follow .0), follow .1)
 

@@ -8,10 +8,10 @@ use Rattle.semantics.specs.Cells.{sum}
 use Rattle.semantics.proofs.CellLaws.{runs-length}
 use Rattle.domain.specs.Domain.{domainIn}
 use Rattle.sweep.specs.Successors.{Cached}
-use Rattle.sweep.specs.Scans.{graphOf}
+use Rattle.sweep.specs.Sweeps.{graphOf}
 use Rattle.sweep.proofs.GraphLaws.{graph-closed}
 use Rattle.sweep.proofs.RelaxationLaws.{sweep-on}
-use Rattle.sweep.proofs.ScanLaws.{Sweeping, sweeping-start, sweeping-more, sweeping-end}
+use Rattle.sweep.proofs.SweepLaws.{Sweeping, sweeping-start, sweeping-more, sweeping-end}
 use borrow.Author.Needs.{needs}
 use Rattle.sweep.proofs.state.sweep.Statement.{statement}
 use Rattle.sweep.proofs.state.sweep.Tie as tie
@@ -28,21 +28,23 @@ abbrev μ-loop : tie.MeasureT-loop
 
 loop-holds : tie.Need-loop-holds Inv-loop μ-loop
 loop-holds c =
-    let at9 = c .before .before .before .before .before .before .before .before .before in
-    let p = at9 .pre .1 in
-    let row = p .0 .0 in
-    (sweeping-start _ _ _ _ (at9 .args .queue .now) (omega (arith, row .standing .inside, row .keys .few, row .keys .size)) (p .1), row .standing .successors)
+    let at10 = c .before .before .before .before .before .before .before .before .before .before in
+    let p = at10 .pre .1 in
+    let swept = p .0 .0 in (
+      sweeping-start _ _ _ _ (at10 .args .queue .now) (omega (arith, swept .standing .inside, swept .keys .few, swept .keys .size)) (p .1),
+      swept .standing .successors,
+    )
 
 slice-aggregate-scan : tie.Need-slice-aggregate-scan Inv-loop μ-loop
 slice-aggregate-scan c = sym (c .before .before .before .before .before .loop .inv .0 .width)
 
 scan-requires : tie.Need-scan-requires Inv-loop μ-loop
 scan-requires c κs =
-    let a = c .before .before .before .before .before .before .before .before .before .before .before .before .before .before .before .args in
-    let p = c .before .before .before .before .before .before .before .before .before .before .before .before .before .before .before .pre in
+    let a = c .before .before .before .before .before .before .before .before .before .before .before .before .before .before .before .before .args in
+    let p = c .before .before .before .before .before .before .before .before .before .before .before .before .before .before .before .before .pre in
     let x = c .before .before .before .before .before .loop .inv in
-    let row = sweep-on (p .1 .0 .0) (runs-length (x .0 .runs)) (x .0 .size ∙ length-set (a .queue .now) (a .origin .state) unreached) (x .1) in
-    (p .0, ((row, c .before .before .before .before .loop-test .taken, x .0 .width), x .0 .relaxed))
+    let swept = sweep-on (p .1 .0 .0) (runs-length (x .0 .runs)) (x .0 .size ∙ length-set (a .queue .now) (a .origin .state) unreached) (x .1) in
+    (p .0, ((swept, c .before .before .before .before .loop-test .taken, x .0 .width), x .0 .relaxed))
 
 loop-less : tie.Need-loop-less Inv-loop μ-loop
 loop-less c =
@@ -60,23 +62,23 @@ same-length c = runs-length (c .before .loop .inv .0 .runs)
 
 same-length-2 : tie.Need-same-length-2 Inv-loop μ-loop
 same-length-2 c =
-    let a = c .before .before .before .before .before .before .before .before .before .before .before .args in
+    let a = c .before .before .before .before .before .before .before .before .before .before .before .before .args in
     c .before .loop .inv .0 .size ∙ length-set (a .queue .now) (a .origin .state) unreached
 
 same-length-3 : tie.Need-same-length-3 Inv-loop μ-loop
 same-length-3 c =
-    let at11 = c .before .before .before .before .before .before .before .before .before .before .before in
-    c .before .loop .inv .1 .size ∙ sym (at11 .pre .1 .0 .0 .standing .successors .size)
+    let at12 = c .before .before .before .before .before .before .before .before .before .before .before .before in
+    c .before .loop .inv .1 .size ∙ sym (at12 .pre .1 .0 .0 .standing .successors .size)
 
 returns : tie.Need-returns Inv-loop μ-loop
 returns c =
-    let at11 = c .before .before .before .before .before .before .before .before .before .before .before in
-    let p = at11 .pre in
-    let row = p .1 .0 in
-    let a = at11 .args in
-    let room : a .origin .state < length (a .queue .now) = omega (arith, row .0 .standing .inside, row .0 .keys .few, row .0 .keys .size) in
-    sweeping-end _ _ _ _ (a .queue .now) room (graph-closed (p .0 .0)) (row .0 .standing .inside)
-    (row .1) (c .before .loop .inv .0) (omega (arith, c .loop-test .left))
+    let at12 = c .before .before .before .before .before .before .before .before .before .before .before .before in
+    let p = at12 .pre in
+    let swept = p .1 .0 in
+    let a = at12 .args in
+    let room : a .origin .state < length (a .queue .now) = omega (arith, swept .0 .standing .inside, swept .0 .keys .few, swept .0 .keys .size) in
+    sweeping-end _ _ _ _ (a .queue .now) room (graph-closed (p .0 .0)) (swept .0 .standing .inside)
+    (swept .1) (c .before .loop .inv .0) (omega (arith, c .loop-test .left))
 
 pub sweep-spec : {M : Type 1} → statement M
 sweep-spec =
@@ -84,6 +86,7 @@ sweep-spec =
     (tie.spec
     Inv-loop
     μ-loop
+    (λ c. search needs)
     (λ c. search needs)
     (λ c. search needs)
     (λ c. search needs)

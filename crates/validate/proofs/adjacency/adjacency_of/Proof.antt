@@ -3,7 +3,7 @@ use mathlib.Core.Path.{refl, _≡_}
 use native.Mathlib.Omega.{arith}
 use lib.ListN.{length}
 use Rattle.validate.specs.Adjacency.{Adjacency}
-use Rattle.validate.proofs.AdjacencyLaws.{links-none, links-more}
+use Rattle.validate.proofs.AdjacencyLaws.{adjacency-none, adjacency-more}
 use borrow.Author.Needs.{needs}
 use Rattle.validate.proofs.adjacency.adjacency_of.Statement.{statement}
 use Rattle.validate.proofs.adjacency.adjacency_of.Tie as tie
@@ -15,7 +15,7 @@ abbrev μ-loop : tie.MeasureT-loop
 μ-loop list steps adjacency₀ k₀ adjacency k = steps - k
 
 loop-holds : tie.Need-loop-holds Inv-loop μ-loop
-loop-holds c = (links-none _, omega arith)
+loop-holds c = (adjacency-none _, omega arith)
 
 cast-from : tie.Need-cast-from Inv-loop μ-loop
 cast-from c = record { fits = omega (arith, c .shared-slice-known .given (c .before .before .loop .k * 4 + 1)) }
@@ -35,7 +35,7 @@ array-write-adjacency-2 c = omega (arith, c .before .before .before .pre .from _
 loop-again : tie.Need-loop-again Inv-loop μ-loop
 loop-again c =
     let at3 = c .before .before .before in (
-      links-more _ _ _ _ (c .before .before .loop .inv .0) (omega (arith, c .before .loop-test .taken, at3 .pre .few))
+      adjacency-more _ _ _ _ (c .before .before .loop .inv .0) (omega (arith, c .before .loop-test .taken, at3 .pre .few))
           refl (at3 .pre .from _ (c .before .loop-test .taken)),
       omega (arith, c .before .loop-test .taken),
     )

@@ -22,7 +22,7 @@ potential n T queue = sum T * suc unreached + total (λ x. unreached - x) queue 
 -- steps between so many positions, indexed by where they start
 pub record Indexed (list adjacency : List ℕ) (positions : ℕ) : Type 0 where
   pub listed : Listed list
-  pub linked : Adjacency list (length list / 4) adjacency
+  pub by-start : Adjacency list (length list / 4) adjacency
   pub few : positions ≤ mostPositions
   pub to : (k : ℕ) → k < length list / 4 → getD list (k * 4 + 2) 0 < positions
 

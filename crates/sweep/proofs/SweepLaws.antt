@@ -13,7 +13,7 @@ use Rattle.laws.proofs.Tests.{never}
 use Rattle.semantics.specs.CostTable.{unreached}
 use Rattle.semantics.specs.Cells.{Graph, Closed, Runs, none, Relaxed}
 use Rattle.semantics.proofs.CellLaws.{edge-within, runs-on}
-use Rattle.sweep.specs.Scans.{Keyed, Only, passed, marked, Processed, below, past, potential}
+use Rattle.sweep.specs.Sweeps.{Keyed, Only, passed, marked, Processed, below, past, potential}
 use Rattle.sweep.specs.Relaxation.{Scanned, Better}
 use Rattle.sweep.proofs.PotentialLaws.{key-gap}
 
