@@ -1,9 +1,10 @@
 -- The ten marked cases, from the bytes of their texts, with a cost table for each that asks for the least cost.
 -- Assumes nothing.
-use Prim.Native.Nat.{ℕ}
+use Prim.Native.Nat.{ℕ, _*_}
 use mathlib.Core.Path.{_≡_, refl, ap}
 use mathlib.Core.Option.{Option, some}
 use mathlib.Core.List.{List, [], _∷_, map, List·Memᴰ, List·Memᴰ·head, List·Memᴰ·tail}
+use Rattle.limits.specs.Limits.{mostSteps}
 use Rattle.laws.proofs.Tests.{never}
 use Rattle.text.specs.Bytes.{bytes}
 use Rattle.text.specs.Lines.{lines, hasKey, valueOf}

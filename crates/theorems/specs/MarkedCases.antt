@@ -1,8 +1,9 @@
 -- The marked cases, as a table of texts and judgements.
-use Prim.Native.Nat.{ℕ}
+use Prim.Native.Nat.{ℕ, _*_}
 use Prim.Native.String.{String}
 use mathlib.Core.Path.{_≡_}
 use mathlib.Core.List.{List, [], _∷_, _++_}
+use Rattle.limits.specs.Limits.{mostSteps}
 use Rattle.text.specs.Bytes.{bytes}
 use Rattle.semantics.specs.Verdict.{blocked, unfinished, missed}
 use Rattle.semantics.specs.Judgement.{Judgement, least, dearer, other, Finds}
