@@ -12,7 +12,7 @@ use job::head::Head;
 use limits::PROGRAM;
 use limits::STEPS;
 
-// A size that is above both limits, as which all such sizes are counted.
+// What every size above a limit is counted as.
 const CAP: usize = STEPS + 1;
 
 const PROGRAM_ROWS: usize = PROGRAM as usize;

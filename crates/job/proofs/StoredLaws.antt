@@ -11,6 +11,7 @@ use Rattle.job.specs.Fields.{Within, formulaFields, rowFields}
 use Rattle.job.specs.Store.{formulasFrom, movesFrom, effectsFrom, programFrom, rowAt, storedMove, jobOf}
 use Rattle.job.specs.WellFormed.{beforeFormula, beforeRow}
 use Rattle.job.specs.Stored.{Stored}
+use Rattle.job.specs.declared.head.Counts.{Counts}
 use Rattle.job.specs.declared.head.Head.{Head}
 use Rattle.job.proofs.StoreLaws.{rows-length, rows-at}
 use Rattle.job.proofs.RowLaws.{tiled-own}
@@ -43,24 +44,26 @@ module _ (h : Head) (l : List ℕ) where
     row-is = rows-at rowOf l programFrom (rowOf []) (h .counts .program) i
 
 -- at most so many of each
-pub record Limited (h : Head) : Type 0 where
-  pub facts : h .counts .facts ≤ mostFacts
-  pub formulas : h .counts .formulas ≤ mostFormulas
-  pub moves : h .counts .moves ≤ mostMoves
-  pub effects : h .counts .effects ≤ mostEffects
-  pub program : h .counts .program ≤ mostProgram
-  pub last : 0 < h .counts .program
+pub record Limited (c : Counts) : Type 0 where
+  pub facts : c .facts ≤ mostFacts
+  pub formulas : c .formulas ≤ mostFormulas
+  pub moves : c .moves ≤ mostMoves
+  pub effects : c .effects ≤ mostEffects
+  pub program : c .program ≤ mostProgram
 
 module _ {h : Head} {l : List ℕ} (s : Stored h l) where
-  pub limited : Limited h
+  pub limited : Limited (h .counts)
   limited = record {
     facts = s .job .facts;
     formulas = omega (arith, s .job .formulas, formula-count h l);
     moves = omega (arith, s .job .moves, move-count h l);
     effects = omega (arith, s .job .effects, effect-count h l);
     program = omega (arith, s .job .program, row-count h l);
-    last = omega (arith, s .job .last, row-count h l);
   }
+
+  -- there is a program row
+  pub some-row : 0 < h .counts .program
+  some-row = omega (arith, s .job .last, row-count h l)
 
   module _ (i : ℕ) where
     -- what a formula and a program row refer to

@@ -1,12 +1,13 @@
 -- The limits of document 01. `src/lib.rt` has the same numbers.
-use Prim.Native.Nat.{ℕ, _*_}
+use Prim.Native.Nat.{ℕ, _*_, _^_}
 
--- "`facts=F`, 0 to 12", so many states
+-- "`facts=F`, 0 to 12"
 abbrev pub mostFacts : ℕ
 mostFacts = 12
 
+-- so many states have as many facts
 abbrev pub mostStates : ℕ
-mostStates = 4096
+mostStates = 2 ^ mostFacts
 
 -- "`formulas=N`, 1 to 255"
 abbrev pub mostFormulas : ℕ

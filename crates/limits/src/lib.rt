@@ -16,7 +16,7 @@ pub const LAST_CLASS: u16 = 15;
 pub const PROGRAM: u16 = 128;
 
 // The compiled job.
-pub const STATES: usize = 4096;
+pub const STATES: usize = 1 << FACTS;
 
 pub const POSITIONS: usize = 256;
 

@@ -17,6 +17,7 @@ use Rattle.job.specs.declared.head.Head.{Head}
 use Rattle.job.specs.declared.line.Line.{Line}
 use Rattle.job.specs.declared.line.Line.the-variants.{Job, Facts, Init, Formulas, Formula, Moves, Move, Effect, Goal, Program, Row, End}
 use Rattle.job.specs.declared.line.LineNumbers.{LineNumbers}
+use Rattle.job.proofs.StoredLaws.{Limited}
 use Rattle.job.proofs.StoreLaws.{rows-length, by-columns, put-behind, put-before, put-next}
 use Rattle.reader.specs.Reading.{readingOf}
 use Rattle.reader.specs.Room.{Room}
@@ -33,12 +34,8 @@ counted h f m e p = record {
 stored-move : (first : ℕ) (n : List ℕ) → length n ≡ width → storedMove (set n firstEffect first) ≡ moveOf first n
 stored-move first = by-columns (λ n. storedMove (set n firstEffect first) ≡ moveOf first n) (λ a b c d e f g h. refl)
 
--- room for the rows of each sort
-abbrev WithinLimits : Counts → Type 0
-WithinLimits c = (c .formulas ≤ mostFormulas) × (c .moves ≤ mostMoves) × (c .effects ≤ mostEffects) × (c .program ≤ mostProgram)
-
 -- a row that is written behind those of its sort is added to the job
-module _ (h : Head) (l n : List ℕ) (len : length l ≡ storeSize) (eight : length n ≡ width) (room : WithinLimits (h .counts)) where
+module _ (h : Head) (l n : List ℕ) (len : length l ≡ storeSize) (eight : length n ≡ width) (room : Limited (h .counts)) where
   abbrev with-row : ℕ → List ℕ → List ℕ
   with-row i v = sets l (i * width) v
 
@@ -133,5 +130,11 @@ module _ (s : ReaderState) (l : List ℕ) (r : LineNumbers) (k : Line) (e : s .n
   room-of h = rw e at h
 
 -- there are no more rows of a sort than it has room for
-pub rows-within : {next : Line} {due effects : ℕ} {c : Counts} → Room next due effects c → WithinLimits c
-rows-within h = (omega (arith, h .formulas), omega (arith, h .moves), omega (arith, h .effects-room), omega (arith, h .program))
+pub rows-within : {next : Line} {due effects : ℕ} {c : Counts} → Room next due effects c → Limited c
+rows-within h = record {
+  facts = h .facts;
+  formulas = omega (arith, h .formulas);
+  moves = omega (arith, h .moves);
+  effects = omega (arith, h .effects-room);
+  program = omega (arith, h .program);
+}

@@ -245,7 +245,7 @@ module _ (s : Reading) (r : List ℕ) where
 -- a line that has numbers is their text
 row-text : (k : Line) (line r : List ℕ) → lineNumbers k line ≡ some r → (length r ≡ formOf k .width) × (line ≡ lineOf k r)
 unfolding lineNumbers
-row-text k line r e = let v = line-sound (formOf k .key) (formOf k .width) r line e in (v .0 .effects, v .1)
+row-text k line r e = let v = line-sound (formOf k .key) (formOf k .width) r line e in (v .0 .count, v .1)
 
 -- the lines that were read, and that the effects due are the last move's
 abbrev toldOf : Reading → List (List ℕ)

@@ -6,7 +6,7 @@ use Prim.Native.Nat.{_≤_, _-_}
 use lib.ListN.{length, length-set}
 use Rattle.limits.specs.Limits.{mostProgram}
 use Rattle.job.specs.Store.{jobOf}
-use Rattle.job.proofs.StoredLaws.{limited, row-count}
+use Rattle.job.proofs.StoredLaws.{row-count, limited, some-row}
 use Rattle.compile.proofs.SizeLaws.{Sized, sized-more, sized-last}
 use borrow.Author.Needs.{needs}
 use Rattle.compile.proofs.sizes.program_size.Statement.{statement}
@@ -35,7 +35,7 @@ loop-again c =
     (omega arith, simp length-set (n .1), more)
 
 sub-entry : tie.Need-sub-entry Inv-loop μ-loop
-sub-entry c = omega (arith, limited (c .before .before .before .before .pre) .last)
+sub-entry c = omega (arith, some-row (c .before .before .before .before .pre))
 
 returns : tie.Need-returns Inv-loop μ-loop
 returns c =
@@ -44,7 +44,7 @@ returns c =
     let n = o .args .head .counts .program in
     let s = c .before .before .before .loop in
     let e : s .i ≡ n = omega (arith, s .inv .0, c .before .before .loop-test .left) in
-    c .entry .ensures ∙ sized-last (o .args .w) j n (s .sizes) (sym (row-count (o .args .head) (o .args .rows .now))) (limited (o .pre) .last)
+    c .entry .ensures ∙ sized-last (o .args .w) j n (s .sizes) (sym (row-count (o .args .head) (o .args .rows .now))) (some-row (o .pre))
     (subst (λ (k : ℕ). Sized (o .args .w) (j .program) k (s .sizes)) e (s .inv .2))
 
 pub program-size-spec : {M : Type 1} → statement M
