@@ -2,31 +2,31 @@
 ghost use Rattle.io.specs.Counts.{Counts};
 
 // Whether a file was read, and how many bytes it filled. Where it was not, standard error has said why.
-pub struct Filled {
+pub struct FileText {
     pub read: bool,
     pub count: usize,
 }
 
 // What one call reads; no bytes at the file's end.
-fn read_once(fd: i32, path: &[u8], part: &mut [u8]) -> Filled
+fn read_once(fd: i32, path: &[u8], part: &mut [u8]) -> FileText
     ensures { λ r. ⌜ Counts (r .count) (now (part .exit)) ⌝ }
 {
     let got = libc::read(fd, part);
     if got < 0 {
         os::fail(path);
-        return Filled {
+        return FileText {
             read: false,
             count: 0,
         };
     }
-    Filled {
+    FileText {
         read: true,
         count: io::count(got, part),
     }
 }
 
 // Fills the buffer from an open file, to its end or until the buffer is full.
-fn fill(fd: i32, path: &[u8], buf: &mut [u8]) -> Filled
+fn fill(fd: i32, path: &[u8], buf: &mut [u8]) -> FileText
     ensures { λ r. ⌜ Counts (r .count) (now (buf .exit)) ⌝ }
 {
     let mut n: usize = 0;
@@ -34,27 +34,27 @@ fn fill(fd: i32, path: &[u8], buf: &mut [u8]) -> Filled
         let got = read_once(fd, path, &mut buf[n..]);
         let more = got.count;
         if more == 0 {
-            return Filled {
+            return FileText {
                 read: got.read,
                 count: n,
             };
         }
         n += more;
     }
-    Filled {
+    FileText {
         read: true,
         count: n,
     }
 }
 
 // Fills the buffer from the file at a path.
-pub fn read_file(path: &[u8], buf: &mut [u8]) -> Filled
+pub fn read_file(path: &[u8], buf: &mut [u8]) -> FileText
     ensures { λ r. ⌜ Counts (r .count) (now (buf .exit)) ⌝ }
 {
     let fd = os::open_read(path);
     if fd < 0 {
         os::fail(path);
-        return Filled {
+        return FileText {
             read: false,
             count: 0,
         };
@@ -65,7 +65,7 @@ pub fn read_file(path: &[u8], buf: &mut [u8]) -> Filled
 }
 
 // Fills the buffer from the file that argument i names, or from `otherwise` where there is no such argument.
-pub fn read_argument(i: usize, otherwise: &[u8], buf: &mut [u8]) -> Filled
+pub fn read_argument(i: usize, otherwise: &[u8], buf: &mut [u8]) -> FileText
     ensures { λ r. ⌜ Counts (r .count) (now (buf .exit)) ⌝ }
 {
     if os::arg_count() <= i {
@@ -75,7 +75,7 @@ pub fn read_argument(i: usize, otherwise: &[u8], buf: &mut [u8]) -> Filled
     let n = os::arg(i, &mut path);
     if os::errno() != 0 {
         os::fail(b"argument");
-        return Filled {
+        return FileText {
             read: false,
             count: 0,
         };
