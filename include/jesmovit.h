@@ -21,8 +21,8 @@
  * table is filled by jesmovit_least_cost, and by jesmovit_judge for a plan: at state * positions + position the least cost of reaching it, in tenths of a
  * second, or JESMOVIT_UNREACHED. 1,048,576 numbers are enough for every job. Numbers behind the filled ones keep what they held.
  *
- * The functions keep nothing between calls, use no heap, and may be called from several threads. Each wants at most some 90 KB of stack, of
- * which the rows of the job take 24.
+ * The functions keep nothing between calls, use no heap, and may be called from several threads. Each wants at most 96 KB of stack, of which the
+ * rows of the job take 24.
  */
 #ifndef JESMOVIT_H
 #define JESMOVIT_H

@@ -22,21 +22,21 @@ done a b c d e = record { number = 0; values = a ∷ b ∷ c ∷ d ∷ e ∷ [] 
 abbrev pub refusalNumbers : Refusal → Numbers
 refusalNumbers r = record { number = r .number; values = r .place ∷ 0 ∷ 0 ∷ 0 ∷ 0 ∷ [] }
 
-abbrev pub outcome : ℕ → ℕ → ℕ → Coded
-outcome number first second = record { number = number; first = first; second = second }
+abbrev pub coded : ℕ → ℕ → ℕ → Coded
+coded number first second = record { number = number; first = first; second = second }
 
 -- the verdicts, numbered from 0 in the order of "Verdicts": "plan, with its cost", "blocked i", "unfinished", "goal missed"
-abbrev pub verdictOutcome : Verdict → Coded
-verdictOutcome (Plan cost) = outcome 0 cost 0
-verdictOutcome (Blocked i) = outcome 1 i 0
-verdictOutcome Unfinished = outcome 2 0 0
-verdictOutcome Missed = outcome 3 0 0
+abbrev pub verdictCode : Verdict → Coded
+verdictCode (Plan cost) = coded 0 cost 0
+verdictCode (Blocked i) = coded 1 i 0
+verdictCode Unfinished = coded 2 0 0
+verdictCode Missed = coded 3 0 0
 
 -- and on: "adds least or dearer with both costs; for others it repeats the check's verdict"
-abbrev pub judgementOutcome : Judgement → Coded
-judgementOutcome (Least cost) = outcome 4 cost cost
-judgementOutcome (Dearer cost least) = outcome 5 cost least
-judgementOutcome (Other v) = verdictOutcome v
+abbrev pub judgementCode : Judgement → Coded
+judgementCode (Least cost) = coded 4 cost cost
+judgementCode (Dearer cost least) = coded 5 cost least
+judgementCode (Other v) = verdictCode v
 
 abbrev pub readNumbers : R.ReadAnswer → Numbers
 readNumbers (R.the-variants.Read c) = done (c .facts) (c .formulas) (c .moves) (c .effects) (c .program)
@@ -50,7 +50,7 @@ abbrev pub said : Coded → Numbers
 said o = done (o .number) (o .first) 0 0 0
 
 abbrev pub checkNumbers : K.CheckAnswer → Numbers
-checkNumbers (K.the-variants.Said v) = said (verdictOutcome v)
+checkNumbers (K.the-variants.Said v) = said (verdictCode v)
 checkNumbers (K.the-variants.Refused r) = refusalNumbers r
 
 -- and on: "answers the cost, or none"
@@ -63,5 +63,5 @@ abbrev pub judged : ℕ → ℕ → Coded → Numbers
 judged positions steps o = done positions steps (o .number) (o .first) (o .second)
 
 abbrev pub judgeNumbers : J.JudgeAnswer → Numbers
-judgeNumbers (J.the-variants.Judged positions steps g) = judged positions steps (judgementOutcome g)
+judgeNumbers (J.the-variants.Judged positions steps g) = judged positions steps (judgementCode g)
 judgeNumbers (J.the-variants.Refused r) = refusalNumbers r

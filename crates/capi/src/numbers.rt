@@ -1,6 +1,6 @@
 // Answers as numbers, as include/jesmovit.h has them.
 ghost use mathlib.Core.Path.{_≡_};
-ghost use Rattle.capi.specs.Numbers.{verdictOutcome, judgementOutcome, refusalNumbers};
+ghost use Rattle.capi.specs.Numbers.{verdictCode, judgementCode, refusalNumbers};
 ghost use Rattle.capi.specs.Numbers.{readNumbers, compileNumbers, checkNumbers, leastNumbers, judgeNumbers};
 use jesmovit::CheckAnswer;
 use jesmovit::CompileAnswer;
@@ -25,7 +25,7 @@ pub struct Coded {
 }
 
 pub fn of_verdict(v: Verdict) -> Coded
-    ensures { λ r. ⌜ r ≡ verdictOutcome v ⌝ }
+    ensures { λ r. ⌜ r ≡ verdictCode v ⌝ }
 {
     match v {
         Verdict::Plan(cost) => Coded {
@@ -52,7 +52,7 @@ pub fn of_verdict(v: Verdict) -> Coded
 }
 
 pub fn of_judgement(g: Judgement) -> Coded
-    ensures { λ r. ⌜ r ≡ judgementOutcome g ⌝ }
+    ensures { λ r. ⌜ r ≡ judgementCode g ⌝ }
 {
     match g {
         Judgement::Least(cost) => Coded {

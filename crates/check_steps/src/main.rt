@@ -1,4 +1,4 @@
-// check_steps JOB PLAN: the verdict on a list of steps against the compiled job of the job, each in the file that its argument names (job.txt and plan.txt without
+// check_steps JOB PLAN: the verdict on a list of steps against the compiled job, each text in the file that its argument names (job.txt and plan.txt without
 // one), or the refusal.
 
 // How many numbers the list of steps holds.

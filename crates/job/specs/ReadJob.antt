@@ -81,9 +81,9 @@ ended n s = cond (isEnd (s .next)) (read n (s .job)) (refused 1 (n + 1))
 unfoldable pub readFrom : ℕ → Reading → List (List ℕ) → Outcome
 readFrom n s [] = ended n s
 readFrom n s (line ∷ rest) =
-    let row = lineNumbers (s .next) line in
-    let reason = fault (s .next) (countsOf (s .job)) row in
-    cond (eqb reason 0) (readFrom (n + 1) (taken s (Option·getD row [])) rest) (refused reason (n + 1))
+    let numbers = lineNumbers (s .next) line in
+    let reason = fault (s .next) (countsOf (s .job)) numbers in
+    cond (eqb reason 0) (readFrom (n + 1) (taken s (Option·getD numbers [])) rest) (refused reason (n + 1))
 
 abbrev pub begun : Reading
 begun = on Job 0 0 (record { scalars = record { facts = 0; init = 0; goal = 0 }; formulas = []; moves = []; effects = []; program = [] })

@@ -5,7 +5,7 @@ use Prim.Native.Nat.{ℕ, _*_, _^_}
 abbrev pub mostFacts : ℕ
 mostFacts = 12
 
--- so many states have as many facts
+-- how many states so many facts have
 abbrev pub mostStates : ℕ
 mostStates = 2 ^ mostFacts
 
@@ -23,6 +23,7 @@ lastClass = 15
 abbrev pub mostMoveEffects : ℕ
 mostMoveEffects = 16
 
+-- of all moves together
 abbrev pub mostEffects : ℕ
 mostEffects = mostMoves * mostMoveEffects
 

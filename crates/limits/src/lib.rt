@@ -1,6 +1,6 @@
 // The limits of a job, of its compiled job and of a plan. `specs/Limits.antt` has the same numbers, each under its sentence.
 
-// Lines of a job text.
+// Numbers of a job text.
 pub const FACTS: u16 = 12;
 
 pub const FORMULAS: u16 = 255;
@@ -15,7 +15,7 @@ pub const LAST_CLASS: u16 = 15;
 
 pub const PROGRAM: u16 = 128;
 
-// The compiled job.
+// States of a job; positions and steps of its compiled job.
 pub const STATES: usize = 1 << FACTS;
 
 pub const POSITIONS: usize = 256;

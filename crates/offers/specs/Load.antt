@@ -19,7 +19,7 @@ abbrev pub checkedOf : Loaded → List ℕ → Checked Job
 checkedOf (Ready head sizes) rows = C.passed (jobOf head rows)
 checkedOf (Refused r) rows = C.refused (r .number) (r .place)
 
--- a stored job whose compiled job is within the compilable, and the sizes of that
+-- a stored job whose compiled job is within the limits, and the sizes of that
 pub record Sized (head : Head) (rows : List ℕ) (sizes : Sizes) : Type 0 where
   pub stored : Stored head rows
   pub fit : fits (jobOf head rows) ≡ true

@@ -1,4 +1,4 @@
-// A job text loaded: read, and within the compilable of the compiled job.
+// A job text loaded: read, and within the limits of the compiled job.
 ghost use mathlib.Core.Path.{_≡_};
 ghost use lib.ListN.{length};
 ghost use Rattle.job.specs.Store.{storeSize};

@@ -1,4 +1,4 @@
-// A job text and a plan text loaded: the job read and within the compilable, the plan's entries read.
+// A job text and a plan text loaded: the job read and within the limits, the plan's entries read.
 ghost use mathlib.Core.Path.{_≡_};
 ghost use Prim.Native.Nat.{_≤_};
 ghost use lib.ListN.{length};

@@ -30,7 +30,7 @@ counted h f m e p = record {
   goal = h .goal;
 }
 
--- a move's row, whose last number is the first of its effects
+-- a move's row, with the number of its first effect
 stored-move : (first : ℕ) (n : List ℕ) → length n ≡ width → storedMove (set n firstEffect first) ≡ moveOf first n
 stored-move first = by-columns (λ n. storedMove (set n firstEffect first) ≡ moveOf first n) (λ a b c d e f g h. refl)
 

@@ -66,13 +66,13 @@ module _ (s : ReaderState) (rows line : List ℕ) (r : LineNumbers) (numbers-rea
   reason-of = rw (counts-of (s .head) rows, numbers-read)
 
   module _ (zero-reason : fault (s .next) (s .head .counts) (numbersOf (s .next) r) ≡ 0) where
-    pub row-of : lineNumbers (s .next) line ≡ some (listOf (s .next) r)
-    row-of = sym numbers-read ∙ rw (right-formed (s .next) (s .head .counts) r zero-reason)
+    pub numbers-of : lineNumbers (s .next) line ≡ some (listOf (s .next) r)
+    numbers-of = sym numbers-read ∙ rw (right-formed (s .next) (s .head .counts) r zero-reason)
 
     pub right-of : Right (s .next) (countsOf (jobOf (s .head) rows)) (listOf (s .next) r)
     right-of =
         fault-right (s .next) (countsOf (jobOf (s .head) rows)) (listOf (s .next) r)
-        (ap (fault (s .next) (countsOf (jobOf (s .head) rows))) (sym row-of) ∙ sym reason-of ∙ zero-reason)
+        (ap (fault (s .next) (countsOf (jobOf (s .head) rows))) (sym numbers-of) ∙ sym reason-of ∙ zero-reason)
 
 pub room-of : (s : ReaderState) (rows : List ℕ) → Kept (readingOf s rows) → Room (s .next) (s .due) (s .effects) (s .head .counts)
 room-of s rows k = rw (counts-of (s .head) rows) at (k .room)

@@ -53,7 +53,7 @@ settling-end x chosen e is = record {
   relaxed = λ i s p t q c l d claim. x .relaxed i s p t q c l d (omega (arith, claim, chosen .rest e s (omega (arith, d .inside))));
 }
 
--- the order is made anew
+-- only the order changes
 pub better-sifted : {G : Graph} {n : ℕ} {T queue T′ queue′ queue″ : List ℕ} → n ≤ mostStates → n ≡ G .domain .states → Better G n T queue T′ queue′ → SameKeys queue′ queue″
     → Better G n T queue T′ queue″
 better-sifted {n = n} {T′ = T′} {queue′} {queue″} few is x same = record {
@@ -137,9 +137,9 @@ module _ {head : Head} {rows list : List ℕ} {grid : Grid} (r : Ready head rows
       keys = rw is at keys;
     }
 
-    pub settled-fills : {U : List ℕ} → Exhausted (graphOf head rows list (grid .positions)) (set T₁ (cell (grid .positions) s₀ 0) 0) U
+    pub exhausted-fills : {U : List ℕ} → Exhausted (graphOf head rows list (grid .positions)) (set T₁ (cell (grid .positions) s₀ 0) 0) U
         → Filled (domainIn head rows) (stepsOf (jobOf head rows)) (grid .positions) T U
-    settled-fills {U} x =
+    exhausted-fills {U} x =
         let e : cell positions s₀ 0 ≡ cell positions (D .start) 0 = ap (λ (k : ℕ). cell positions k 0) start in
         rw (← (r .steps)) (runs-fill G mostCost (graph-closed r) (some-position r) fits T T₁ U (cleared .size) (cleared .later)
         (omega (arith, cleared .size)) (cleared .clear) (rw e at (x .runs)) (x .relaxed))

@@ -1,4 +1,4 @@
-// Steps of a list, by the positions that they start from.
+// Steps of a list by the positions that they start from, and the cells of positions.
 ghost use mathlib.Core.Path.{_≡_};
 ghost use Prim.Native.Nat.{_+_, _*_, _/_, _≤_, _<_};
 ghost use lib.ListN.{length, getD};

@@ -30,9 +30,9 @@ use Rattle.reader.proofs.ReadLaws.{line-right, line-wrong}
 abbrev most : Line → ℕ
 most k = mostBytes (formOf k .key) (formOf k .width)
 
-row-short : (k : Line) (line r : List ℕ) → lineNumbers k line ≡ some r → length line ≤ most k
+numbers-short : (k : Line) (line r : List ℕ) → lineNumbers k line ≡ some r → length line ≤ most k
 unfolding lineNumbers
-row-short k line r e = line-short (formOf k .key) (formOf k .width) r line e
+numbers-short k line r e = line-short (formOf k .key) (formOf k .width) r line e
 
 -- the lines that are no rows and may still come; End is the line past the last, which is refused
 abbrev singles : Line → List Line
@@ -110,7 +110,7 @@ module _ (s : Reading) where
     long-by : (line : List ℕ) (o : Option (List ℕ)) → lineNumbers (s .next) line ≡ o → aheadOf s < length line → reason o ≡ 1
     unfolding fault
     long-by line none e h = refl
-    long-by line (some r) e h = absurd (omega (arith, row-short (s .next) line r e, falls-at r (s .next) (kept .room) .0))
+    long-by line (some r) e h = absurd (omega (arith, numbers-short (s .next) line r e, falls-at r (s .next) (kept .room) .0))
 
     -- a line that is longer than all that may come is of wrong form
     long-wrong : (line : List ℕ) (rest : List (List ℕ)) → aheadOf s < length line → readFrom n s (line ∷ rest) ≡ refused 1 (n + 1)
@@ -131,7 +131,7 @@ module _ (s : Reading) where
           let x = fault-right (s .next) c r (ap reason (sym e) ∙ z) in
           line-right n s line rest r e z
           ∙ after (record { n = n + 1; s = taken s r; kept = taken-kept s r x kept })
-          (omega (arith, row-short (s .next) line r e, falls-at r (s .next) (kept .room) .1 x))
+          (omega (arith, numbers-short (s .next) line r e, falls-at r (s .next) (kept .room) .1 x))
           ∙ sym (line-right n s line more r e z)
 
       both-by : (o : Option (List ℕ)) → lineNumbers (s .next) line ≡ o → readFrom n s (line ∷ rest) ≡ readFrom n s (line ∷ more)

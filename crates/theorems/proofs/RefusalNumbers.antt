@@ -71,14 +71,14 @@ length-refuses : {A : Type 0} (P : ℕ → Type 0) (a : A) (need places : ℕ) �
 length-refuses P a need places six =
     cond-has (RefusedBy P) (leb need places) (passed a) (refused 6 need) (λ z number place e. never (cc)) (λ z number place e. let y : 6 ≡ number = cc in subst P y six)
 
-limits-refuse : (o : Outcome) → Ranged o → RefusedBy (UpTo 4) (compilable o)
-limits-refuse (R.read n j) r = cond-has (RefusedBy (UpTo 4)) (fits j) (passed j) (refused 4 n) (λ z a b e. never (cc)) (λ z a b e. let y : a ≡ 4 = cc in (omega arith, omega arith))
-limits-refuse (R.refused m p) r = λ a b e. let y : m ≡ a = cc in let x = r m p refl in (omega (arith, x .0), omega (arith, x .1))
+compilable-refuses : (o : Outcome) → Ranged o → RefusedBy (UpTo 4) (compilable o)
+compilable-refuses (R.read n j) r = cond-has (RefusedBy (UpTo 4)) (fits j) (passed j) (refused 4 n) (λ z a b e. never (cc)) (λ z a b e. let y : a ≡ 4 = cc in (omega arith, omega arith))
+compilable-refuses (R.refused m p) r = λ a b e. let y : m ≡ a = cc in let x = r m p refl in (omega (arith, x .0), omega (arith, x .1))
 
 -- of a job text: reasons 1 to 4
 pub job-number : (text : List ℕ) (number place : ℕ) → jobIn text ≡ refused number place → UpTo 4 number
 unfolding jobIn
-job-number text = limits-refuse (readJob text) (read-number text)
+job-number text = compilable-refuses (readJob text) (read-number text)
 
 offered-refuses : (j : Job) (p : PlanOutcome) → RefusedBy (UpTo 5) (offered j p)
 offered-refuses j (P.listed es) = λ a b e. never (cc)

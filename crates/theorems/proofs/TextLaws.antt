@@ -46,7 +46,7 @@ small-within c b [] (x ∷ xs) w = absurd w
 small-within c b (f ∷ fs) [] w = absurd w
 small-within c b (f ∷ fs) (x ∷ xs) w = (omega (arith, w .0, b f), small-within c b fs xs (w .1))
 
--- counts within the compilable bound every field by a small number
+-- counts within the limits bound every field by a small number
 bound-small : (c : Counts) → c .facts ≤ mostFacts → c .formulas ≤ mostFormulas → c .moves ≤ mostMoves → c .program ≤ mostProgram → (f : Field) → bound c f ≤ 65536
 bound-small c a b d e F.Unused = omega arith
 bound-small c a b d e F.Fact = omega arith

@@ -243,9 +243,9 @@ module _ (s : Reading) (r : List ℕ) where
   open-at End x h o = o
 
 -- a line that has numbers is their text
-row-text : (k : Line) (line r : List ℕ) → lineNumbers k line ≡ some r → (length r ≡ formOf k .width) × (line ≡ lineOf k r)
+numbers-text : (k : Line) (line r : List ℕ) → lineNumbers k line ≡ some r → (length r ≡ formOf k .width) × (line ≡ lineOf k r)
 unfolding lineNumbers
-row-text k line r e = let v = line-sound (formOf k .key) (formOf k .width) r line e in (v .0 .count, v .1)
+numbers-text k line r e = let v = line-sound (formOf k .key) (formOf k .width) r line e in (v .0 .count, v .1)
 
 -- the lines that were read, and that the effects due are the last move's
 abbrev toldOf : Reading → List (List ℕ)
@@ -274,7 +274,7 @@ read-text text n j e =
     ∙ ap flatten (read-has n j (λ k s ls. Kept s → Open (s .job .moves) (s .effects) → toldOf s ++ ls ≡ jobLines j)
     (λ s g f k o. append-nil (toldOf s) ∙ told-end s j g f)
     (λ k s line r ls d x f h o.
-    let v = row-text (s .next) line r d in
+    let v = numbers-text (s .next) line r d in
     ap (λ q. toldOf s ++ (q ∷ ls)) (v .1) ∙ sym (append-assoc (toldOf s) (lineOf (s .next) r ∷ []) ls)
     ∙ ap (λ q. q ++ ls) (sym (told-taken s r (v .0) x h o)) ∙ f (taken-kept s r x h) (open-taken s r x h o))
     0 begun (lines text) e begun-kept refl)

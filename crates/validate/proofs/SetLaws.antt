@@ -43,7 +43,7 @@ module _ (on : Label → Bool) (list : List ℕ) where
   abbrev L : List Step
   L = stepsOn list
 
-  -- the steps lead below 256
+  -- the steps lead to positions that have a mark
   below : Listed list → {k p q : ℕ} {l : Label} → StepAt L k p l q → q < mostPositions
   below sound s = let z = steps-only (length list / 4) list s in omega (arith, z .to, sound .to _ (z .below))
 

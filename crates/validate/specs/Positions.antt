@@ -13,7 +13,7 @@ use Rattle.validate.specs.declared.position_set.PositionSet.{PositionSet
 use Rattle.validate.specs.declared.position_set.Wanted.{Wanted}
 use Rattle.validate.specs.declared.position_set.Wanted.the-variants.{Silent, Move}
 
--- 256 marks, n of them set, and the first n members are the marked positions
+-- a mark for each position, n of them set, and the first n members are the marked positions
 pub record Counted (marks : List Bool) (members : List ℕ) (n : ℕ) : Type 0 where
   pub size : length marks ≡ mostPositions
   pub room : length members ≡ mostPositions

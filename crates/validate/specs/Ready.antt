@@ -8,14 +8,14 @@ use Rattle.limits.specs.Limits.{mostEntries}
 use Rattle.job.specs.Store.{jobOf}
 use Rattle.job.specs.Stored.{Stored}
 use Rattle.job.specs.declared.head.Head.{Head}
-use Rattle.compile.specs.CompiledJob.{stepsOf, positionCount, fits}
+use Rattle.compile.specs.CompiledJob.{stepsOf, positionCount, stepCount, fits}
 use Rattle.validate.specs.Adjacency.{stepsOn}
 
 -- a job whose compiled job is within the limits, as head and rows, and a list that holds its steps and nothing else
 pub record Ready (head : Head) (rows list : List ℕ) (count : ℕ) : Type 0 where
   pub stored : Stored head rows
   pub fit : fits (jobOf head rows) ≡ true
-  pub whole : length list ≡ length (stepsOf (jobOf head rows)) * 4
+  pub whole : length list ≡ stepCount (jobOf head rows) * 4
   pub steps : stepsOn list ≡ stepsOf (jobOf head rows)
   pub positions : count ≡ positionCount (jobOf head rows)
 

@@ -10,7 +10,7 @@ ghost use Rattle.semantics.specs.CompilingTable.{labelIn};
 ghost use Rattle.semantics.specs.Label.{make};
 ghost use Rattle.semantics.specs.StepVerdict.{arrives, made, stays, stepVerdict};
 ghost use Rattle.domain.specs.Domain.{domainIn, Tells};
-ghost use Rattle.compile.specs.CompiledJob.{stepsOf};
+ghost use Rattle.compile.specs.CompiledJob.{stepsOf, stepCount};
 ghost use Rattle.validate.specs.Adjacency.{stepsOn};
 ghost use Rattle.validate.specs.Ready.{Ready, EntriesBelow};
 ghost use Rattle.validate.specs.Arrival.{arrivalOf};
@@ -85,7 +85,7 @@ fn make_step(head: Head, rows: &[u16], list: &[u16], i: u16, state: u16, positio
 // The list holds the steps of the job's program, whose last position is the final one. Each entry is that one step.
 pub fn check_steps(head: Head, rows: &[u16], list: &[u16], positions: u16, plan: &[u16]) -> Verdict
     requires { ⌜ Ready head (now rows) (now list) positions ⌝ }
-    requires { ⌜ EntriesBelow (now plan) (length (stepsOf (jobOf head (now rows)))) ⌝ }
+    requires { ⌜ EntriesBelow (now plan) (stepCount (jobOf head (now rows))) ⌝ }
     ensures { λ r. ⌜ verdictOf r ≡ stepVerdict (domainIn head (now (rows .entry))) (stepsOf (jobOf head (now (rows .entry)))) (positions - 1) (now (plan .entry)) ⌝ }
 {
     let mut state = domain::states::start(head, rows);

@@ -70,7 +70,8 @@ returns-8 c =
     let at4 = c .before .before .before .before in
     let at6 = at4 .before .before in
     c .move-reason .ensures
-    ∙ sym (fault-of (at6 .args .next) (at6 .args .counts) (at6 .args .line) Move (c .before .enum-told7 .given .1) (not-false _ (at4 .if1 .left)) (search needs))
+    ∙ sym (fault-of (at6 .args .next) (at6 .args .counts) (at6 .args .line) Move
+    (c .before .enum-told7 .given .1) (not-false _ (at4 .if1 .left)) (search needs))
 
 returns-9 : tie.Need-returns-9
 unfolding fault

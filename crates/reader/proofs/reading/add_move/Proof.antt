@@ -13,15 +13,17 @@ use Rattle.reader.proofs.reading.add_move.Tie as tie
 
 returns : tie.Need-returns
 returns c =
-    let b = c .before .before .before .before .before .before .before .before .before .before .before .before .before in
+    let place4 = c .before .before .before .before in
+    let at7 = place4 .before .before .before in
+    let b = at7 .before .before .before .before .before .before in
     let a = b .args in
     let j = jobOf (a .s .head) (a .rows .now) in
     let n : length (a .numbers) ≡ width = search needs in
-    let at7 = c .before .before .before .before .before .before .before in
     let put = at7 .put-row .ensures ∙ ap (sets _ _) (at7 .before .before .move-row .ensures) in
-    reading-of _ _ _ _ _ _ _ _ (c .on .ensures) put (c .before .after-moves .ensures) (c .before .before .before .before .with-counts .ensures)
+    reading-of _ _ _ _ _ _ _ _ (c .on .ensures) put (c .before .after-moves .ensures) (place4 .with-counts .ensures)
     (move-added (a .s .head) (a .rows .now) (a .numbers) (b .pre .1) n (rows-within (b .pre .0)) (omega (arith, b .pre .0)))
-    ∙ ap (λ (k : ℕ). on (afterMoves (a .s .due - 1) k) (a .s .due - 1) k (addMove j (moveOf (length (j .effects)) (a .numbers)))) (c .before .before .effect-count .ensures)
+    ∙ ap (λ (k : ℕ). on (afterMoves (a .s .due - 1) k) (a .s .due - 1) k (addMove j (moveOf (length (j .effects)) (a .numbers))))
+    (c .before .before .effect-count .ensures)
 
 pub add-move-spec : {M : Type 1} → statement M
 add-move-spec =

@@ -8,7 +8,7 @@ use Rattle.job.specs.ReadJob.{refused, readFrom, readJob}
 use Rattle.job.specs.Store.{storeSize}
 use Rattle.reader.specs.Reading.{readingOf, outcomeOf}
 use Rattle.reader.proofs.KeptLaws.{Kept, taken-kept, begun-kept}
-use Rattle.reader.proofs.ReadLaws.{read-on, read-refused, read-ended, reason-of, row-of, right-of, room-of}
+use Rattle.reader.proofs.ReadLaws.{read-on, read-refused, read-ended, reason-of, numbers-of, right-of, room-of}
 use borrow.Author.Needs.{needs}
 use Rattle.reader.proofs.reading.read_job.Statement.{statement}
 use Rattle.reader.proofs.reading.read_job.Tie as tie
@@ -105,7 +105,7 @@ loop-again c =
       subst Kept (sym f)
           (taken-kept (readingOf (l .s) (l .rows)) _ (right-of (l .s) (l .rows) _ (at7 .read-line .result) (at7 .read-line .ensures) z) (l .inv .3)),
       read-on t (l .at) _ (l .n) (readingOf (l .s) (l .rows)) (at9 .before .loop-test .taken) (at9 .line-end .ensures) (l .inv .4) _
-          (row-of (l .s) (l .rows) _ (at7 .read-line .result) (at7 .read-line .ensures) z) (sym e ∙ z)
+          (numbers-of (l .s) (l .rows) _ (at7 .read-line .result) (at7 .read-line .ensures) z) (sym e ∙ z)
           ∙ ap (λ q. readFrom (l .n + 1) q (lines (drop (at9 .line-end .result) t))) (sym f),
     )
 

@@ -9,7 +9,7 @@ use Rattle.domain.proofs.DomainLaws.{states-few}
 use Rattle.validate.proofs.ReadyLaws.{ready-listed, some-position}
 use Rattle.sweep.specs.Queue.{queueSize}
 use Rattle.sweep.proofs.GraphLaws.{positions-few, steps-indexed}
-use Rattle.search.proofs.FillLaws.{start-inside, start-below, start-relaxed, search-ready, settled-fills}
+use Rattle.search.proofs.FillLaws.{start-inside, start-below, start-relaxed, search-ready, exhausted-fills}
 use borrow.Author.Needs.{needs}
 use Rattle.search.proofs.fill.fill.Statement.{statement}
 use Rattle.search.proofs.fill.fill.Tie as tie
@@ -103,7 +103,7 @@ returns c =
     let at19 = at7 .before .before .before .before .before .before .before .before .before .before .before .before in
     let at25 = at19 .before .before .before .before .before .before in
     let p = at25 .pre in
-    settled-fills (p .0 .0) (p .0 .1) _ (p .1) (at19 .start .ensures) (at7 .before .before .before .clear .ensures)
+    exhausted-fills (p .0 .0) (p .0 .1) _ (p .1) (at19 .start .ensures) (at7 .before .before .before .clear .ensures)
     (rw (at7 .cell .ensures) at (c .before .before .before .settle .ensures))
 
 pub fill-spec : {M : Type 1} → statement M
