@@ -9,6 +9,7 @@ ghost use Rattle.job.specs.Stored.{Stored};
 ghost use Rattle.domain.specs.State.{afterEffect, applied};
 ghost use Rattle.domain.specs.Domain.{domainIn};
 use job::head::Head;
+use job::stored::Move;
 
 // 1 for true, 0 for false.
 fn bit(b: bool) -> u16
@@ -29,20 +30,21 @@ fn apply_effect(head: Head, rows: &[u16], values: &[bool], v: u16, k: u16, state
     crate::facts::put_fact(times, state, effect.fact, v)
 }
 
-// The state after so many effects from number `first` on, of which those are made that hold by the formulas' values and give their fact the value v.
+// The state after a move's effects, of which those are made that hold by the formulas' values and give their fact the value v.
 pub fn apply_effects(
     head: Head,
     rows: &[u16],
     values: &[bool],
     v: u16,
-    first: u16,
-    count: u16,
+    made: Move,
     state: u16,
 ) -> u16
     requires { ⌜ Stored head (now rows) ⌝ }
-    requires { ⌜ (first + count ≤ head .counts .effects) × (state < domainIn head (now rows) .states) ⌝ }
-    ensures { λ r. ⌜ r ≡ applied (now (values .entry)) v (take count (drop first (jobOf head (now (rows .entry)) .effects))) state ⌝ }
+    requires { ⌜ (made .first + made .effects ≤ head .counts .effects) × (state < domainIn head (now rows) .states) ⌝ }
+    ensures { λ r. ⌜ r ≡ applied (now (values .entry)) v (take (made .effects) (drop (made .first) (jobOf head (now (rows .entry)) .effects))) state ⌝ }
 {
+    let first = made.first;
+    let count = made.effects;
     let mut reached = state;
     let mut k: u16 = 0;
     while k < count {

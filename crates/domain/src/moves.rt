@@ -45,16 +45,8 @@ pub fn successor(head: Head, rows: &[u16], values: &[bool], m: u16, state: u16) 
 {
     let made = job::stored::move_at(head, rows, m);
     if crate::formulas::value_at(values, made.pre) {
-        let cleared = apply_effects(head, rows, values, 0, made.first, made.effects, state);
-        return Successor::To(apply_effects(
-            head,
-            rows,
-            values,
-            1,
-            made.first,
-            made.effects,
-            cleared,
-        ));
+        let cleared = apply_effects(head, rows, values, 0, made, state);
+        return Successor::To(apply_effects(head, rows, values, 1, made, cleared));
     }
     Successor::Inapplicable
 }

@@ -11,11 +11,11 @@ use Rattle.domain.proofs.effects.apply_effects.Statement.{statement}
 use Rattle.domain.proofs.effects.apply_effects.Tie as tie
 
 abbrev Inv-loop : tie.InvT-loop
-Inv-loop head rows values v first count state reached₀ k₀ reached k =
+Inv-loop head rows values v state first count reached₀ k₀ reached k =
     (k ≤ count) × (reached ≡ applied values v (take k (drop first (jobOf head rows .effects))) state)
 
 abbrev μ-loop : tie.MeasureT-loop
-μ-loop head rows values v first count state reached₀ k₀ reached k = count - k
+μ-loop head rows values v state first count reached₀ k₀ reached k = count - k
 
 loop-holds : tie.Need-loop-holds Inv-loop μ-loop
 unfolding applied
@@ -31,7 +31,7 @@ apply-effect-requires : tie.Need-apply-effect-requires Inv-loop μ-loop
 apply-effect-requires c κs =
     let a = c .before .before .before .before .args in
     let p = c .before .before .before .before .pre in
-    let below = applied-below (jobOf (a .head) (a .rows .now)) (p .0 .job) (a .first) (c .before .loop .k) (a .values .now) (a .v) (a .state) (p .1 .1) in
+    let below = applied-below (jobOf (a .head) (a .rows .now)) (p .0 .job) (a .made .first) (c .before .loop .k) (a .values .now) (a .v) (a .state) (p .1 .1) in
     (p .0, (omega (arith, p .1 .0), rw (c .before .loop .inv .1) below))
 
 loop-again : tie.Need-loop-again Inv-loop μ-loop
@@ -41,12 +41,12 @@ loop-again c =
     let a = at5 .args in
     let p = at5 .pre in
     let n = effect-count (a .head) (a .rows .now) in
-    let more = applied-more (a .values .now) (jobOf (a .head) (a .rows .now) .effects) (a .first) (a .v) (at2 .loop .k)
+    let more = applied-more (a .values .now) (jobOf (a .head) (a .rows .now) .effects) (a .made .first) (a .v) (at2 .loop .k)
     (a .state) (at2 .loop .reached) _ (omega (arith, p .1 .0)) (at2 .loop .inv .1) (c .apply-effect .ensures) in
     (omega arith, more)
 
 returns : tie.Need-returns Inv-loop μ-loop
-returns c = let e : c .before .loop .k ≡ c .before .before .before .before .args .count = omega arith in rw e at (c .before .loop .inv .1)
+returns c = let e : c .before .loop .k ≡ c .before .before .before .before .args .made .effects = omega arith in rw e at (c .before .loop .inv .1)
 
 pub apply-effects-spec : {M : Type 1} → statement M
 apply-effects-spec =
