@@ -8,7 +8,7 @@ ghost use Rattle.semantics.specs.Cells.{Relaxed};
 ghost use Rattle.domain.specs.Domain.{domainIn};
 ghost use Rattle.compile.specs.CompiledJob.{stepsOf};
 ghost use Rattle.validate.specs.Ready.{Ready};
-ghost use Rattle.sweep.specs.Sweeps.{graphOf, Keyed};
+ghost use Rattle.sweep.specs.Sweeps.{graphOf, Keyed, graphIn, domainAt};
 ghost use Rattle.sweep.specs.Relaxation.{Better};
 ghost use Rattle.search.specs.Filling.{Search, Exhausted};
 use job::head::Head;
@@ -30,9 +30,9 @@ fn visit(
     origin: Origin,
 )
     requires { ⌜ Search (origin .head) (now rows) (now list) (now adjacency) (origin .grid) (now costs) (now queue) ⌝ }
-    requires { ⌜ (origin .state < domainIn (origin .head) (now rows) .states) × (getD (now queue) (origin .state) 0 < unreached) ⌝ }
-    requires { ⌜ Relaxed (graphOf (origin .head) (now rows) (now list) (origin .grid .positions)) (Keyed (now queue)) (now costs) ⌝ }
-    ensures { λ _. ⌜ Better (graphOf (origin .head) (now (rows .entry)) (now (list .entry)) (origin .grid .positions)) (domainIn (origin .head) (now (rows .entry)) .states) (now (costs .entry)) (now (queue .entry)) (now (costs .exit)) (now (queue .exit)) ⌝ }
+    requires { ⌜ (origin .state < domainAt origin (now rows) .states) × (getD (now queue) (origin .state) 0 < unreached) ⌝ }
+    requires { ⌜ Relaxed (graphIn origin (now rows) (now list)) (Keyed (now queue)) (now costs) ⌝ }
+    ensures { λ _. ⌜ Better (graphIn origin (now (rows .entry)) (now (list .entry))) (domainAt origin (now (rows .entry)) .states) (now (costs .entry)) (now (queue .entry)) (now (costs .exit)) (now (queue .exit)) ⌝ }
 {
     let values = domain::formulas::formula_values(origin.head, rows, origin.state);
     let mut cache = [0u16; CACHE];

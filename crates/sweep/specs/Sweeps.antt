@@ -6,14 +6,23 @@ use mathlib.Core.List.{List}
 use lib.ListN.{length, getD}
 use Rattle.limits.specs.Limits.{mostPositions}
 use Rattle.job.specs.declared.head.Head.{Head}
+use Rattle.semantics.specs.Domain.{Domain}
 use Rattle.semantics.specs.CostTable.{unreached}
 use Rattle.semantics.specs.Cells.{Graph, Claim, total, sum}
 use Rattle.domain.specs.Domain.{domainIn}
+use Rattle.sweep.specs.declared.Origin.{Origin}
 use Rattle.validate.specs.Adjacency.{stepsOn, Listed, Adjacency}
 
 -- the compiled job of a list's steps
 abbrev pub graphOf : Head → List ℕ → List ℕ → ℕ → Graph
 graphOf head rows list positions = record { domain = domainIn head rows; steps = stepsOn list; positions = positions }
+
+-- the domain and the graph of an origin
+abbrev pub domainAt : Origin → List ℕ → Domain
+domainAt origin rows = domainIn (origin .head) rows
+
+abbrev pub graphIn : Origin → List ℕ → List ℕ → Graph
+graphIn origin rows list = graphOf (origin .head) rows list (origin .grid .positions)
 
 -- what falls with each sweep: the entries, and where they stay, the distance of the n keys from `unreached`
 abbrev pub potential : ℕ → List ℕ → List ℕ → ℕ

@@ -5,13 +5,12 @@ ghost use mathlib.Core.Path.{_≡_};
 ghost use Prim.Native.Nat.{_*_, _≤_, _<_};
 ghost use lib.ListN.{length};
 ghost use Rattle.limits.specs.Limits.{mostPositions};
-ghost use Rattle.domain.specs.Domain.{domainIn};
 ghost use Rattle.semantics.specs.CompilingTable.{labelIn};
 ghost use Rattle.semantics.specs.Cells.{cell, Relaxed};
 ghost use Rattle.validate.specs.Ready.{Ready};
 ghost use Rattle.sweep.specs.Queue.{Queue};
 ghost use Rattle.sweep.specs.Successors.{Cached};
-ghost use Rattle.sweep.specs.Sweeps.{graphOf, Indexed, Only, Processed};
+ghost use Rattle.sweep.specs.Sweeps.{Indexed, Only, Processed, graphIn, domainAt};
 ghost use Rattle.sweep.specs.Relaxation.{Sweep, Relaxing, Stepped, Scanned};
 use crate::Front;
 use crate::Origin;
@@ -71,7 +70,7 @@ fn follow(
     next: usize,
 ) -> usize
     requires { ⌜ Sweep origin (now rows) (now values) (now costs) (now queue) (now cache) × (step .to < origin .grid .positions) × (length (now marks) ≡ mostPositions) ⌝ }
-    ensures { λ r. ⌜ Stepped (domainIn (origin .head) (now (rows .entry))) (origin .grid .positions) (labelIn (step .kind) (step .arg)) (origin .state) (step .to) x next (now (costs .entry)) (now (queue .entry)) (now (marks .entry)) (now (costs .exit)) (now (queue .exit)) (now (marks .exit)) r × Cached (domainIn (origin .head) (now (rows .entry))) (origin .state) (now (cache .exit)) ⌝ }
+    ensures { λ r. ⌜ Stepped (domainAt origin (now (rows .entry))) (origin .grid .positions) (labelIn (step .kind) (step .arg)) (origin .state) (step .to) x next (now (costs .entry)) (now (queue .entry)) (now (marks .entry)) (now (costs .exit)) (now (queue .exit)) (now (marks .exit)) r × Cached (domainAt origin (now (rows .entry))) (origin .state) (now (cache .exit)) ⌝ }
 {
     let target = crate::targets::lead(rows, values, cache, origin, step);
     let made = target.made;
@@ -96,8 +95,8 @@ pub fn scan(
 ) -> usize
     requires { ⌜ Ready (origin .head) (now rows) (now list) (origin .grid .positions) × Indexed (now list) (now adjacency) (origin .grid .positions) ⌝ }
     requires { ⌜ Sweep origin (now rows) (now values) (now costs) (now queue) (now cache) × (front .position < origin .grid .positions) × (length (now marks) ≡ mostPositions) ⌝ }
-    requires { ⌜ Relaxed (graphOf (origin .head) (now rows) (now list) (origin .grid .positions)) (Only (now queue) (origin .state) (Processed (front .key) (front .position) (now marks) 0 0)) (now costs) ⌝ }
-    ensures { λ r. ⌜ Scanned (graphOf (origin .head) (now (rows .entry)) (now (list .entry)) (origin .grid .positions)) (domainIn (origin .head) (now (rows .entry)) .states) (origin .state) (front .key) (front .position) (now (costs .entry)) (now (queue .entry)) (now (costs .exit)) (now (queue .exit)) (now (marks .exit)) r × Cached (domainIn (origin .head) (now (rows .entry))) (origin .state) (now (cache .exit)) ⌝ }
+    requires { ⌜ Relaxed (graphIn origin (now rows) (now list)) (Only (now queue) (origin .state) (Processed (front .key) (front .position) (now marks) 0 0)) (now costs) ⌝ }
+    ensures { λ r. ⌜ Scanned (graphIn origin (now (rows .entry)) (now (list .entry))) (domainAt origin (now (rows .entry)) .states) (origin .state) (front .key) (front .position) (now (costs .entry)) (now (queue .entry)) (now (costs .exit)) (now (queue .exit)) (now (marks .exit)) r × Cached (domainAt origin (now (rows .entry))) (origin .state) (now (cache .exit)) ⌝ }
 {
     let key = front.key;
     let p = front.position;

@@ -1,11 +1,10 @@
 // One state swept.
 ghost use Prim.Native.Nat.{_<_};
 ghost use lib.ListN.{getD};
-ghost use Rattle.domain.specs.Domain.{domainIn};
 ghost use Rattle.semantics.specs.CostTable.{unreached};
 ghost use Rattle.semantics.specs.Cells.{Relaxed};
 ghost use Rattle.validate.specs.Ready.{Ready};
-ghost use Rattle.sweep.specs.Sweeps.{graphOf, Indexed, Keyed};
+ghost use Rattle.sweep.specs.Sweeps.{Indexed, Keyed, graphIn, domainAt};
 ghost use Rattle.sweep.specs.Relaxation.{Sweep, Better};
 use crate::Front;
 use crate::Origin;
@@ -26,8 +25,8 @@ pub fn sweep(
 )
     requires { ⌜ Ready (origin .head) (now rows) (now list) (origin .grid .positions) × Indexed (now list) (now adjacency) (origin .grid .positions) ⌝ }
     requires { ⌜ Sweep origin (now rows) (now values) (now costs) (now queue) (now cache) × (getD (now queue) (origin .state) 0 < unreached) ⌝ }
-    requires { ⌜ Relaxed (graphOf (origin .head) (now rows) (now list) (origin .grid .positions)) (Keyed (now queue)) (now costs) ⌝ }
-    ensures { λ _. ⌜ Better (graphOf (origin .head) (now (rows .entry)) (now (list .entry)) (origin .grid .positions)) (domainIn (origin .head) (now (rows .entry)) .states) (now (costs .entry)) (now (queue .entry)) (now (costs .exit)) (now (queue .exit)) ⌝ }
+    requires { ⌜ Relaxed (graphIn origin (now rows) (now list)) (Keyed (now queue)) (now costs) ⌝ }
+    ensures { λ _. ⌜ Better (graphIn origin (now (rows .entry)) (now (list .entry))) (domainAt origin (now (rows .entry)) .states) (now (costs .entry)) (now (queue .entry)) (now (costs .exit)) (now (queue .exit)) ⌝ }
 {
     let s = origin.state as usize;
     let positions = origin.grid.positions as usize;

@@ -1,8 +1,8 @@
 // Where steps lead from a state.
 ghost use mathlib.Core.Path.{_≡_};
-ghost use Rattle.domain.specs.Domain.{domainIn};
 ghost use Rattle.semantics.specs.CompilingTable.{labelIn};
 ghost use Rattle.sweep.specs.Successors.{Cached};
+ghost use Rattle.sweep.specs.Sweeps.{domainAt};
 ghost use Rattle.sweep.specs.Targets.{Standing, Reaches};
 use crate::Origin;
 use crate::steps::OutStep;
@@ -25,7 +25,7 @@ pub fn lead(
     step: OutStep,
 ) -> Target
     requires { ⌜ Standing (origin .head) (now rows) (now values) (origin .state) (now cache) ⌝ }
-    ensures { λ r. ⌜ Reaches (domainIn (origin .head) (now (rows .entry))) (labelIn (step .kind) (step .arg)) (origin .state) (r .made) (r .state) (r .cost) × (r .position ≡ step .to) × Cached (domainIn (origin .head) (now (rows .entry))) (origin .state) (now (cache .exit)) ⌝ }
+    ensures { λ r. ⌜ Reaches (domainAt origin (now (rows .entry))) (labelIn (step .kind) (step .arg)) (origin .state) (r .made) (r .state) (r .cost) × (r .position ≡ step .to) × Cached (domainAt origin (now (rows .entry))) (origin .state) (now (cache .exit)) ⌝ }
 {
     let head = origin.head;
     let state = origin.state;
