@@ -1,37 +1,34 @@
--- What checking a plan text against a job text answers.
-use Prim.Native.Nat.{ℕ, _-_}
+-- What checking a plan text against a job text promises.
+use Prim.Native.Nat.{ℕ}
 use mathlib.Core.Path.{_≡_}
+use mathlib.Core.Bool.{true, false}
 use mathlib.Core.List.{List}
 use lib.ListN.{length}
 use Rattle.semantics.specs.Verdict.{Verdict, Judged, byRuns, bySteps}
-use Rattle.domain.specs.Domain.{domainOf}
-use Rattle.compile.specs.Program.{programOf}
-use Rattle.compile.specs.CompiledJob.{stepsOf, positionCount}
-use Rattle.validate.specs.Verdict.{verdictOf}
-use Rattle.validate.specs.declared.verdict.Verdict as A
-use Rattle.offers.specs.Refusals as C
-use Rattle.offers.specs.Refusals.{Checked, Offer, next, jobsOf, offerIn, listLong}
-use Rattle.offers.specs.declared.offer.Sort.{Sort}
-use Rattle.offers.specs.declared.offer.Sort.the-variants.{Moves, Steps}
+use Rattle.load.specs.Refusals.{Handed}
+use Rattle.load.specs.View.{View, viewSteps, finalOf, viewIn}
+use Rattle.load.specs.declared.request.Sort.{Sort}
+use Rattle.load.specs.declared.request.Sort.the-variants.{Moves, Steps}
+use Rattle.jesmovit.specs.Outcomes.{checkOutcome}
+use Rattle.jesmovit.specs.Answers.{Answers}
 use Rattle.jesmovit.specs.Compiling.{listAfter}
 use Rattle.jesmovit.specs.declared.checking.CheckAnswer.{CheckAnswer}
-use Rattle.jesmovit.specs.declared.checking.CheckAnswer.the-variants.{Said, Refused}
 
--- the plan that is checked, with a list of so many places for its job's steps, or the refusal: "6 doesn't look at the plan"
-unfoldable pub checking : Sort → List ℕ → List ℕ → ℕ → Checked Offer
-checking sort text plan places = next (offerIn sort text plan) (λ o. listLong places (o .job) o)
+-- what is handed in: a job text, a plan text, and a list of so many places
+abbrev pub checking : Sort → List ℕ → List ℕ → ℕ → Handed
+checking sort text plan places =
+    record { request = record { plan = true; sort = sort; places = places; table = false; cells = 0 }; job = text; plan = plan }
 
 -- a verdict of "Verdicts": on moves by the runs of the program itself, on steps by the paths of the compiled job
-abbrev pub Says : Sort → Offer → Verdict → Type 0
-Says Moves o v = Judged (domainOf (o .job)) (byRuns (domainOf (o .job)) (programOf (o .job))) (o .entries) v
-Says Steps o v = Judged (domainOf (o .job)) (bySteps (domainOf (o .job)) (stepsOf (o .job)) (positionCount (o .job) - 1)) (o .entries) v
+abbrev pub Says : Sort → View → Verdict → Type 0
+Says Moves v w = Judged (v .domain) (byRuns (v .domain) (v .program)) (v .entries) w
+Says Steps v w = Judged (v .domain) (bySteps (v .domain) (viewSteps v) (finalOf v)) (v .entries) w
 
--- the answer: "A refusal comes before every verdict"
-pub data Answers (sort : Sort) : Checked Offer → CheckAnswer → Type 0 where
-  says : {o : Offer} {v : A.Verdict} → Says sort o (verdictOf v) → Answers sort (C.passed o) (Said v)
-  refuses : {number place : ℕ} → Answers sort (C.refused number place) (Refused (record { number = number; place = place }))
+-- the verdict is answered, and the list holds the steps
+pub record Tells (sort : Sort) (v : View) (w : Verdict) (old new : List ℕ) : Type 0 where
+  pub says : Says sort v w
+  pub list : new ≡ listAfter v old
 
--- the whole promise of a check: the answer, and what the list holds afterwards
-pub record Checks (sort : Sort) (text plan list : List ℕ) (answer : CheckAnswer) (after : List ℕ) : Type 0 where
-  pub answers : Answers sort (checking sort text plan (length list)) answer
-  pub holds : after ≡ listAfter (jobsOf (checking sort text plan (length list))) list
+abbrev pub Checks : Sort → List ℕ → List ℕ → List ℕ → CheckAnswer → List ℕ → Type 0
+Checks sort text plan list answer after =
+    Answers (Tells sort) list (viewIn (checking sort text plan (length list))) (checkOutcome answer) after

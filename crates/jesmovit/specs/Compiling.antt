@@ -1,24 +1,36 @@
--- What compiling a job text answers, and what the list then holds.
+-- What compiling a job text promises.
 use Prim.Native.Nat.{ℕ}
-use mathlib.Core.List.{List}
+use mathlib.Core.Path.{_≡_}
+use mathlib.Core.Bool.{false}
+use mathlib.Core.List.{List, []}
+use lib.ListN.{length}
 use lib.Seq.{sets}
-use Rattle.job.specs.Job.{Job}
 use Rattle.semantics.specs.CompilingTable.{flat}
-use Rattle.compile.specs.CompiledJob.{stepsOf, positionCount, stepCount}
-use Rattle.offers.specs.Refusals as C
-use Rattle.offers.specs.Refusals.{Checked, next, jobIn, listLong}
+use Rattle.compile.specs.declared.sizes.Sizes.{Sizes}
+use Rattle.load.specs.Refusals.{Handed}
+use Rattle.load.specs.View.{View, viewSteps, positionsOf, viewIn}
+use Rattle.load.specs.declared.request.Sort.the-variants.{Moves}
+use Rattle.jesmovit.specs.Outcomes.{compileOutcome}
+use Rattle.jesmovit.specs.Answers.{Answers}
 use Rattle.jesmovit.specs.declared.compiling.CompileAnswer.{CompileAnswer}
-use Rattle.jesmovit.specs.declared.compiling.CompileAnswer.the-variants.{Compiled, Refused}
 
--- the job that is compiled into a list of so many places, or the refusal
-unfoldable pub compiling : List ℕ → ℕ → Checked Job
-compiling text places = next (jobIn text) (λ j. listLong places j j)
+-- what is handed in: a job text, and a list of so many places
+abbrev pub compiling : List ℕ → ℕ → Handed
+compiling text places =
+    record { request = record { plan = false; sort = Moves; places = places; table = false; cells = 0 }; job = text; plan = [] }
 
-abbrev pub compileAnswer : Checked Job → CompileAnswer
-compileAnswer (C.passed j) = Compiled (positionCount j) (stepCount j)
-compileAnswer (C.refused number place) = Refused (record { number = number; place = place })
+-- "it is filled whenever nothing is refused, and its later entries don't change"
+abbrev pub listAfter : View → List ℕ → List ℕ
+listAfter v list = sets list 0 (flat (viewSteps v))
 
--- "it is filled whenever nothing is refused, and its later entries don't change"; "A refusal … changes no list or table."
-abbrev pub listAfter : Checked Job → List ℕ → List ℕ
-listAfter (C.passed j) list = sets list 0 (flat (stepsOf j))
-listAfter (C.refused number place) list = list
+-- how many positions and steps the compiled job has
+abbrev pub sizesOf : View → Sizes
+sizesOf v = record { positions = positionsOf v; steps = length (viewSteps v) }
+
+-- the sizes are answered, and the list holds the steps
+pub record Lists (v : View) (sizes : Sizes) (old new : List ℕ) : Type 0 where
+  pub sized : sizes ≡ sizesOf v
+  pub list : new ≡ listAfter v old
+
+abbrev pub Compiles : List ℕ → List ℕ → CompileAnswer → List ℕ → Type 0
+Compiles text list answer after = Answers Lists list (viewIn (compiling text (length list))) (compileOutcome answer) after

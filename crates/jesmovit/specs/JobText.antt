@@ -1,9 +1,19 @@
--- What reading a job text answers: the counts of the job, or the refusal's number and place.
+-- What reading a job text promises.
+use Prim.Native.Nat.{ℕ}
+use mathlib.Core.Path.{_≡_}
+use mathlib.Core.List.{List}
 use Rattle.job.specs.Job.{countsOf}
-use Rattle.job.specs.ReadJob.{Outcome, read, refused}
+use Rattle.job.specs.ReadJob.{Outcome, read, refused, readJob}
+use Rattle.job.specs.declared.head.Counts.{Counts}
+use Rattle.load.specs.Refusals as C
+use Rattle.load.specs.Refusals.{Checked}
+use Rattle.jesmovit.specs.Outcomes.{readOutcome}
 use Rattle.jesmovit.specs.declared.job_text.ReadAnswer.{ReadAnswer}
-use Rattle.jesmovit.specs.declared.job_text.ReadAnswer.the-variants.{Read, Refused}
 
-abbrev pub readAnswer : Outcome → ReadAnswer
-readAnswer (read lines job) = Read (countsOf job)
-readAnswer (refused number place) = Refused (record { number = number; place = place })
+-- the counts of the job that is read, or the refusal's number and place
+abbrev pub countsIn : Outcome → Checked Counts
+countsIn (read lines job) = C.passed (countsOf job)
+countsIn (refused number place) = C.refused number place
+
+abbrev pub Reads : List ℕ → ReadAnswer → Type 0
+Reads text answer = readOutcome answer ≡ countsIn (readJob text)

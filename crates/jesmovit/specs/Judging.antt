@@ -1,81 +1,80 @@
--- What the least cost of a job text, and judging a plan text, answer, and what the cost table then holds.
+-- What the least cost of a job text, and judging a plan text, promise.
 use Prim.Native.Nat.{ℕ}
 use mathlib.Core.Path.{_≡_}
-use mathlib.Core.Bool.{cond}
-use mathlib.Core.List.{List}
+use mathlib.Core.Bool.{true, false, cond}
+use mathlib.Core.Option.{Option, none, some}
+use mathlib.Core.List.{List, []}
 use lib.Dec.{leb}
 use lib.ListN.{length}
-use Rattle.job.specs.Job.{Job}
 use Rattle.semantics.specs.Plan.{Allowed, Least}
 use Rattle.semantics.specs.CostTable.{Filled}
-use Rattle.semantics.specs.Judgement as J
-use Rattle.semantics.specs.Judgement.{Finds, least, dearer, other}
-use Rattle.domain.specs.Domain.{domainOf}
-use Rattle.compile.specs.Program.{programOf}
-use Rattle.compile.specs.CompiledJob.{stepsOf, positionCount, stepCount}
-use Rattle.validate.specs.Verdict.{verdictOf}
-use Rattle.offers.specs.Refusals as C
-use Rattle.offers.specs.Refusals.{Checked, Offer, next, jobsOf, tableLong}
-use Rattle.offers.specs.declared.offer.Sort.the-variants.{Moves}
-use Rattle.jesmovit.specs.Compiling.{compiling, listAfter}
-use Rattle.jesmovit.specs.Checking.{checking}
+use Rattle.semantics.specs.Judgement.{Judgement, Finds, least, dearer, other}
+use Rattle.load.specs.Refusals.{Handed}
+use Rattle.load.specs.View.{View, viewSteps, positionsOf, viewIn}
+use Rattle.load.specs.declared.request.Sort.the-variants.{Moves}
+use Rattle.jesmovit.specs.Outcomes.{leastOutcome, Judged, judgeOutcome}
+use Rattle.jesmovit.specs.Answers.{Answers}
+use Rattle.jesmovit.specs.Compiling.{listAfter, sizesOf}
+use Rattle.jesmovit.specs.declared.judging.Judgement as Said
 use Rattle.jesmovit.specs.declared.judging.LeastAnswer.{LeastAnswer}
-use Rattle.jesmovit.specs.declared.judging.LeastAnswer.the-variants.{Costs, NoPlan, Refused}
-use Rattle.jesmovit.specs.declared.judging.Judgement.{Judgement}
-use Rattle.jesmovit.specs.declared.judging.Judgement.the-variants.{Least as SaidLeast, Dearer, Other}
 use Rattle.jesmovit.specs.declared.judging.JudgeAnswer.{JudgeAnswer}
-use Rattle.jesmovit.specs.declared.judging.JudgeAnswer.the-variants.{Judged, Refused as NotJudged}
 
--- the job whose least cost is found, with a list and a cost table of so many places, or the refusal: "Where it and a cost table are both too short, it
--- decides."
-unfoldable pub costing : List ℕ → ℕ → ℕ → Checked Job
-costing text places cells = next (compiling text places) (λ j. tableLong cells j j)
+-- what is handed in: a job text, a list of so many places and a table of so many cells
+abbrev pub costing : List ℕ → ℕ → ℕ → Handed
+costing text places cells =
+    record { request = record { plan = false; sort = Moves; places = places; table = true; cells = cells }; job = text; plan = [] }
 
--- the plan that is judged, the same way: "6 doesn't look at the plan"
-unfoldable pub judging : List ℕ → List ℕ → ℕ → ℕ → Checked Offer
-judging text plan places cells = next (checking Moves text plan places) (λ o. tableLong cells (o .job) o)
+-- and a list of moves
+abbrev pub judging : List ℕ → List ℕ → ℕ → ℕ → Handed
+judging text plan places cells =
+    record { request = record { plan = true; sort = Moves; places = places; table = true; cells = cells }; job = text; plan = plan }
+
+-- what is lent: a list and a cost table
+pub record Lent : Type 0 where
+  pub list : List ℕ
+  pub table : List ℕ
 
 -- the cost table of a job
-abbrev pub TableOf : Job → List ℕ → List ℕ → Type 0
-TableOf j = Filled (domainOf j) (stepsOf j) (positionCount j)
+abbrev pub TableOf : View → List ℕ → List ℕ → Type 0
+TableOf v = Filled (v .domain) (viewSteps v) (positionsOf v)
 
--- "Least cost fills it and answers the cost, or none exactly when no plan of any length exists."
-pub data CostAnswers (old new : List ℕ) : Checked Job → LeastAnswer → Type 0 where
-  costs : {j : Job} {c : ℕ} → Least (domainOf j) (programOf j) c → TableOf j old new → CostAnswers old new (C.passed j) (Costs c)
-  no-plan : {j : Job} → ((ms : List ℕ) → Allowed (domainOf j) (programOf j) ms → ⊥) → TableOf j old new → CostAnswers old new (C.passed j) NoPlan
-  not-costed : {number place : ℕ} → new ≡ old → CostAnswers old new (C.refused number place) (Refused (record { number = number; place = place }))
+-- "the cost, or none exactly when no plan of any length exists"
+pub data LowestIs (v : View) : Option ℕ → Type 0 where
+  costs : {c : ℕ} → Least (v .domain) (v .program) c → LowestIs v (some c)
+  no-plan : ((ms : List ℕ) → Allowed (v .domain) (v .program) ms → ⊥) → LowestIs v none
 
--- the whole promise of the least cost: the answer, and what the list and the table hold afterwards
-pub record CostsLeast (text list table : List ℕ) (answer : LeastAnswer) (steps-after table-after : List ℕ) : Type 0 where
-  pub answers : CostAnswers table table-after (costing text (length list) (length table)) answer
-  pub holds : steps-after ≡ listAfter (costing text (length list) (length table)) list
+-- "Least cost fills it and answers the cost, or none"
+pub record Costs (v : View) (lowest : Option ℕ) (old new : Lent) : Type 0 where
+  pub is : LowestIs v lowest
+  pub list : new .list ≡ listAfter v (old .list)
+  pub table : TableOf v (old .table) (new .table)
 
--- the paper's judgement and its values for each case of the answer
-abbrev pub judgementOf : Judgement → J.Judgement
-judgementOf (SaidLeast cost) = least cost
-judgementOf (Dearer cost low) = dearer cost low
-judgementOf (Other v) = other (verdictOf v)
+abbrev pub CostsLeast : List ℕ → List ℕ → List ℕ → LeastAnswer → List ℕ → List ℕ → Type 0
+CostsLeast text list table answer steps-after table-after =
+    Answers Costs (record { list = list; table = table }) (viewIn (costing text (length list) (length table))) (leastOutcome answer)
+    (record { list = steps-after; table = table-after })
 
 -- a plan's cost beside the least cost: "least or dearer with both costs"
-abbrev pub compared : ℕ → ℕ → Judgement
-compared cost low = cond (leb cost low) (SaidLeast cost) (Dearer cost low)
+abbrev pub compared : ℕ → ℕ → Said.Judgement
+compared cost low = cond (leb cost low) (Said.the-variants.Least cost) (Said.the-variants.Dearer cost low)
 
 -- "The judge fills it only for a plan"
-abbrev pub TableFor : Job → J.Judgement → List ℕ → List ℕ → Type 0
-TableFor j (least c) old new = TableOf j old new
-TableFor j (dearer c b) old new = TableOf j old new
-TableFor j (other v) old new = new ≡ old
+abbrev pub TableFor : View → Judgement → List ℕ → List ℕ → Type 0
+TableFor v (least c) old new = TableOf v old new
+TableFor v (dearer c b) old new = TableOf v old new
+TableFor v (other w) old new = new ≡ old
 
 -- both, of a list of moves
-abbrev pub Found : Job → List ℕ → Judgement → List ℕ → List ℕ → Type 0
-Found j ms g old new = Finds (domainOf j) (programOf j) ms (judgementOf g) × TableFor j (judgementOf g) old new
+pub record Found (v : View) (g : Judgement) (old new : List ℕ) : Type 0 where
+  pub finds : Finds (v .domain) (v .program) (v .entries) g
+  pub table : TableFor v g old new
 
-pub data JudgeAnswers (old new : List ℕ) : Checked Offer → JudgeAnswer → Type 0 where
-  judges : {o : Offer} {g : Judgement} → Finds (domainOf (o .job)) (programOf (o .job)) (o .entries) (judgementOf g) → TableFor (o .job) (judgementOf g) old new
-      → JudgeAnswers old new (C.passed o) (Judged (positionCount (o .job)) (stepCount (o .job)) g)
-  not-judged : {number place : ℕ} → new ≡ old → JudgeAnswers old new (C.refused number place) (NotJudged (record { number = number; place = place }))
+pub record Decides (v : View) (judged : Judged) (old new : Lent) : Type 0 where
+  pub sized : judged .sizes ≡ sizesOf v
+  pub list : new .list ≡ listAfter v (old .list)
+  pub found : Found v (judged .judgement) (old .table) (new .table)
 
--- the whole promise of the judge: the answer, and what the list and the table hold afterwards
-pub record Judges (text plan list table : List ℕ) (answer : JudgeAnswer) (steps-after table-after : List ℕ) : Type 0 where
-  pub answers : JudgeAnswers table table-after (judging text plan (length list) (length table)) answer
-  pub holds : steps-after ≡ listAfter (jobsOf (judging text plan (length list) (length table))) list
+abbrev pub Judges : List ℕ → List ℕ → List ℕ → List ℕ → JudgeAnswer → List ℕ → List ℕ → Type 0
+Judges text plan list table answer steps-after table-after =
+    Answers Decides (record { list = list; table = table }) (viewIn (judging text plan (length list) (length table))) (judgeOutcome answer)
+    (record { list = steps-after; table = table-after })

@@ -1,3 +1,5 @@
+pub mod Outcomes
+pub mod Answers
 pub mod JobText
 pub mod Compiling
 pub mod Checking

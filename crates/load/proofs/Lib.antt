@@ -1,0 +1,4 @@
+pub mod StageLaws
+pub mod LoadLaws
+pub mod PlanLaws
+pub mod LoadingLaws

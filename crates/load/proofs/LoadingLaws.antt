@@ -1,0 +1,130 @@
+-- The chain of all reasons: what it refuses, what passes it, and what a caller of loading knows.
+-- Assumes nothing.
+use Prim.Native.Nat.{ℕ, _*_, _≤_, _<_}
+use mathlib.Core.Path.{_≡_, sym, _∙_, ap, subst}
+use mathlib.Core.Bool.{Bool, true, cond}
+use mathlib.Core.List.{List}
+use mathlib.Core.Logic.{_↔_}
+use native.Mathlib.Omega.{arith}
+use lib.ListN.{take}
+use Rattle.limits.specs.Limits.{mostEntries}
+use Rattle.job.specs.Job.{Job}
+use Rattle.job.specs.Store.{jobOf}
+use Rattle.job.specs.declared.head.Refusal.{Refusal}
+use Rattle.plans.specs.PlanText as P
+use Rattle.plans.specs.PlanText.{readPlan}
+use Rattle.load.specs.Refusals.{Handed, Checked, passed, refused, next, jobIn, Offer, keyFor, boundFor, planIn, textsIn}
+use Rattle.load.specs.Refusals.{longEnough, listNeed, tableNeed, loading}
+use Rattle.load.specs.Loaded.{jobAs, loadedAs, Sized, Measured, Fitting, loadRefusal}
+use Rattle.load.specs.declared.request.Request.{Request}
+use Rattle.load.specs.declared.loaded.Load.{Load}
+use Rattle.load.specs.declared.loaded.Loaded.{Loaded}
+use Rattle.load.proofs.StageLaws.{passed-next, long-enough, too-short, long-passed}
+use Rattle.load.proofs.PlanLaws.{plan-taken}
+
+-- both texts: reasons 1 to 5
+module _ (h : Handed) where
+  texts-of : {c : Checked Job} → c ≡ jobIn (h .job) → next c (planIn (h .request) (h .plan)) ≡ textsIn h
+  unfolding textsIn
+  texts-of e = ap (λ (x : Checked Job). next x (planIn (h .request) (h .plan))) e
+
+  pub texts-taken : {o : Offer} → textsIn h ≡ passed o → (j : Job) × (jobIn (h .job) ≡ passed j) × (planIn (h .request) (h .plan) j ≡ passed o)
+  unfolding textsIn
+  texts-taken e = passed-next (jobIn (h .job)) (planIn (h .request) (h .plan)) e
+
+  -- then reason 6, of the list and of the table
+  abbrev listed : Offer → Checked Offer
+  listed o = longEnough (h .request .places) (listNeed (o .job)) o
+
+  abbrev tabled : Offer → Checked Offer
+  tabled o = longEnough (h .request .cells) (tableNeed (h .request) (o .job)) o
+
+  chain : {c : Checked Offer} → c ≡ textsIn h → next (next c listed) tabled ≡ loading h
+  unfolding loading
+  chain e = ap (λ (x : Checked Offer). next (next x listed) tabled) e
+
+  module _ {o : Offer} (e : passed o ≡ textsIn h) where
+    list-short : h .request .places < listNeed (o .job) → refused 6 (listNeed (o .job)) ≡ loading h
+    list-short l = ap (λ (x : Checked Offer). next x tabled) (too-short (h .request .places) (listNeed (o .job)) o l) ∙ chain e
+
+    module _ (k : listNeed (o .job) ≤ h .request .places) where
+      list-long : tabled o ≡ loading h
+      list-long = ap (λ (x : Checked Offer). next x tabled) (long-enough (h .request .places) (listNeed (o .job)) o k) ∙ chain e
+
+      table-short : h .request .cells < tableNeed (h .request) (o .job) → refused 6 (tableNeed (h .request) (o .job)) ≡ loading h
+      table-short l = too-short (h .request .cells) (tableNeed (h .request) (o .job)) o l ∙ list-long
+
+      all-long : tableNeed (h .request) (o .job) ≤ h .request .cells → passed o ≡ loading h
+      all-long l = long-enough (h .request .cells) (tableNeed (h .request) (o .job)) o l ∙ list-long
+
+  module _ (o : Offer) where
+    abbrev Passes : Type 0
+    Passes = (textsIn h ≡ passed o) × (listNeed (o .job) ≤ h .request .places) × (tableNeed (h .request) (o .job) ≤ h .request .cells)
+
+    passes : loading h ≡ passed o → Passes
+    unfolding loading
+    passes e =
+        let (y, g, l) = passed-next (next (textsIn h) listed) tabled e in
+        let (x, f, k) = passed-next (textsIn h) listed g in
+        let b = long-passed (h .request .places) (listNeed (x .job)) x k in
+        let t = long-passed (h .request .cells) (tableNeed (h .request) (y .job)) y l in
+        subst (λ (z : Offer). (textsIn h ≡ passed z) × (listNeed (z .job) ≤ h .request .places) × (tableNeed (h .request) (z .job) ≤ h .request .cells)) (t .0)
+        (subst (λ (z : Offer). textsIn h ≡ passed z) (b .0) f, subst (λ (z : Offer). listNeed (z .job) ≤ h .request .places) (b .0) (b .1), t .1)
+
+    -- it passes just where both texts do and list and table are long enough
+    pub loading-iff : (loading h ≡ passed o)
+        ↔ ((textsIn h ≡ passed o) × (listNeed (o .job) ≤ h .request .places) × (tableNeed (h .request) (o .job) ≤ h .request .cells))
+    loading-iff = (passes, λ x. sym (all-long (sym (x .0)) (x .1) (x .2)))
+
+-- loading, stage by stage
+pub job-measured : {rows : List ℕ} {a : Loaded} {job : Load} → a ≡ Loaded.Ready job → Measured a rows → Measured (Loaded.Ready job) rows
+job-measured {rows} g m = subst (λ (x : Loaded). Measured x rows) g m
+
+module _ (h : Handed) (rows entries : List ℕ) where
+  abbrev Post : Loaded → Type 0
+  Post answer = (loadedAs answer rows entries ≡ loading h) × Fitting answer rows
+
+  module _ (a : Loaded) (e : jobAs a rows ≡ jobIn (h .job)) where
+    pub job-refused : {q : Refusal} → a ≡ Loaded.Refused q → Post a
+    job-refused g = subst Post (sym g) (chain h (texts-of h (ap (λ (x : Loaded). jobAs x rows) (sym g) ∙ e)), tt)
+
+    module _ {job : Load} (g : a ≡ Loaded.Ready job) where
+      module _ (b : Loaded) (p : (loadedAs b rows entries ≡ planIn (h .request) (h .plan) (jobOf (job .head) rows)) × Fitting b rows) where
+        both : loadedAs b rows entries ≡ textsIn h
+        both = p .0 ∙ texts-of h (ap (λ (x : Loaded). jobAs x rows) (sym g) ∙ e)
+
+        pub plan-refused : {q : Refusal} → b ≡ Loaded.Refused q → Post b
+        plan-refused k = subst Post (sym k) (chain h (ap (λ (x : Loaded). loadedAs x rows entries) (sym k) ∙ both), tt)
+
+        module _ {offer : Load} (k : b ≡ Loaded.Ready offer) where
+          abbrev o : Offer
+          o = record { job = jobOf (offer .head) rows; entries = take (offer .entries) entries }
+
+          texts : passed o ≡ textsIn h
+          texts = ap (λ (x : Loaded). loadedAs x rows entries) (sym k) ∙ both
+
+          fitting : Fitting (Loaded.Ready offer) rows
+          fitting = subst (λ (x : Loaded). Fitting x rows) k (p .1)
+
+          module _ {places : ℕ} (l : places ≡ offer .sizes .steps * 4) where
+            need : places ≡ listNeed (o .job)
+            need = l ∙ ap (λ (n : ℕ). n * 4) (fitting .0 .steps)
+
+            pub list-refused : h .request .places < places → {r : Loaded} → r ≡ Loaded.Refused (record { number = 6; place = places }) → Post r
+            list-refused x f = subst Post (sym f) (ap (λ (n : ℕ). refused 6 n) need ∙ list-short h texts (rw need at x), tt)
+
+            module _ (x : places ≤ h .request .places) {cells : ℕ} (t : cells ≡ cond (h .request .table) (offer .states * offer .sizes .positions) 0) where
+              cell-need : cells ≡ tableNeed (h .request) (o .job)
+              cell-need = rw (fitting .0 .states, fitting .0 .positions) at t
+
+              pub table-refused : h .request .cells < cells → {r : Loaded} → r ≡ Loaded.Refused (record { number = 6; place = cells }) → Post r
+              table-refused y f = subst Post (sym f) (ap (λ (n : ℕ). refused 6 n) cell-need ∙ table-short h texts (rw need at x) (rw cell-need at y), tt)
+
+              pub all-ready : cells ≤ h .request .cells → Post (Loaded.Ready offer)
+              all-ready y = (all-long h texts (rw need at x) (rw cell-need at y), fitting)
+
+-- what a caller knows
+module _ (h : Handed) (rows entries : List ℕ) (a : Loaded) (e : loadedAs a rows entries ≡ loading h) where
+  pub loaded-refused : {q r : Refusal} → a ≡ Loaded.Refused q → r ≡ loadRefusal a → refused (r .number) (r .place) ≡ loading h
+  loaded-refused g f =
+      ap (λ (x : Refusal). refused (x .number) (x .place)) (f ∙ ap loadRefusal g) ∙ ap (λ (x : Loaded). loadedAs x rows entries) (sym g) ∙ e

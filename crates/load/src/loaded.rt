@@ -1,0 +1,33 @@
+// What loading answers.
+ghost use mathlib.Core.Path.{_≡_};
+ghost use Rattle.load.specs.Loaded.{loadRefusal};
+use compile::sizes::Sizes;
+use job::head::Head;
+use job::head::Refusal;
+
+// A job that nothing refuses: its head, whose rows are then stored, the sizes of its compiled job,
+// how many states it has, and how many entries of its plan are then stored.
+pub struct Load {
+    pub head: Head,
+    pub sizes: Sizes,
+    pub states: u16,
+    pub entries: usize,
+}
+
+pub enum Loaded {
+    Ready(Load),
+    Refused(Refusal),
+}
+
+// The refusal that an answer is; number 0 where it is none.
+pub fn refusal(a: Loaded) -> Refusal
+    ensures { λ r. ⌜ r ≡ loadRefusal a ⌝ }
+{
+    match a {
+        Loaded::Ready(_) => Refusal {
+            number: 0,
+            place: 0,
+        },
+        Loaded::Refused(r) => r,
+    }
+}

@@ -1,0 +1,38 @@
+// All reasons to refuse, in their order.
+ghost use mathlib.Core.Path.{_≡_};
+ghost use lib.ListN.{length};
+ghost use Rattle.job.specs.Store.{storeSize};
+ghost use Rattle.load.specs.Refusals.{Handed, loading};
+ghost use Rattle.load.specs.Loaded.{loadedAs, Fitting, Room};
+use crate::loaded::Loaded;
+use crate::request::Request;
+
+// Reasons 1 to 6.
+pub fn load(
+    request: Request,
+    text: &[u8],
+    plan: &[u8],
+    rows: &mut [u16],
+    entries: &mut [u16],
+) -> Loaded
+    requires { ⌜ (length (now rows) ≡ storeSize) × Room request (length (now entries)) ⌝ }
+    ensures { λ r. ⌜ (loadedAs r (now (rows .exit)) (now (entries .exit)) ≡ loading (record { request = request; job = now (text .entry); plan = now (plan .entry) })) × Fitting r (now (rows .exit)) ⌝ }
+{
+    let read = crate::stages::load_job(text, rows);
+    let Loaded::Ready(job) = read else {
+        return read;
+    };
+    let offered = crate::stages::load_plan(request, plan, job, rows, entries);
+    let Loaded::Ready(offer) = offered else {
+        return offered;
+    };
+    let places = crate::room::list_need(offer);
+    if request.places < places {
+        return crate::room::too_short(places);
+    }
+    let cells = crate::room::table_need(request.table, offer);
+    if request.cells < cells {
+        return crate::room::too_short(cells);
+    }
+    offered
+}

@@ -1,0 +1,34 @@
+// Reason 6, and how long lists and tables have to be.
+ghost use mathlib.Core.Path.{_≡_};
+ghost use mathlib.Core.Bool.{cond};
+ghost use Prim.Native.Nat.{_*_};
+use crate::loaded::Load;
+use crate::loaded::Loaded;
+use job::head::Refusal;
+
+// The refusal of a list or a table that is shorter than it has to be.
+pub fn too_short(need: usize) -> Loaded
+    ensures { λ r. ⌜ r ≡ Loaded.Refused (record { number = 6; place = need }) ⌝ }
+{
+    Loaded::Refused(Refusal {
+        number: 6,
+        place: need,
+    })
+}
+
+// The places of the compiled list: four for each step.
+pub fn list_need(job: Load) -> usize
+    ensures { λ r. ⌜ r ≡ job .sizes .steps * 4 ⌝ }
+{
+    (job.sizes.steps as usize) * 4
+}
+
+// The cells of the cost table, one for each state and position; none where there is no table.
+pub fn table_need(table: bool, job: Load) -> usize
+    ensures { λ r. ⌜ r ≡ cond table (job .states * job .sizes .positions) 0 ⌝ }
+{
+    if table {
+        return (job.states as usize) * (job.sizes.positions as usize);
+    }
+    0
+}

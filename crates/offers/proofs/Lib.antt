@@ -1,3 +1,0 @@
-pub mod LoadLaws
-pub mod OfferLaws
-pub mod StageLaws

@@ -1,3 +1,0 @@
-pub mod Refusals
-pub mod Load
-pub mod Offer
