@@ -1,7 +1,6 @@
+pub mod AnswerLaws
+pub mod LoadedLaws
 pub mod FrontLaws
-pub mod CompilingLaws
 pub mod SaysLaws
-pub mod CheckingLaws
-pub mod CostingLaws
-pub mod JudgingLaws
-pub mod PassedLaws
+pub mod CostLaws
+pub mod JudgeLaws

@@ -1,13 +1,15 @@
 -- The verdicts that the checks compute are those of "Verdicts".
 -- Assumes nothing.
 use Prim.Native.Nat.{ℕ, _-_}
-use mathlib.Core.Path.{_≡_, ap, subst}
+use mathlib.Core.Path.{_≡_, _∙_, ap, subst}
 use mathlib.Core.List.{List}
+use native.Mathlib.Omega.{arith}
 use lib.ListN.{length}
 use Rattle.limits.specs.Limits.{mostPositions}
 use Rattle.job.specs.Job.{Job}
 use Rattle.job.specs.Store.{jobOf}
 use Rattle.job.specs.declared.head.Head.{Head}
+use Rattle.semantics.specs.CompilingTable.{end}
 use Rattle.semantics.specs.Verdict.{Verdict}
 use Rattle.semantics.specs.PositionSets.{verdictBy}
 use Rattle.semantics.specs.StepVerdict.{stepVerdict}
@@ -15,12 +17,13 @@ use Rattle.semantics.proofs.CheckLaws.{verdict-by-judged}
 use Rattle.semantics.proofs.StepVerdictLaws.{step-verdict-judged}
 use Rattle.domain.specs.Domain.{domainIn}
 use Rattle.compile.specs.Program.{programOf}
-use Rattle.compile.specs.CompiledJob.{stepsOf, positionCount}
+use Rattle.compile.specs.CompiledJob.{stepsOf}
 use Rattle.validate.specs.Ready.{Ready, EntriesBelow}
 use Rattle.validate.proofs.ReadyLaws.{final-below}
-use Rattle.offers.specs.Refusals.{boundFor}
-use Rattle.offers.specs.declared.offer.Sort.{Sort}
-use Rattle.offers.specs.declared.offer.Sort.the-variants.{Moves, Steps}
+use Rattle.load.specs.Refusals.{boundFor}
+use Rattle.load.specs.View.{viewOf}
+use Rattle.load.specs.declared.request.Sort.{Sort}
+use Rattle.load.specs.declared.request.Sort.the-variants.{Moves, Steps}
 use Rattle.jesmovit.specs.Checking.{Says}
 
 module _ (h : Head) (rows plan : List ℕ) where
@@ -31,14 +34,18 @@ module _ (h : Head) (rows plan : List ℕ) where
     pub move-entries : EntriesBelow plan (boundFor sort (jobOf h rows)) → EntriesBelow plan (domainIn h rows .moves)
     move-entries x = subst (λ (b : ℕ). EntriesBelow plan b) (ap (λ (s : Sort). boundFor s j) e) x
 
-    pub says-moves : {list : List ℕ} {positions : ℕ} → Ready h rows list positions → {v : Verdict} → v ≡ verdictBy mostPositions (domainIn h rows) (programOf (jobOf h rows)) plan
-        → Says sort (record { job = jobOf h rows; entries = plan }) v
+    pub says-moves : {list : List ℕ} {positions : ℕ} → Ready h rows list positions
+        → {v : Verdict} → v ≡ verdictBy mostPositions (domainIn h rows) (programOf (jobOf h rows)) plan
+        → Says sort (viewOf (record { job = jobOf h rows; entries = plan })) v
     says-moves r f = rw (e, f) (verdict-by-judged (domainIn h rows) (programOf j) mostPositions (final-below r) plan)
 
   module _ {sort : Sort} (e : sort ≡ Steps) where
     pub step-entries : EntriesBelow plan (boundFor sort (jobOf h rows)) → EntriesBelow plan (length (stepsOf (jobOf h rows)))
     step-entries x = subst (λ (b : ℕ). EntriesBelow plan b) (ap (λ (s : Sort). boundFor s j) e) x
 
-    pub says-steps : {list : List ℕ} {positions : ℕ} → Ready h rows list positions → {v : Verdict} → v ≡ stepVerdict (domainIn h rows) (stepsOf (jobOf h rows)) (positions - 1) plan
-        → Says sort (record { job = jobOf h rows; entries = plan }) v
-    says-steps r f = rw (e, f, r .positions) (step-verdict-judged (domainIn h rows) (stepsOf j) (positionCount j - 1) plan)
+    pub says-steps : {list : List ℕ} {positions : ℕ} → Ready h rows list positions
+        → {v : Verdict} → v ≡ stepVerdict (domainIn h rows) (stepsOf (jobOf h rows)) (positions - 1) plan
+        → Says sort (viewOf (record { job = jobOf h rows; entries = plan })) v
+    says-steps {positions = positions} r f =
+        let final : positions - 1 ≡ end (programOf j) 0 = omega (arith, r .positions) in
+        rw (e, f, final) (step-verdict-judged (domainIn h rows) (stepsOf j) (end (programOf j) 0) plan)

@@ -25,10 +25,10 @@ Says Moves v w = Judged (v .domain) (byRuns (v .domain) (v .program)) (v .entrie
 Says Steps v w = Judged (v .domain) (bySteps (v .domain) (viewSteps v) (finalOf v)) (v .entries) w
 
 -- the verdict is answered, and the list holds the steps
-pub record Tells (sort : Sort) (v : View) (w : Verdict) (old new : List ℕ) : Type 0 where
+pub record CheckDone (sort : Sort) (v : View) (w : Verdict) (old new : List ℕ) : Type 0 where
   pub says : Says sort v w
   pub list : new ≡ listAfter v old
 
 abbrev pub Checks : Sort → List ℕ → List ℕ → List ℕ → CheckAnswer → List ℕ → Type 0
 Checks sort text plan list answer after =
-    Answers (Tells sort) list (viewIn (checking sort text plan (length list))) (checkOutcome answer) after
+    Answers (CheckDone sort) list (viewIn (checking sort text plan (length list))) (checkOutcome answer) after

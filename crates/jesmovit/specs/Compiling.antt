@@ -28,9 +28,9 @@ abbrev pub sizesOf : View → Sizes
 sizesOf v = record { positions = positionsOf v; steps = length (viewSteps v) }
 
 -- the sizes are answered, and the list holds the steps
-pub record Lists (v : View) (sizes : Sizes) (old new : List ℕ) : Type 0 where
+pub record CompileDone (v : View) (sizes : Sizes) (old new : List ℕ) : Type 0 where
   pub sized : sizes ≡ sizesOf v
   pub list : new ≡ listAfter v old
 
 abbrev pub Compiles : List ℕ → List ℕ → CompileAnswer → List ℕ → Type 0
-Compiles text list answer after = Answers Lists list (viewIn (compiling text (length list))) (compileOutcome answer) after
+Compiles text list answer after = Answers CompileDone list (viewIn (compiling text (length list))) (compileOutcome answer) after

@@ -12,7 +12,7 @@ use Rattle.semantics.specs.Judgement.{Judgement, Finds, least, dearer, other}
 use Rattle.load.specs.Refusals.{Handed}
 use Rattle.load.specs.View.{View, viewSteps, positionsOf, viewIn}
 use Rattle.load.specs.declared.request.Sort.the-variants.{Moves}
-use Rattle.jesmovit.specs.Outcomes.{leastOutcome, Judged, judgeOutcome}
+use Rattle.jesmovit.specs.Outcomes.{leastOutcome, SizedJudgement, judgeOutcome}
 use Rattle.jesmovit.specs.Answers.{Answers}
 use Rattle.jesmovit.specs.Compiling.{listAfter, sizesOf}
 use Rattle.jesmovit.specs.declared.judging.Judgement as Said
@@ -39,19 +39,19 @@ abbrev pub TableOf : View → List ℕ → List ℕ → Type 0
 TableOf v = Filled (v .domain) (viewSteps v) (positionsOf v)
 
 -- "the cost, or none exactly when no plan of any length exists"
-pub data LowestIs (v : View) : Option ℕ → Type 0 where
-  costs : {c : ℕ} → Least (v .domain) (v .program) c → LowestIs v (some c)
-  no-plan : ((ms : List ℕ) → Allowed (v .domain) (v .program) ms → ⊥) → LowestIs v none
+pub data LeastIs (v : View) : Option ℕ → Type 0 where
+  costs : {c : ℕ} → Least (v .domain) (v .program) c → LeastIs v (some c)
+  no-plan : ((ms : List ℕ) → Allowed (v .domain) (v .program) ms → ⊥) → LeastIs v none
 
 -- "Least cost fills it and answers the cost, or none"
-pub record Costs (v : View) (lowest : Option ℕ) (old new : Lent) : Type 0 where
-  pub is : LowestIs v lowest
+pub record CostDone (v : View) (lowest : Option ℕ) (old new : Lent) : Type 0 where
+  pub is : LeastIs v lowest
   pub list : new .list ≡ listAfter v (old .list)
   pub table : TableOf v (old .table) (new .table)
 
 abbrev pub CostsLeast : List ℕ → List ℕ → List ℕ → LeastAnswer → List ℕ → List ℕ → Type 0
 CostsLeast text list table answer steps-after table-after =
-    Answers Costs (record { list = list; table = table }) (viewIn (costing text (length list) (length table))) (leastOutcome answer)
+    Answers CostDone (record { list = list; table = table }) (viewIn (costing text (length list) (length table))) (leastOutcome answer)
     (record { list = steps-after; table = table-after })
 
 -- a plan's cost beside the least cost: "least or dearer with both costs"
@@ -69,12 +69,12 @@ pub record Found (v : View) (g : Judgement) (old new : List ℕ) : Type 0 where
   pub finds : Finds (v .domain) (v .program) (v .entries) g
   pub table : TableFor v g old new
 
-pub record Decides (v : View) (judged : Judged) (old new : Lent) : Type 0 where
+pub record JudgeDone (v : View) (judged : SizedJudgement) (old new : Lent) : Type 0 where
   pub sized : judged .sizes ≡ sizesOf v
   pub list : new .list ≡ listAfter v (old .list)
   pub found : Found v (judged .judgement) (old .table) (new .table)
 
 abbrev pub Judges : List ℕ → List ℕ → List ℕ → List ℕ → JudgeAnswer → List ℕ → List ℕ → Type 0
 Judges text plan list table answer steps-after table-after =
-    Answers Decides (record { list = list; table = table }) (viewIn (judging text plan (length list) (length table))) (judgeOutcome answer)
+    Answers JudgeDone (record { list = list; table = table }) (viewIn (judging text plan (length list) (length table))) (judgeOutcome answer)
     (record { list = steps-after; table = table-after })

@@ -2,7 +2,7 @@
 use Prim.Native.Nat.{ℕ}
 use mathlib.Core.Option.{Option, none, some}
 use Rattle.job.specs.declared.head.Counts.{Counts}
-use Rattle.semantics.specs.Verdict as V
+use Rattle.semantics.specs.Verdict as S
 use Rattle.semantics.specs.Judgement as J
 use Rattle.compile.specs.declared.sizes.Sizes.{Sizes}
 use Rattle.validate.specs.Verdict.{verdictOf}
@@ -25,7 +25,7 @@ compileOutcome (Compile.the-variants.Compiled positions steps) = passed (record 
 compileOutcome (Compile.the-variants.Refused r) = refused (r .number) (r .place)
 
 -- a check: one of the verdicts, with its values
-abbrev pub checkOutcome : Check.CheckAnswer → Checked V.Verdict
+abbrev pub checkOutcome : Check.CheckAnswer → Checked S.Verdict
 checkOutcome (Check.the-variants.Said v) = passed (verdictOf v)
 checkOutcome (Check.the-variants.Refused r) = refused (r .number) (r .place)
 
@@ -42,11 +42,11 @@ judgementOf (Judgement.the-variants.Dearer cost low) = J.dearer cost low
 judgementOf (Judgement.the-variants.Other v) = J.other (verdictOf v)
 
 -- judging: the sizes of the compiled job, and the judgement
-pub record Judged : Type 0 where
+pub record SizedJudgement : Type 0 where
   pub sizes : Sizes
   pub judgement : J.Judgement
 
-abbrev pub judgeOutcome : Judge.JudgeAnswer → Checked Judged
+abbrev pub judgeOutcome : Judge.JudgeAnswer → Checked SizedJudgement
 judgeOutcome (Judge.the-variants.Judged positions steps g) =
     passed (record { sizes = record { positions = positions; steps = steps }; judgement = judgementOf g })
 judgeOutcome (Judge.the-variants.Refused r) = refused (r .number) (r .place)

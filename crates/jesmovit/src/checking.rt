@@ -2,14 +2,16 @@
 ghost use Rattle.job.specs.Store.{jobOf};
 ghost use Rattle.validate.specs.Ready.{Ready, EntriesBelow};
 ghost use Rattle.validate.specs.Verdict.{verdictOf};
-ghost use Rattle.offers.specs.Refusals.{boundFor};
+ghost use Rattle.load.specs.Refusals.{boundFor};
+ghost use Rattle.load.specs.View.{viewOf};
 ghost use Rattle.jesmovit.specs.Checking.{Says, Checks};
 use job::head::Head;
 use job::head::Refusal;
 use job::rows::STORE;
 use limits::ENTRIES;
-use offers::offer::Offered;
-use offers::offer::Sort;
+use load::loaded::Loaded;
+use load::request::Request;
+use load::request::Sort;
 use validate::verdict::Verdict;
 
 // The verdict on a plan; or why the texts or the list are refused.
@@ -29,7 +31,7 @@ fn verdict(
 ) -> Verdict
     requires { ⌜ Ready head (now rows) (now list) positions ⌝ }
     requires { ⌜ EntriesBelow (now plan) (boundFor sort (jobOf head (now rows))) ⌝ }
-    ensures { λ r. ⌜ Says sort (record { job = jobOf head (now (rows .entry)); entries = now (plan .entry) }) (verdictOf r) ⌝ }
+    ensures { λ r. ⌜ Says sort (viewOf (record { job = jobOf head (now (rows .entry)); entries = now (plan .entry) })) (verdictOf r) ⌝ }
 {
     match sort {
         Sort::Moves => validate::moves::check_moves(head, rows, list, positions, plan),
@@ -42,23 +44,28 @@ fn check(sort: Sort, text: &[u8], plan: &[u8], list: &mut [u16]) -> CheckAnswer
 {
     let mut rows = [0u16; STORE];
     let mut entries = [0u16; ENTRIES];
-    let offered = offers::offer::offer(sort, text, plan, &mut rows, &mut entries);
-    let Offered::Ready(head, sizes, n) = offered else {
-        let r = offers::offer::refusal(offered);
+    let request = Request {
+        plan: true,
+        sort: sort,
+        places: list.len(),
+        table: false,
+        cells: 0,
+    };
+    let loaded = load::loading::load(request, text, plan, &mut rows, &mut entries);
+    let Loaded::Ready(job) = loaded else {
+        let r = load::loaded::refusal(loaded);
         return CheckAnswer::Refused(r);
     };
-    let need = (sizes.steps as usize) * 4;
-    if list.len() < need {
-        let short = offers::room::too_short(need);
-        return CheckAnswer::Refused(short);
-    }
+    let head = job.head;
+    let need = load::room::list_need(job);
+    let n = job.entries;
     compile::program::compile(head, &rows, list);
     let v = verdict(
         sort,
         head,
         &rows,
         &list[0..need],
-        sizes.positions,
+        job.sizes.positions,
         &entries[0..n],
     );
     CheckAnswer::Said(v)

@@ -1,10 +1,10 @@
 // A job text compiled.
-ghost use mathlib.Core.Path.{_≡_};
-ghost use lib.ListN.{length};
-ghost use Rattle.jesmovit.specs.Compiling.{compiling, compileAnswer, listAfter};
+ghost use Rattle.jesmovit.specs.Compiling.{Compiles};
 use job::head::Refusal;
 use job::rows::STORE;
-use offers::load::Loaded;
+use load::loaded::Loaded;
+use load::request::Request;
+use load::request::Sort;
 
 // How many positions and steps the compiled job has; or why it is refused.
 pub enum CompileAnswer {
@@ -12,21 +12,26 @@ pub enum CompileAnswer {
     Refused(Refusal),
 }
 
-// Writes the steps of the job's program over the front of the list, four numbers each: kind, from, to, arg.
+// Writes the steps of the job's program over the front of the list, four numbers each: kind, from,
+// to, arg.
 pub fn compile(text: &[u8], list: &mut [u16]) -> CompileAnswer
-    ensures { λ r. ⌜ (r ≡ compileAnswer (compiling (now (text .entry)) (length (now (list .entry))))) × (now (list .exit) ≡ listAfter (compiling (now (text .entry)) (length (now (list .entry)))) (now (list .entry))) ⌝ }
+    ensures { λ r. ⌜ Compiles (now (text .entry)) (now (list .entry)) r (now (list .exit)) ⌝ }
 {
     let mut rows = [0u16; STORE];
-    let loaded = offers::load::load(text, &mut rows);
-    let Loaded::Ready(head, sizes) = loaded else {
-        let r = offers::load::refusal(loaded);
+    let mut entries = [0u16; 1];
+    let request = Request {
+        plan: false,
+        sort: Sort::Moves,
+        places: list.len(),
+        table: false,
+        cells: 0,
+    };
+    let loaded = load::loading::load(request, text, &text[0..0], &mut rows, &mut entries);
+    let Loaded::Ready(job) = loaded else {
+        let r = load::loaded::refusal(loaded);
         return CompileAnswer::Refused(r);
     };
-    let need = (sizes.steps as usize) * 4;
-    if list.len() < need {
-        let short = offers::room::too_short(need);
-        return CompileAnswer::Refused(short);
-    }
+    let head = job.head;
     compile::program::compile(head, &rows, list);
-    CompileAnswer::Compiled(sizes.positions, sizes.steps)
+    CompileAnswer::Compiled(job.sizes.positions, job.sizes.steps)
 }

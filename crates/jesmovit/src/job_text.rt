@@ -1,7 +1,5 @@
 // A job text read.
-ghost use mathlib.Core.Path.{_≡_};
-ghost use Rattle.job.specs.ReadJob.{readJob};
-ghost use Rattle.jesmovit.specs.JobText.{readAnswer};
+ghost use Rattle.jesmovit.specs.JobText.{Reads};
 use job::head::Counts;
 use job::head::Refusal;
 use job::rows::STORE;
@@ -15,7 +13,7 @@ pub enum ReadAnswer {
 
 // Reads any bytes as a job text.
 pub fn read_job(text: &[u8]) -> ReadAnswer
-    ensures { λ r. ⌜ r ≡ readAnswer (readJob (now (text .entry))) ⌝ }
+    ensures { λ r. ⌜ Reads (now (text .entry)) r ⌝ }
 {
     let mut rows = [0u16; STORE];
     let answer = reader::reading::read_job(text, &mut rows);

@@ -5,14 +5,16 @@ ghost use lib.ListN.{length};
 ghost use Rattle.job.specs.Store.{jobOf};
 ghost use Rattle.domain.specs.Domain.{domainIn};
 ghost use Rattle.validate.specs.Ready.{Ready, EntriesBelow};
+ghost use Rattle.load.specs.View.{viewOf};
+ghost use Rattle.jesmovit.specs.Outcomes.{judgementOf};
 ghost use Rattle.jesmovit.specs.Judging.{CostsLeast, compared, Found, Judges};
 use job::head::Head;
 use job::head::Refusal;
 use job::rows::STORE;
 use limits::ENTRIES;
-use offers::load::Loaded;
-use offers::offer::Offered;
-use offers::offer::Sort;
+use load::loaded::Loaded;
+use load::request::Request;
+use load::request::Sort;
 use sweep::Grid;
 use validate::verdict::Verdict;
 
@@ -42,25 +44,25 @@ pub fn least_cost(text: &[u8], list: &mut [u16], table: &mut [u32]) -> LeastAnsw
     ensures { λ r. ⌜ CostsLeast (now (text .entry)) (now (list .entry)) (now (table .entry)) r (now (list .exit)) (now (table .exit)) ⌝ }
 {
     let mut rows = [0u16; STORE];
-    let loaded = offers::load::load(text, &mut rows);
-    let Loaded::Ready(head, sizes) = loaded else {
-        let r = offers::load::refusal(loaded);
+    let mut entries = [0u16; 1];
+    let request = Request {
+        plan: false,
+        sort: Sort::Moves,
+        places: list.len(),
+        table: true,
+        cells: table.len(),
+    };
+    let loaded = load::loading::load(request, text, &text[0..0], &mut rows, &mut entries);
+    let Loaded::Ready(job) = loaded else {
+        let r = load::loaded::refusal(loaded);
         return LeastAnswer::Refused(r);
     };
-    let need = (sizes.steps as usize) * 4;
-    if list.len() < need {
-        let short = offers::room::too_short(need);
-        return LeastAnswer::Refused(short);
-    }
+    let head = job.head;
+    let need = load::room::list_need(job);
     let grid = Grid {
-        states: domain::states::state_count(head, &rows),
-        positions: sizes.positions,
+        states: job.states,
+        positions: job.sizes.positions,
     };
-    let cells = offers::room::cells(grid.states, grid.positions);
-    if table.len() < cells {
-        let short = offers::room::too_short(cells);
-        return LeastAnswer::Refused(short);
-    }
     compile::program::compile(head, &rows, list);
     let least = search::least::least_cost(table, head, &rows, &list[0..need], grid);
     if least < sweep::UNREACHED {
@@ -91,7 +93,7 @@ fn judge_entries(
     requires { ⌜ Ready head (now rows) (now list) (grid .positions) × (grid .states ≡ domainIn head (now rows) .states) ⌝ }
     requires { ⌜ EntriesBelow (now plan) (domainIn head (now rows) .moves) ⌝ }
     requires { ⌜ domainIn head (now rows) .states * grid .positions ≤ length (now costs) ⌝ }
-    ensures { λ r. ⌜ Found (jobOf head (now (rows .entry))) (now (plan .entry)) r (now (costs .entry)) (now (costs .exit)) ⌝ }
+    ensures { λ r. ⌜ Found (viewOf (record { job = jobOf head (now (rows .entry)); entries = now (plan .entry) })) (judgementOf r) (now (costs .entry)) (now (costs .exit)) ⌝ }
 {
     let verdict = validate::moves::check_moves(head, rows, list, grid.positions, plan);
     let Verdict::Plan(cost) = verdict else {
@@ -108,26 +110,26 @@ pub fn judge(text: &[u8], plan: &[u8], list: &mut [u16], table: &mut [u32]) -> J
 {
     let mut rows = [0u16; STORE];
     let mut entries = [0u16; ENTRIES];
-    let offered = offers::offer::offer(Sort::Moves, text, plan, &mut rows, &mut entries);
-    let Offered::Ready(head, sizes, n) = offered else {
-        let r = offers::offer::refusal(offered);
+    let request = Request {
+        plan: true,
+        sort: Sort::Moves,
+        places: list.len(),
+        table: true,
+        cells: table.len(),
+    };
+    let loaded = load::loading::load(request, text, plan, &mut rows, &mut entries);
+    let Loaded::Ready(job) = loaded else {
+        let r = load::loaded::refusal(loaded);
         return JudgeAnswer::Refused(r);
     };
-    let need = (sizes.steps as usize) * 4;
-    if list.len() < need {
-        let short = offers::room::too_short(need);
-        return JudgeAnswer::Refused(short);
-    }
+    let head = job.head;
+    let need = load::room::list_need(job);
+    let n = job.entries;
     let grid = Grid {
-        states: domain::states::state_count(head, &rows),
-        positions: sizes.positions,
+        states: job.states,
+        positions: job.sizes.positions,
     };
-    let size = offers::room::cells(grid.states, grid.positions);
-    if table.len() < size {
-        let short = offers::room::too_short(size);
-        return JudgeAnswer::Refused(short);
-    }
     compile::program::compile(head, &rows, list);
     let found = judge_entries(table, head, &rows, &list[0..need], grid, &entries[0..n]);
-    JudgeAnswer::Judged(sizes.positions, sizes.steps, found)
+    JudgeAnswer::Judged(job.sizes.positions, job.sizes.steps, found)
 }

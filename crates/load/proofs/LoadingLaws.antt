@@ -15,7 +15,7 @@ use Rattle.plans.specs.PlanText as P
 use Rattle.plans.specs.PlanText.{readPlan}
 use Rattle.load.specs.Refusals.{Handed, Checked, passed, refused, next, jobIn, Offer, keyFor, boundFor, planIn, textsIn}
 use Rattle.load.specs.Refusals.{longEnough, listNeed, tableNeed, loading}
-use Rattle.load.specs.Loaded.{jobAs, loadedAs, Sized, Measured, Fitting, loadRefusal}
+use Rattle.load.specs.Loaded.{jobAs, loadedAs, Measured, Fitting, Loads}
 use Rattle.load.specs.declared.request.Request.{Request}
 use Rattle.load.specs.declared.loaded.Load.{Load}
 use Rattle.load.specs.declared.loaded.Loaded.{Loaded}
@@ -82,11 +82,14 @@ job-measured {rows} g m = subst (λ (x : Loaded). Measured x rows) g m
 
 module _ (h : Handed) (rows entries : List ℕ) where
   abbrev Post : Loaded → Type 0
-  Post answer = (loadedAs answer rows entries ≡ loading h) × Fitting answer rows
+  Post answer = Loads h answer rows entries
+
+  short : {r : Loaded} {need : ℕ} → r ≡ Loaded.Refused (record { number = 6; place = need }) → refused 6 need ≡ loading h → Post r
+  short f e = subst Post (sym f) (record { is = e; fitting = tt })
 
   module _ (a : Loaded) (e : jobAs a rows ≡ jobIn (h .job)) where
     pub job-refused : {q : Refusal} → a ≡ Loaded.Refused q → Post a
-    job-refused g = subst Post (sym g) (chain h (texts-of h (ap (λ (x : Loaded). jobAs x rows) (sym g) ∙ e)), tt)
+    job-refused g = subst Post (sym g) (record { is = chain h (texts-of h (ap (λ (x : Loaded). jobAs x rows) (sym g) ∙ e)); fitting = tt })
 
     module _ {job : Load} (g : a ≡ Loaded.Ready job) where
       module _ (b : Loaded) (p : (loadedAs b rows entries ≡ planIn (h .request) (h .plan) (jobOf (job .head) rows)) × Fitting b rows) where
@@ -94,7 +97,7 @@ module _ (h : Handed) (rows entries : List ℕ) where
         both = p .0 ∙ texts-of h (ap (λ (x : Loaded). jobAs x rows) (sym g) ∙ e)
 
         pub plan-refused : {q : Refusal} → b ≡ Loaded.Refused q → Post b
-        plan-refused k = subst Post (sym k) (chain h (ap (λ (x : Loaded). loadedAs x rows entries) (sym k) ∙ both), tt)
+        plan-refused k = subst Post (sym k) (record { is = chain h (ap (λ (x : Loaded). loadedAs x rows entries) (sym k) ∙ both); fitting = tt })
 
         module _ {offer : Load} (k : b ≡ Loaded.Ready offer) where
           abbrev o : Offer
@@ -111,20 +114,14 @@ module _ (h : Handed) (rows entries : List ℕ) where
             need = l ∙ ap (λ (n : ℕ). n * 4) (fitting .0 .steps)
 
             pub list-refused : h .request .places < places → {r : Loaded} → r ≡ Loaded.Refused (record { number = 6; place = places }) → Post r
-            list-refused x f = subst Post (sym f) (ap (λ (n : ℕ). refused 6 n) need ∙ list-short h texts (rw need at x), tt)
+            list-refused x f = short f (ap (λ (n : ℕ). refused 6 n) need ∙ list-short h texts (rw need at x))
 
             module _ (x : places ≤ h .request .places) {cells : ℕ} (t : cells ≡ cond (h .request .table) (offer .states * offer .sizes .positions) 0) where
               cell-need : cells ≡ tableNeed (h .request) (o .job)
               cell-need = rw (fitting .0 .states, fitting .0 .positions) at t
 
               pub table-refused : h .request .cells < cells → {r : Loaded} → r ≡ Loaded.Refused (record { number = 6; place = cells }) → Post r
-              table-refused y f = subst Post (sym f) (ap (λ (n : ℕ). refused 6 n) cell-need ∙ table-short h texts (rw need at x) (rw cell-need at y), tt)
+              table-refused y f = short f (ap (λ (n : ℕ). refused 6 n) cell-need ∙ table-short h texts (rw need at x) (rw cell-need at y))
 
               pub all-ready : cells ≤ h .request .cells → Post (Loaded.Ready offer)
-              all-ready y = (all-long h texts (rw need at x) (rw cell-need at y), fitting)
-
--- what a caller knows
-module _ (h : Handed) (rows entries : List ℕ) (a : Loaded) (e : loadedAs a rows entries ≡ loading h) where
-  pub loaded-refused : {q r : Refusal} → a ≡ Loaded.Refused q → r ≡ loadRefusal a → refused (r .number) (r .place) ≡ loading h
-  loaded-refused g f =
-      ap (λ (x : Refusal). refused (x .number) (x .place)) (f ∙ ap loadRefusal g) ∙ ap (λ (x : Loaded). loadedAs x rows entries) (sym g) ∙ e
+              all-ready y = record { is = all-long h texts (rw need at x) (rw cell-need at y); fitting = fitting }

@@ -13,7 +13,7 @@ use Rattle.domain.specs.Domain.{domainIn}
 use Rattle.compile.specs.CompiledJob.{positionCount, stepCount, fits}
 use Rattle.plans.specs.declared.plan_text.PlanAnswer.{PlanAnswer}
 use Rattle.load.specs.Refusals as C
-use Rattle.load.specs.Refusals.{Checked, Offer}
+use Rattle.load.specs.Refusals.{Handed, Checked, Offer, loading}
 use Rattle.load.specs.declared.request.Request.{Request}
 use Rattle.load.specs.declared.request.Sort.{Sort}
 use Rattle.load.specs.declared.request.Sort.the-variants.{Moves, Steps}
@@ -48,6 +48,11 @@ Measured (Refused r) rows = Unit {0}
 abbrev pub Fitting : Loaded → List ℕ → Type 0
 Fitting (Ready a) rows = Sized a rows × (a .entries ≤ mostEntries)
 Fitting (Refused r) rows = Unit {0}
+
+-- the whole promise of loading
+pub record Loads (h : Handed) (answer : Loaded) (rows entries : List ℕ) : Type 0 where
+  pub is : loadedAs answer rows entries ≡ loading h
+  pub fitting : Fitting answer rows
 
 -- a plan text's entries have room
 abbrev pub Room : Request → ℕ → Type 0

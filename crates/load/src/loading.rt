@@ -2,8 +2,8 @@
 ghost use mathlib.Core.Path.{_≡_};
 ghost use lib.ListN.{length};
 ghost use Rattle.job.specs.Store.{storeSize};
-ghost use Rattle.load.specs.Refusals.{Handed, loading};
-ghost use Rattle.load.specs.Loaded.{loadedAs, Fitting, Room};
+ghost use Rattle.load.specs.Refusals.{Handed};
+ghost use Rattle.load.specs.Loaded.{Loads, Room};
 use crate::loaded::Loaded;
 use crate::request::Request;
 
@@ -16,7 +16,7 @@ pub fn load(
     entries: &mut [u16],
 ) -> Loaded
     requires { ⌜ (length (now rows) ≡ storeSize) × Room request (length (now entries)) ⌝ }
-    ensures { λ r. ⌜ (loadedAs r (now (rows .exit)) (now (entries .exit)) ≡ loading (record { request = request; job = now (text .entry); plan = now (plan .entry) })) × Fitting r (now (rows .exit)) ⌝ }
+    ensures { λ r. ⌜ Loads (record { request = request; job = now (text .entry); plan = now (plan .entry) }) r (now (rows .exit)) (now (entries .exit)) ⌝ }
 {
     let read = crate::stages::load_job(text, rows);
     let Loaded::Ready(job) = read else {

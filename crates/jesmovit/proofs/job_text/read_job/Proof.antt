@@ -1,26 +1,24 @@
 use mathlib.Core.Path.{sym, _∙_, ap}
 use Rattle.job.proofs.StoreLaws.{counts-of}
 use Rattle.reader.specs.Reading.{outcomeOf, readRefusal}
-use Rattle.jesmovit.specs.JobText.{readAnswer}
-use Rattle.jesmovit.specs.declared.job_text.ReadAnswer.{ReadAnswer}
+use Rattle.load.specs.Refusals.{passed, refused}
+use Rattle.jesmovit.specs.JobText.{countsIn}
 use borrow.Author.Needs.{needs}
 use Rattle.jesmovit.proofs.job_text.read_job.Statement.{statement}
 use Rattle.jesmovit.proofs.job_text.read_job.Tie as tie
 
 returns : tie.Need-returns
 returns c =
-    let at4 = c .before .before .before .before in
     let g = c .before .enum-told .given .1 in
-    let t = at4 .read-job .last .1 .0 in
-    ap ReadAnswer.Refused (c .refusal .ensures ∙ ap readRefusal g) ∙ sym (ap (λ a. readAnswer (outcomeOf a t)) g) ∙ ap readAnswer (at4 .read-job .ensures)
+    let t = c .before .before .before .before .read-job .last .1 .0 in
+    ap (λ r. refused (r .number) (r .place)) (c .refusal .ensures ∙ ap readRefusal g) ∙ sym (ap (λ a. countsIn (outcomeOf a t)) g)
+    ∙ ap countsIn (c .before .before .before .before .read-job .ensures)
 
 returns-2 : tie.Need-returns-2
 returns-2 c =
-    let at2 = c .before .before in
-    let at5 = at2 .before .before .before in
-    let g = at2 .answer .given .1 in
-    let t = at5 .read-job .last .1 .0 in
-    ap ReadAnswer.Read (sym (counts-of (at2 .answer .given .0 .1 .0) t)) ∙ sym (ap (λ a. readAnswer (outcomeOf a t)) g) ∙ ap readAnswer (at5 .read-job .ensures)
+    let g = c .before .before .answer .given .1 in
+    let t = c .before .before .before .before .before .read-job .last .1 .0 in
+    ap passed (sym (counts-of (c .before .before .answer .given .0 .1 .0) t)) ∙ sym (ap (λ a. countsIn (outcomeOf a t)) g) ∙ ap countsIn (c .before .before .before .before .before .read-job .ensures)
 
 pub read-job-spec : {M : Type 1} → statement M
 read-job-spec =
