@@ -2,9 +2,6 @@
 use Prim.Native.Nat.{ℕ}
 use mathlib.Core.Path.{_≡_}
 use mathlib.Core.List.{List}
-use lib.ListN.{length}
-use Rattle.jesmovit.specs.Compiling.{compiling, compileAnswer, listAfter}
-use Rattle.jesmovit.specs.declared.compiling.CompileAnswer.{CompileAnswer}
 use Rattle.capi.specs.declared.numbers.Numbers.{Numbers}
 
 -- the number given back and the five written are those of an answer of which the operation's promise holds
@@ -13,8 +10,3 @@ pub record Gives {A : Type 0} (numbers : A → Numbers) (promised : A → Type 0
   pub holds : promised answer
   pub number-is : number ≡ numbers answer .number
   pub values-are : values ≡ numbers answer .values
-
--- the whole promise of compiling, as the operation states it: the answer, and what the list holds afterwards
-pub record Compiles (text list : List ℕ) (answer : CompileAnswer) (after : List ℕ) : Type 0 where
-  pub answers : answer ≡ compileAnswer (compiling text (length list))
-  pub lists : after ≡ listAfter (compiling text (length list)) list

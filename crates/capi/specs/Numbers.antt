@@ -1,16 +1,18 @@
--- The number and the values of each case of each answer.
+-- The numbers of each answer for C, from its outcome.
 use Prim.Native.Nat.{ℕ}
+use mathlib.Core.Option.{Option, none, some}
 use mathlib.Core.List.{[], _∷_}
-use Rattle.job.specs.declared.head.Refusal.{Refusal}
-use Rattle.validate.specs.declared.verdict.Verdict.{Verdict}
-use Rattle.validate.specs.declared.verdict.Verdict.the-variants.{Plan, Blocked, Unfinished, Missed}
-use Rattle.jesmovit.specs.declared.judging.Judgement.{Judgement}
-use Rattle.jesmovit.specs.declared.judging.Judgement.the-variants.{Least, Dearer, Other}
-use Rattle.jesmovit.specs.declared.judging.JudgeAnswer as J
-use Rattle.jesmovit.specs.declared.judging.LeastAnswer as L
-use Rattle.jesmovit.specs.declared.compiling.CompileAnswer as C
-use Rattle.jesmovit.specs.declared.checking.CheckAnswer as K
-use Rattle.jesmovit.specs.declared.job_text.ReadAnswer as R
+use Rattle.job.specs.declared.head.Counts.{Counts}
+use Rattle.semantics.specs.Verdict.{Verdict, plan, blocked, unfinished, missed}
+use Rattle.semantics.specs.Judgement.{Judgement, least, dearer, other}
+use Rattle.compile.specs.declared.sizes.Sizes.{Sizes}
+use Rattle.load.specs.Refusals.{Checked, passed, refused}
+use Rattle.jesmovit.specs.Outcomes.{readOutcome, compileOutcome, checkOutcome, leastOutcome, SizedJudgement, judgeOutcome}
+use Rattle.jesmovit.specs.declared.judging.JudgeAnswer.{JudgeAnswer}
+use Rattle.jesmovit.specs.declared.judging.LeastAnswer.{LeastAnswer}
+use Rattle.jesmovit.specs.declared.compiling.CompileAnswer.{CompileAnswer}
+use Rattle.jesmovit.specs.declared.checking.CheckAnswer.{CheckAnswer}
+use Rattle.jesmovit.specs.declared.job_text.ReadAnswer.{ReadAnswer}
 use Rattle.capi.specs.declared.numbers.Numbers.{Numbers}
 use Rattle.capi.specs.declared.numbers.Coded.{Coded}
 
@@ -19,49 +21,58 @@ abbrev pub done : ℕ → ℕ → ℕ → ℕ → ℕ → Numbers
 done a b c d e = record { number = 0; values = a ∷ b ∷ c ∷ d ∷ e ∷ [] }
 
 -- "A refusal returns its number and place"
-abbrev pub refusalNumbers : Refusal → Numbers
-refusalNumbers r = record { number = r .number; values = r .place ∷ 0 ∷ 0 ∷ 0 ∷ 0 ∷ [] }
+abbrev pub refusalNumbers : ℕ → ℕ → Numbers
+refusalNumbers number place = record { number = number; values = place ∷ 0 ∷ 0 ∷ 0 ∷ 0 ∷ [] }
+
+-- of an outcome, by what is said of the value
+abbrev pub numbersOf : {B : Type 0} → (B → Numbers) → Checked B → Numbers
+numbersOf say (passed b) = say b
+numbersOf say (refused number place) = refusalNumbers number place
 
 abbrev pub coded : ℕ → ℕ → ℕ → Coded
 coded number first second = record { number = number; first = first; second = second }
 
 -- the verdicts, numbered from 0 in the order of "Verdicts": "plan, with its cost", "blocked i", "unfinished", "goal missed"
 abbrev pub verdictCode : Verdict → Coded
-verdictCode (Plan cost) = coded 0 cost 0
-verdictCode (Blocked i) = coded 1 i 0
-verdictCode Unfinished = coded 2 0 0
-verdictCode Missed = coded 3 0 0
+verdictCode (plan cost) = coded 0 cost 0
+verdictCode (blocked i) = coded 1 i 0
+verdictCode unfinished = coded 2 0 0
+verdictCode missed = coded 3 0 0
 
 -- and on: "adds least or dearer with both costs; for others it repeats the check's verdict"
 abbrev pub judgementCode : Judgement → Coded
-judgementCode (Least cost) = coded 4 cost cost
-judgementCode (Dearer cost least) = coded 5 cost least
-judgementCode (Other v) = verdictCode v
+judgementCode (least cost) = coded 4 cost cost
+judgementCode (dearer cost low) = coded 5 cost low
+judgementCode (other v) = verdictCode v
 
-abbrev pub readNumbers : R.ReadAnswer → Numbers
-readNumbers (R.the-variants.Read c) = done (c .facts) (c .formulas) (c .moves) (c .effects) (c .program)
-readNumbers (R.the-variants.Refused r) = refusalNumbers r
+abbrev pub countNumbers : Counts → Numbers
+countNumbers c = done (c .facts) (c .formulas) (c .moves) (c .effects) (c .program)
 
-abbrev pub compileNumbers : C.CompileAnswer → Numbers
-compileNumbers (C.the-variants.Compiled positions steps) = done positions steps 0 0 0
-compileNumbers (C.the-variants.Refused r) = refusalNumbers r
+abbrev pub sizeNumbers : Sizes → Numbers
+sizeNumbers s = done (s .positions) (s .steps) 0 0 0
 
-abbrev pub said : Coded → Numbers
-said o = done (o .number) (o .first) 0 0 0
-
-abbrev pub checkNumbers : K.CheckAnswer → Numbers
-checkNumbers (K.the-variants.Said v) = said (verdictCode v)
-checkNumbers (K.the-variants.Refused r) = refusalNumbers r
+abbrev pub codeNumbers : Coded → Numbers
+codeNumbers o = done (o .number) (o .first) 0 0 0
 
 -- and on: "answers the cost, or none"
-abbrev pub leastNumbers : L.LeastAnswer → Numbers
-leastNumbers (L.the-variants.Costs cost) = done 6 cost 0 0 0
-leastNumbers L.the-variants.NoPlan = done 7 0 0 0 0
-leastNumbers (L.the-variants.Refused r) = refusalNumbers r
+abbrev pub costNumbers : Option ℕ → Numbers
+costNumbers (some cost) = done 6 cost 0 0 0
+costNumbers none = done 7 0 0 0 0
 
-abbrev pub judged : ℕ → ℕ → Coded → Numbers
-judged positions steps o = done positions steps (o .number) (o .first) (o .second)
+abbrev pub judgedNumbers : Sizes → Coded → Numbers
+judgedNumbers s o = done (s .positions) (s .steps) (o .number) (o .first) (o .second)
 
-abbrev pub judgeNumbers : J.JudgeAnswer → Numbers
-judgeNumbers (J.the-variants.Judged positions steps g) = judged positions steps (judgementCode g)
-judgeNumbers (J.the-variants.Refused r) = refusalNumbers r
+abbrev pub readNumbers : ReadAnswer → Numbers
+readNumbers a = numbersOf countNumbers (readOutcome a)
+
+abbrev pub compileNumbers : CompileAnswer → Numbers
+compileNumbers a = numbersOf sizeNumbers (compileOutcome a)
+
+abbrev pub checkNumbers : CheckAnswer → Numbers
+checkNumbers a = numbersOf (λ v. codeNumbers (verdictCode v)) (checkOutcome a)
+
+abbrev pub leastNumbers : LeastAnswer → Numbers
+leastNumbers a = numbersOf costNumbers (leastOutcome a)
+
+abbrev pub judgeNumbers : JudgeAnswer → Numbers
+judgeNumbers a = numbersOf (λ g. judgedNumbers (g .sizes) (judgementCode (g .judgement))) (judgeOutcome a)

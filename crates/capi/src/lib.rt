@@ -1,19 +1,18 @@
 // The public operations for C, and for every language that calls C: numbers and slices alone, and no `requires`. include/jesmovit.h says the same in C's words.
-ghost use mathlib.Core.Path.{_≡_};
-ghost use Rattle.job.specs.ReadJob.{readJob};
-ghost use Rattle.offers.specs.declared.offer.Sort.{Sort};
-ghost use Rattle.jesmovit.specs.JobText.{readAnswer};
+ghost use Rattle.load.specs.declared.request.Sort.{Sort};
+ghost use Rattle.jesmovit.specs.JobText.{Reads};
+ghost use Rattle.jesmovit.specs.Compiling.{Compiles};
 ghost use Rattle.jesmovit.specs.Checking.{Checks};
 ghost use Rattle.jesmovit.specs.Judging.{CostsLeast, Judges};
 ghost use Rattle.capi.specs.Numbers.{readNumbers, compileNumbers, checkNumbers, leastNumbers, judgeNumbers};
-ghost use Rattle.capi.specs.Calls.{Gives, Compiles};
+ghost use Rattle.capi.specs.Calls.{Gives};
 
 mod numbers;
 
 // Reads a job text: its counts.
 #[no_mangle]
 pub extern "C" fn jesmovit_read_job(text: &[u8], answer: &mut [u64; 5]) -> u32
-    ensures { λ r. ⌜ Gives readNumbers (λ a. a ≡ readAnswer (readJob (now (text .entry)))) r (now (answer .exit)) ⌝ }
+    ensures { λ r. ⌜ Gives readNumbers (λ a. Reads (now (text .entry)) a) r (now (answer .exit)) ⌝ }
 {
     let a = jesmovit::read_job(text);
     let n = numbers::of_read(a);

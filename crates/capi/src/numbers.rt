@@ -1,5 +1,7 @@
 // Answers as numbers, as include/jesmovit.h has them.
 ghost use mathlib.Core.Path.{_≡_};
+ghost use Rattle.validate.specs.Verdict.{verdictOf};
+ghost use Rattle.jesmovit.specs.Outcomes.{judgementOf};
 ghost use Rattle.capi.specs.Numbers.{verdictCode, judgementCode, refusalNumbers};
 ghost use Rattle.capi.specs.Numbers.{readNumbers, compileNumbers, checkNumbers, leastNumbers, judgeNumbers};
 use jesmovit::CheckAnswer;
@@ -25,7 +27,7 @@ pub struct Coded {
 }
 
 pub fn of_verdict(v: Verdict) -> Coded
-    ensures { λ r. ⌜ r ≡ verdictCode v ⌝ }
+    ensures { λ r. ⌜ r ≡ verdictCode (verdictOf v) ⌝ }
 {
     match v {
         Verdict::Plan(cost) => Coded {
@@ -52,7 +54,7 @@ pub fn of_verdict(v: Verdict) -> Coded
 }
 
 pub fn of_judgement(g: Judgement) -> Coded
-    ensures { λ r. ⌜ r ≡ judgementCode g ⌝ }
+    ensures { λ r. ⌜ r ≡ judgementCode (judgementOf g) ⌝ }
 {
     match g {
         Judgement::Least(cost) => Coded {
@@ -70,7 +72,7 @@ pub fn of_judgement(g: Judgement) -> Coded
 }
 
 pub fn of_refusal(r: Refusal) -> Numbers
-    ensures { λ n. ⌜ n ≡ refusalNumbers r ⌝ }
+    ensures { λ n. ⌜ n ≡ refusalNumbers (r .number) (r .place) ⌝ }
 {
     Numbers {
         number: r.number as u32,

@@ -6,7 +6,7 @@ use Rattle.capi.proofs.jesmovit_compile.Tie as tie
 returns : tie.Need-returns
 returns c =
     let at5 = c .before .before .before .before .before in
-    given-by (at5 .compile .result) (record { answers = at5 .compile .ensures .0; lists = at5 .compile .ensures .1 })
+    given-by (at5 .compile .result) (at5 .compile .ensures)
     (c .before .before .of-compile .ensures) (c .hand-out .ensures)
 
 pub jesmovit-compile-spec : {M : Type 1} → statement M

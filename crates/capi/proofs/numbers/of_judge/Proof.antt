@@ -1,11 +1,11 @@
 use mathlib.Core.Path.{sym, ap, _∙_}
-use Rattle.capi.specs.Numbers.{judged, judgeNumbers}
+use Rattle.capi.specs.Numbers.{judgedNumbers, judgeNumbers}
 use borrow.Author.Needs.{needs}
 use Rattle.capi.proofs.numbers.of_judge.Statement.{statement}
 use Rattle.capi.proofs.numbers.of_judge.Tie as tie
 
 returns : tie.Need-returns
-returns c = ap (judged _ _) (c .of-judgement .ensures) ∙ sym (ap judgeNumbers (c .before .before .a .given .1))
+returns c = ap (judgedNumbers _) (c .of-judgement .ensures) ∙ sym (ap judgeNumbers (c .before .before .a .given .1))
 
 returns-2 : tie.Need-returns-2
 returns-2 c = c .of-refusal .ensures ∙ sym (ap judgeNumbers (c .before .before .a2 .given .1))
