@@ -21,7 +21,7 @@ unfolding bytes written
 step-text k f t a = simp append-assoc
 
 -- as the code writes it
-pub refused-text : (r : Refusal) → bytes "refused=" ++ decimal (r .number) ++ (bytes "," ++ written (r .place ∷ [])) ≡ refusedLine r
+pub refused-text : (r : Refusal) → bytes "refused=" ++ decimal (r .number) ++ (bytes "," ++ written (r .place ∷ [])) ≡ refusedLine (r .number) (r .place)
 unfolding bytes written
 refused-text r = simp append-assoc
 

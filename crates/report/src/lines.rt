@@ -4,6 +4,8 @@ ghost use Prim.Native.Nat.{_+_, _*_, _≤_};
 ghost use lib.ListN.{length};
 ghost use Rattle.text.specs.Written.{decimal, written};
 ghost use Rattle.report.specs.Put.{Put};
+ghost use Rattle.semantics.specs.Verdict.{plan};
+ghost use Rattle.validate.specs.Verdict.{verdictOf};
 ghost use Rattle.report.specs.Printout.{stepLine, stepLines, refusedLine, verdictLines};
 use crate::put;
 use job::head::Refusal;
@@ -56,7 +58,7 @@ pub(crate) fn steps(out: &mut [u8], at: usize, list: &[u16]) -> usize
 
 pub(crate) fn refusal(out: &mut [u8], at: usize, r: Refusal) -> usize
     requires { ⌜ at + 64 ≤ length (now out) ⌝ }
-    ensures { λ n. ⌜ Put 64 (refusedLine r) (now (out .entry)) at (now (out .exit)) n ⌝ }
+    ensures { λ n. ⌜ Put 64 (refusedLine (r .number) (r .place)) (now (out .entry)) at (now (out .exit)) n ⌝ }
 {
     let a = put::text(out, at, b"refused=");
     let b = put::number(out, a, r.number as u64);
@@ -65,7 +67,7 @@ pub(crate) fn refusal(out: &mut [u8], at: usize, r: Refusal) -> usize
 
 fn plan(out: &mut [u8], at: usize, cost: u32) -> usize
     requires { ⌜ at + 64 ≤ length (now out) ⌝ }
-    ensures { λ r. ⌜ Put 64 (verdictLines (Verdict.Plan cost)) (now (out .entry)) at (now (out .exit)) r ⌝ }
+    ensures { λ r. ⌜ Put 64 (verdictLines (plan cost)) (now (out .entry)) at (now (out .exit)) r ⌝ }
 {
     let a = line(out, at, b"cost=", cost as u64);
     put::text(out, a, b"answer=plan\n")
@@ -73,7 +75,7 @@ fn plan(out: &mut [u8], at: usize, cost: u32) -> usize
 
 pub(crate) fn verdict(out: &mut [u8], at: usize, v: Verdict) -> usize
     requires { ⌜ at + 64 ≤ length (now out) ⌝ }
-    ensures { λ r. ⌜ Put 64 (verdictLines v) (now (out .entry)) at (now (out .exit)) r ⌝ }
+    ensures { λ r. ⌜ Put 64 (verdictLines (verdictOf v)) (now (out .entry)) at (now (out .exit)) r ⌝ }
 {
     match v {
         Verdict::Plan(cost) => plan(out, at, cost),

@@ -3,6 +3,7 @@ ghost use mathlib.Core.Path.{_≡_};
 ghost use Prim.Native.Nat.{_+_, _*_, _≤_};
 ghost use lib.ListN.{length, take};
 ghost use Rattle.limits.specs.Limits.{mostSteps};
+ghost use Rattle.jesmovit.specs.Outcomes.{judgementOf};
 ghost use Rattle.report.specs.Put.{Put, Prints};
 ghost use Rattle.report.specs.Printout.{costLines, judgementLines, compiledLines, countLines};
 ghost use Rattle.report.specs.Printout.{judgePrintout, leastPrintout, compilePrintout, checkPrintout, readPrintout};
@@ -47,7 +48,7 @@ fn costs(out: &mut [u8], at: usize, cost: u32, least: u32) -> usize
 
 fn judgement(out: &mut [u8], at: usize, j: Judgement) -> usize
     requires { ⌜ at + 128 ≤ length (now out) ⌝ }
-    ensures { λ r. ⌜ Put 128 (judgementLines j) (now (out .entry)) at (now (out .exit)) r ⌝ }
+    ensures { λ r. ⌜ Put 128 (judgementLines (judgementOf j)) (now (out .entry)) at (now (out .exit)) r ⌝ }
 {
     match j {
         Judgement::Least(cost) => {
