@@ -2,7 +2,7 @@
 -- Assumes nothing.
 use Prim.Native.Nat.{ℕ, _^_, _≤_, _*_}
 use mathlib.Core.Path.{_≡_, refl, sym, _∙_, ap}
-use mathlib.Core.Bool.{true}
+use mathlib.Core.Bool.{Bool, true, false}
 use mathlib.Core.List.{List}
 use mathlib.Core.Logic.{_↔_}
 use native.Mathlib.Omega.{arith}
@@ -18,17 +18,15 @@ use Rattle.job.specs.WellFormed.{WellFormed}
 use Rattle.reader.proofs.ReadLaws.{read-well-formed, read-lines}
 use Rattle.compile.proofs.FitLaws.{few-positions, few-steps}
 use Rattle.plans.specs.PlanText.{listed, readPlan}
-use Rattle.offers.specs.Refusals.{Checked, passed, next, compilable, jobIn, Offer, offered, keyFor, boundFor, offerIn, listNeed, tableNeed}
-use Rattle.offers.specs.declared.offer.Sort.{Sort}
-use Rattle.offers.specs.declared.offer.Sort.the-variants.{Moves, Steps}
-use Rattle.offers.proofs.LoadLaws.{passed-read, fit}
-use Rattle.offers.proofs.OfferLaws.{offer-taken}
-use Rattle.jesmovit.specs.Compiling.{compiling}
-use Rattle.jesmovit.specs.Checking.{checking}
-use Rattle.jesmovit.specs.Judging.{costing, judging}
-use Rattle.jesmovit.proofs.PassedLaws.{compiling-passes, costing-passes, checking-passes, judging-passes}
+use Rattle.load.specs.Refusals.{Handed, Checked, passed, next, compilable, jobIn, Offer, offered, keyFor, boundFor, planIn, textsIn}
+use Rattle.load.specs.Refusals.{listNeed, tableSize, loading}
+use Rattle.load.specs.declared.request.Sort.{Sort}
+use Rattle.load.specs.declared.request.Sort.the-variants.{Moves, Steps}
+use Rattle.load.proofs.LoadLaws.{passed-read, fit}
+use Rattle.load.proofs.PlanLaws.{plan-taken, plan-alone}
+use Rattle.load.proofs.LoadingLaws.{texts-taken, loading-iff}
 use Rattle.theorems.specs.JobText.{jobLines, jobText}
-use Rattle.theorems.specs.Accepted.{AcceptedJob, AcceptedPlan, Accepted}
+use Rattle.theorems.specs.Accepted.{AcceptedJob, AcceptedPlan, AcceptedTexts, Accepted}
 use Rattle.theorems.proofs.TextLaws.{text-read}
 use Rattle.theorems.proofs.ToldLaws.{read-text}
 use Rattle.theorems.proofs.PlanTexts.{plan-text-iff}
@@ -74,55 +72,51 @@ module _ (sort : Sort) (j : Job) (plan entries : List ℕ) where
         let p = plan-text-iff (keyFor sort) (boundFor sort j) plan entries (key-plain sort) (bound-small sort) in
         (λ e. let x = p .0 e in record { few = x .0; each = x .1; written = x .2 }, λ a. p .1 (a .few, a .each, a .written))
 
--- of both: reasons 1 to 5
-module _ (sort : Sort) (text plan : List ℕ) (o : Offer) where
+-- of what is handed in
+module _ (h : Handed) (o : Offer) where
   abbrev planned : Job → Checked Offer
-  planned j = offered j (readPlan (keyFor sort) (boundFor sort j) plan)
+  planned j = planIn (h .request) (h .plan) j
 
-  texts-pass : Accepted sort text plan o → offerIn sort text plan ≡ passed o
-  unfolding offerIn
-  texts-pass a =
-      ap (λ (c : Checked Job). next c planned) (job-passes text (o .job) (a .its-job))
-      ∙ ap (offered (o .job)) (plan-iff sort (o .job) plan (o .entries) text (a .its-job) .1 (a .its-plan))
+  -- what is handed in without a plan text, and with one
+  plan-passes : (b : Bool) → h .request .plan ≡ b → AcceptedTexts h o → planned (o .job) ≡ passed o
+  plan-passes true e a =
+      rw e (ap (offered (o .job)) (plan-iff (h .request .sort) (o .job) (h .plan) (o .entries) (h .job) (a .its-job) .1 (a .its-plan e)))
+  plan-passes false e a = rw e (ap (λ (es : List ℕ). passed (record { job = o .job; entries = es })) (sym (a .alone e)))
 
-  pub accepted-iff : (offerIn sort text plan ≡ passed o) ↔ Accepted sort text plan o
+  texts-pass : AcceptedTexts h o → textsIn h ≡ passed o
+  unfolding textsIn
+  texts-pass a = ap (λ (c : Checked Job). next c planned) (job-passes (h .job) (o .job) (a .its-job)) ∙ plan-passes (h .request .plan) refl a
+
+  its-job : {j : Job} → planned j ≡ passed o → j ≡ o .job
+  its-job {j} e = by (h .request .plan) refl
+    where
+      by : (b : Bool) → h .request .plan ≡ b → j ≡ o .job
+      by true f = plan-taken (h .request) (h .plan) j o f e .0
+      by false f = ap (λ (x : Offer). x .job) (plan-alone (h .request) (h .plan) j o f e)
+
+  texts-passed : textsIn h ≡ passed o → AcceptedTexts h o
+  texts-passed e =
+      let t = texts-taken h e in
+      let a = job-iff (h .job) (o .job) .0 (t .1 ∙ ap passed (its-job (t .2))) in
+      record {
+        its-job = a;
+        its-plan = λ f. plan-iff (h .request .sort) (o .job) (h .plan) (o .entries) (h .job) a .0 (plan-taken (h .request) (h .plan) (t .0) o f (t .2) .1);
+        alone = λ f. ap (λ (x : Offer). x .entries) (sym (plan-alone (h .request) (h .plan) (t .0) o f (t .2)));
+      }
+
+  -- its texts: reasons 1 to 5
+  pub texts-iff : (textsIn h ≡ passed o) ↔ AcceptedTexts h o
+  texts-iff = (texts-passed, texts-pass)
+
+  -- all of it, for every operation
+  pub accepted-iff : (loading h ≡ passed o) ↔ Accepted h o
   accepted-iff = (
-    λ e.
-        let t = offer-taken sort text plan o e in
-        let a = job-iff text (o .job) .0 (t .0) in
-        record { its-job = a; its-plan = plan-iff sort (o .job) plan (o .entries) text a .0 (t .1) },
-    texts-pass,
+    λ e. let x = loading-iff h o .0 e in record { texts = texts-passed (x .0); list = x .1; table = x .2 },
+    λ a. loading-iff h o .1 (texts-pass (a .texts), a .list, a .table),
   )
 
--- of each operation, with a list of so many places and a cost table of so many cells
-module _ (text : List ℕ) (places : ℕ) (j : Job) where
-  pub compiling-iff : (compiling text places ≡ passed j) ↔ (AcceptedJob text j × (listNeed j ≤ places))
-  compiling-iff =
-      let s = compiling-passes text places j in
-      let a = job-iff text j in
-      (λ e. let x = s .0 e in (a .0 (x .0), x .1), λ h. s .1 (a .1 (h .0), h .1))
-
-  pub costing-iff : (cells : ℕ) → (costing text places cells ≡ passed j) ↔ (AcceptedJob text j × (listNeed j ≤ places) × (tableNeed j ≤ cells))
-  costing-iff cells =
-      let s = costing-passes text places cells j in
-      (λ e. let x = s .0 e in let y = compiling-iff .0 (x .0) in (y .0, y .1, x .1), λ h. s .1 (compiling-iff .1 (h .0, h .1), h .2))
-
-module _ (text plan : List ℕ) (places : ℕ) (o : Offer) where
-  pub checking-iff : (sort : Sort) → (checking sort text plan places ≡ passed o) ↔ (Accepted sort text plan o × (listNeed (o .job) ≤ places))
-  checking-iff sort =
-      let s = checking-passes sort text plan places o in
-      let a = accepted-iff sort text plan o in
-      (λ e. let x = s .0 e in (a .0 (x .0), x .1), λ h. s .1 (a .1 (h .0), h .1))
-
-  pub judging-iff : (cells : ℕ)
-      → (judging text plan places cells ≡ passed o) ↔ (Accepted Moves text plan o × (listNeed (o .job) ≤ places) × (tableNeed (o .job) ≤ cells))
-  judging-iff cells =
-      let s = judging-passes text plan places cells o in
-      let a = checking-iff Moves in
-      (λ e. let x = s .0 e in let y = a .0 (x .0) in (y .0, y .1, x .1), λ h. s .1 (a .1 (h .0, h .1), h .2))
-
 -- as the header says: 4,096 numbers of a list, and 1,048,576 of a table, are enough for every job
-pub needs-within : (text : List ℕ) (j : Job) → AcceptedJob text j → (listNeed j ≤ mostSteps * 4) × (tableNeed j ≤ mostStates * mostPositions)
+pub needs-within : (text : List ℕ) (j : Job) → AcceptedJob text j → (listNeed j ≤ mostSteps * 4) × (tableSize j ≤ mostStates * mostPositions)
 needs-within text j a =
     let few : 2 ^ (j .scalars .facts) ≤ mostStates = pow-le-pow-right (omega arith) (a .right .facts) in
     (omega (arith, a .steps), omega (arith, mul-le-mul few (a .positions)))

@@ -2,7 +2,7 @@
 -- Assumes nothing.
 use Prim.Native.Nat.{ℕ, _-_, _≤_}
 use mathlib.Core.Path.{_≡_, sym, _∙_, ap, subst}
-use mathlib.Core.List.{List}
+use mathlib.Core.List.{List, []}
 use native.Mathlib.Omega.{arith}
 use lib.ListN.{length}
 use Rattle.job.specs.Job.{Job}
@@ -13,10 +13,10 @@ use Rattle.semantics.proofs.FlatLaws.{laid-back}
 use Rattle.domain.specs.Domain.{domainOf}
 use Rattle.compile.specs.Program.{programOf}
 use Rattle.compile.specs.CompiledJob.{stepsOf, positionCount, stepCount}
-use Rattle.offers.specs.Refusals.{Checked, passed, listNeed}
-use Rattle.jesmovit.specs.Compiling.{compiling, listAfter}
+use Rattle.load.specs.Refusals.{listNeed}
+use Rattle.load.specs.View.{viewOf}
+use Rattle.jesmovit.specs.Compiling.{listAfter}
 use Rattle.theorems.specs.Accepted.{AcceptedJob}
-use Rattle.theorems.proofs.Acceptance.{compiling-iff}
 
 module _ (text : List ℕ) (j : Job) (accepted : AcceptedJob text j) where
   -- "a plan of the compiled job, bookkeeping dropped, is allowed by the program on the original job, and every allowed plan comes from one"
@@ -28,13 +28,10 @@ module _ (text : List ℕ) (j : Job) (accepted : AcceptedJob text j) where
   -- a list that is long enough
   module _ (list : List ℕ) (long : listNeed j ≤ length list) where
     abbrev after : List ℕ
-    after = listAfter (compiling text (length list)) list
-
-    pub compiles : compiling text (length list) ≡ passed j
-    compiles = compiling-iff text (length list) j .1 (accepted, long)
+    after = listAfter (viewOf (record { job = j; entries = [] })) list
 
     pub list-holds : stepsIn (stepCount j) after ≡ stepsOf j
-    list-holds = ap (λ (c : Checked Job). stepsIn (stepCount j) (listAfter c list)) compiles ∙ laid-back (stepsOf j) list long
+    list-holds = laid-back (stepsOf j) list long
 
     -- the same of the steps that it holds after compiling
     pub compiled-plans-agree : Agrees (domainOf j) (programOf j) (stepsIn (stepCount j) after) (positionCount j - 1)

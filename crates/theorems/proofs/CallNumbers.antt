@@ -2,6 +2,8 @@
 -- Assumes nothing.
 use Prim.Native.Nat.{ℕ, _≤_}
 use mathlib.Core.Path.{_≡_, refl, sym, _∙_, ap, subst}
+use mathlib.Core.Bool.{false}
+use mathlib.Core.Option.{Option, none, some}
 use mathlib.Core.List.{List}
 use mathlib.Core.Logic.{_⊎_, inl, inr}
 use native.Mathlib.Omega.{arith}
@@ -10,29 +12,22 @@ use Rattle.laws.proofs.Tests.{never}
 use Rattle.job.specs.Job.{Job}
 use Rattle.job.specs.ReadJob as R
 use Rattle.job.specs.ReadJob.{Outcome, readJob}
-use Rattle.offers.specs.Refusals.{Checked, passed, refused, Offer}
-use Rattle.offers.specs.declared.offer.Sort.{Sort}
-use Rattle.jesmovit.specs.JobText.{readAnswer}
-use Rattle.jesmovit.specs.Compiling.{compiling, compileAnswer}
-use Rattle.jesmovit.specs.Checking.{checking, Answers, says, refuses, Checks}
-use Rattle.jesmovit.specs.Judging.{costing, CostAnswers, costs, no-plan, not-costed, CostsLeast, judging, JudgeAnswers, judges, not-judged, Judges}
-use Rattle.jesmovit.specs.declared.checking.CheckAnswer.{CheckAnswer}
-use Rattle.jesmovit.specs.declared.judging.LeastAnswer.{LeastAnswer}
-use Rattle.jesmovit.specs.declared.judging.JudgeAnswer.{JudgeAnswer}
-use Rattle.capi.specs.Numbers.{readNumbers, compileNumbers, checkNumbers, leastNumbers, judgeNumbers}
-use Rattle.capi.specs.Calls.{Gives, Compiles}
+use Rattle.load.specs.Refusals.{Handed, Checked, passed, refused, next, Offer, loading}
+use Rattle.load.specs.View.{View, viewOf, viewIn}
+use Rattle.load.specs.declared.request.Sort.{Sort}
+use Rattle.load.specs.declared.request.Sort.the-variants.{Moves}
+use Rattle.jesmovit.specs.Outcomes.{readOutcome, compileOutcome, checkOutcome, leastOutcome, judgeOutcome}
+use Rattle.jesmovit.specs.Answers.{Answers}
+use Rattle.jesmovit.specs.JobText.{countsIn, Reads}
+use Rattle.jesmovit.specs.Compiling.{compiling, Compiles}
+use Rattle.jesmovit.specs.Checking.{checking, Checks}
+use Rattle.jesmovit.specs.Judging.{costing, CostsLeast, judging, Judges}
+use Rattle.jesmovit.proofs.AnswerLaws.{refusal-kept}
+use Rattle.capi.specs.Numbers.{numbersOf, countNumbers, costNumbers, readNumbers, compileNumbers, checkNumbers, leastNumbers, judgeNumbers}
+use Rattle.capi.specs.Calls.{Gives}
 use Rattle.capi.specs.declared.numbers.Numbers.{Numbers}
 use Rattle.theorems.specs.RefusalNumbers.{UpTo, WithoutPlan, CallNumber}
-use Rattle.theorems.proofs.RefusalNumbers.{read-number, compile-number, check-number, cost-number, judge-number}
-
--- the number of a refusal, and 0 for none
-abbrev numberOf : {A : Type 0} → Checked A → ℕ
-numberOf (passed a) = 0
-numberOf (refused number place) = number
-
-abbrev readNumber : Outcome → ℕ
-readNumber (R.read lines j) = 0
-readNumber (R.refused number place) = number
+use Rattle.theorems.proofs.RefusalNumbers.{read-number, load-number, job-load-number}
 
 -- numbers of refusals that are not 0
 module _ (P : ℕ → Type 0) (positive : (number : ℕ) → P number → 1 ≤ number) where
@@ -41,15 +36,20 @@ module _ (P : ℕ → Type 0) (positive : (number : ℕ) → P number → 1 ≤ 
   either-number n (inl (p, e)) = record { zero-iff = (λ z. p, λ q. e); otherwise = inl e }
   either-number n (inr (r, f)) = record { zero-iff = (λ z. absurd (omega (arith, positive n r)), λ q. absurd (f q)); otherwise = inr r }
 
-  checked-number : {A : Type 0} (c : Checked A) → ((number place : ℕ) → c ≡ refused number place → P number)
-      → CallNumber P ((a : A) × (c ≡ passed a)) (numberOf c)
-  checked-number (passed a) f = either-number 0 (inl ((a, refl), refl))
-  checked-number (refused number place) f = either-number number (inr (f number place refl, λ x. let y = x .1 in never (cc)))
+  -- of every operation that takes texts
+  module _ {A B C : Type 0} {Does : View → B → C → C → Type 0} {old new : C} (h : Handed) (outcome : A → Checked B) (say : B → Numbers)
+      (zero : (b : B) → say b .number ≡ 0) (by : (number place : ℕ) → loading h ≡ refused number place → P number) where
+    outcome-number : (c : Checked Offer) → loading h ≡ c → (d : Checked B) → Answers Does old (next c (λ o. passed (viewOf o))) d new
+        → CallNumber P ((o : Offer) × (loading h ≡ passed o)) (numbersOf say d .number)
+    outcome-number (passed o) e (passed b) x = either-number _ (inl ((o, e), zero b))
+    outcome-number (refused number place) e d x =
+        subst (λ (y : Checked B). CallNumber P ((o : Offer) × (loading h ≡ passed o)) (numbersOf say y .number)) (sym (refusal-kept x refl .0))
+        (either-number number (inr (by number place e, λ y. let z = y .1 in never (cc))))
 
-  outcome-number : (o : Outcome) → ((number place : ℕ) → o ≡ R.refused number place → P number)
-      → CallNumber P ((n : ℕ) × (j : Job) × (o ≡ R.read n j)) (readNumber o)
-  outcome-number (R.read n j) f = either-number 0 (inl ((n, j, refl), refl))
-  outcome-number (R.refused number place) f = either-number number (inr (f number place refl, λ x. let y = x .2 in never (cc)))
+    call-number : {number : ℕ} {values : List ℕ} → Gives (λ a. numbersOf say (outcome a)) (λ a. Answers Does old (viewIn h) (outcome a) new) number values
+        → CallNumber P ((o : Offer) × (loading h ≡ passed o)) number
+    call-number g =
+        subst (CallNumber P ((o : Offer) × (loading h ≡ passed o))) (sym (g .number-is)) (outcome-number (loading h) refl (outcome (g .answer)) (g .holds))
 
 up-to-positive : (last number : ℕ) → UpTo last number → 1 ≤ number
 up-to-positive last number x = x .0
@@ -58,65 +58,48 @@ without-plan-positive : (number : ℕ) → WithoutPlan number → 1 ≤ number
 without-plan-positive number (inl x) = x .0
 without-plan-positive number (inr e) = omega arith
 
--- a call whose answers all have the number n
-call-number : {A : Type 0} {numbers : A → Numbers} {promised : A → Type 0} {P : ℕ → Type 0} {Passes : Type 0} {number : ℕ} {values : List ℕ} (n : ℕ)
-    → Gives numbers promised number values → ((a : A) → promised a → numbers a .number ≡ n) → CallNumber P Passes n → CallNumber P Passes number
-call-number {P} {Passes} n g f x = subst (CallNumber P Passes) (sym (g .number-is ∙ f (g .answer) (g .holds))) x
-
 -- of reading
-pub read-call-number : (text : List ℕ) {number : ℕ} {values : List ℕ} → Gives readNumbers (λ a. a ≡ readAnswer (readJob text)) number values
+pub read-call-number : (text : List ℕ) {number : ℕ} {values : List ℕ} → Gives readNumbers (λ a. Reads text a) number values
     → CallNumber (UpTo 3) ((n : ℕ) × (j : Job) × (readJob text ≡ R.read n j)) number
 read-call-number text g =
-    call-number (readNumber (readJob text)) g (λ a e. ap (λ x. readNumbers x .number) e ∙ same (readJob text))
-    (outcome-number (UpTo 3) (up-to-positive 3) (readJob text) (read-number text))
+    subst (CallNumber (UpTo 3) _) (sym (g .number-is ∙ ap (λ d. numbersOf countNumbers d .number) (g .holds))) (of-text (readJob text) refl)
   where
-    same : (o : Outcome) → readNumbers (readAnswer o) .number ≡ readNumber o
-    same (R.read n j) = refl
-    same (R.refused m p) = refl
+    of-text : (o : Outcome) → readJob text ≡ o
+        → CallNumber (UpTo 3) ((n : ℕ) × (j : Job) × (readJob text ≡ R.read n j)) (numbersOf countNumbers (countsIn o) .number)
+    of-text (R.read n j) e = either-number (UpTo 3) (up-to-positive 3) 0 (inl ((n, j, e), refl))
+    of-text (R.refused m p) e =
+        either-number (UpTo 3) (up-to-positive 3) m (inr (read-number text m p e, λ x. let y = x .2 in never (cc)))
 
 -- of compiling
 pub compile-call-number : (text list after : List ℕ) {number : ℕ} {values : List ℕ} → Gives compileNumbers (λ a. Compiles text list a after) number values
-    → CallNumber WithoutPlan ((j : Job) × (compiling text (length list) ≡ passed j)) number
+    → CallNumber WithoutPlan ((o : Offer) × (loading (compiling text (length list)) ≡ passed o)) number
 compile-call-number text list after g =
-    call-number (numberOf (compiling text (length list))) g (λ a x. ap (λ y. compileNumbers y .number) (x .answers) ∙ same (compiling text (length list)))
-    (checked-number WithoutPlan without-plan-positive (compiling text (length list)) (compile-number text (length list)))
-  where
-    same : (c : Checked Job) → compileNumbers (compileAnswer c) .number ≡ numberOf c
-    same (passed j) = refl
-    same (refused m p) = refl
+    let h = compiling text (length list) in
+    call-number WithoutPlan without-plan-positive h compileOutcome _ (λ s. refl) (job-load-number h refl) g
 
 -- of a check
-check-same : (sort : Sort) (c : Checked Offer) (a : CheckAnswer) → Answers sort c a → checkNumbers a .number ≡ numberOf c
-check-same sort c a (says x) = refl
-check-same sort c a refuses = refl
-
 pub check-call-number : (sort : Sort) (text plan list after : List ℕ) {number : ℕ} {values : List ℕ}
     → Gives checkNumbers (λ a. Checks sort text plan list a after) number values
-    → CallNumber (UpTo 6) ((o : Offer) × (checking sort text plan (length list) ≡ passed o)) number
+    → CallNumber (UpTo 6) ((o : Offer) × (loading (checking sort text plan (length list)) ≡ passed o)) number
 check-call-number sort text plan list after g =
-    call-number (numberOf (checking sort text plan (length list))) g (λ a x. check-same sort _ a (x .answers))
-    (checked-number (UpTo 6) (up-to-positive 6) (checking sort text plan (length list)) (check-number sort text plan (length list)))
+    let h = checking sort text plan (length list) in
+    call-number (UpTo 6) (up-to-positive 6) h checkOutcome _ (λ v. refl) (load-number h) g
 
 -- of the least cost
-cost-same : (old new : List ℕ) (c : Checked Job) (a : LeastAnswer) → CostAnswers old new c a → leastNumbers a .number ≡ numberOf c
-cost-same old new c a (costs x t) = refl
-cost-same old new c a (no-plan f t) = refl
-cost-same old new c a (not-costed t) = refl
+cost-zero : (c : Option ℕ) → costNumbers c .number ≡ 0
+cost-zero (some c) = refl
+cost-zero none = refl
 
 pub cost-call-number : (text list table l t : List ℕ) {number : ℕ} {values : List ℕ} → Gives leastNumbers (λ a. CostsLeast text list table a l t) number values
-    → CallNumber WithoutPlan ((j : Job) × (costing text (length list) (length table) ≡ passed j)) number
+    → CallNumber WithoutPlan ((o : Offer) × (loading (costing text (length list) (length table)) ≡ passed o)) number
 cost-call-number text list table l t g =
-    call-number (numberOf (costing text (length list) (length table))) g (λ a x. cost-same table t _ a (x .answers))
-    (checked-number WithoutPlan without-plan-positive (costing text (length list) (length table)) (cost-number text (length list) (length table)))
+    let h = costing text (length list) (length table) in
+    call-number WithoutPlan without-plan-positive h leastOutcome _ cost-zero (job-load-number h refl) g
 
 -- of the judge
-judge-same : (old new : List ℕ) (c : Checked Offer) (a : JudgeAnswer) → JudgeAnswers old new c a → judgeNumbers a .number ≡ numberOf c
-judge-same old new c a (judges x t) = refl
-judge-same old new c a (not-judged t) = refl
-
 pub judge-call-number : (text plan list table l t : List ℕ) {number : ℕ} {values : List ℕ}
     → Gives judgeNumbers (λ a. Judges text plan list table a l t) number values
-    → CallNumber (UpTo 6) ((o : Offer) × (judging text plan (length list) (length table) ≡ passed o)) number
+    → CallNumber (UpTo 6) ((o : Offer) × (loading (judging text plan (length list) (length table)) ≡ passed o)) number
 judge-call-number text plan list table l t g =
-    call-number (numberOf (judging text plan (length list) (length table))) g (λ a x. judge-same table t _ a (x .answers))
-    (checked-number (UpTo 6) (up-to-positive 6) (judging text plan (length list) (length table)) (judge-number text plan (length list) (length table)))
+    let h = judging text plan (length list) (length table) in
+    call-number (UpTo 6) (up-to-positive 6) h judgeOutcome _ (λ j. refl) (load-number h) g

@@ -1,19 +1,23 @@
 -- What is printed of a compiled job has a line for each of its steps, in their order.
 -- Assumes nothing.
 use Prim.Native.Nat.{ℕ, _+_, _*_, _≤_}
-use mathlib.Core.Path.{_≡_, refl, _∙_, ap}
+use mathlib.Core.Path.{_≡_, refl, sym, _∙_, ap}
 use mathlib.Core.List.{List, [], _∷_, _++_}
 use native.Mathlib.Omega.{arith}
 use lib.ListN.{length, take, drop}
 use lib.Seq.{sets, sets-eq, take-at}
-use Rattle.job.specs.Job.{Job}
 use Rattle.semantics.specs.CompilingTable.{Step, arc, flat, kindOf, argOf}
 use Rattle.semantics.proofs.FlatLaws.{flat-length}
-use Rattle.compile.specs.CompiledJob.{stepsOf, positionCount, stepCount}
-use Rattle.offers.specs.Refusals.{passed}
-use Rattle.jesmovit.specs.Compiling.{compiling, compileAnswer, listAfter}
-use Rattle.jesmovit.proofs.PassedLaws.{compiling-passes}
-use Rattle.report.specs.Printout.{line, stepLine, stepLines, linesOf, compiledLines, compilePrintout}
+use Rattle.compile.specs.declared.sizes.Sizes.{Sizes}
+use Rattle.load.specs.Refusals.{Checked, passed, Offer, loading}
+use Rattle.load.specs.View.{View, viewOf, viewSteps, positionsOf, viewIn}
+use Rattle.load.proofs.LoadingLaws.{loading-iff}
+use Rattle.jesmovit.specs.Outcomes.{compileOutcome}
+use Rattle.jesmovit.specs.Compiling.{compiling, listAfter, sizesOf, Compiles}
+use Rattle.jesmovit.specs.declared.compiling.CompileAnswer.{CompileAnswer}
+use Rattle.jesmovit.proofs.AnswerLaws.{answered, view-of}
+use Rattle.report.specs.Printout.{line, stepLine, stepLines, compiledLines, printout, compilePrintout}
+use Rattle.theorems.specs.Printed.{linesOf, compiledJobLines}
 
 flat-lines : (L : List Step) → stepLines (flat L) ≡ linesOf L
 unfolding flat stepLines linesOf
@@ -26,13 +30,19 @@ front-flat L list h =
     ∙ take-at (flat L) (drop (0 + length (flat L)) list) (length L * 4) (flat-length L)
 
 -- the lines of a list at whose front the steps stand
-pub prints-each-step : (positions : ℕ) (L : List Step) (list : List ℕ) → length L * 4 ≤ length list
-    → compiledLines positions (length L) (sets list 0 (flat L)) ≡ line "positions" positions ++ line "steps" (length L) ++ linesOf L
-prints-each-step positions L list h =
-    ap (λ (l : List ℕ). line "positions" positions ++ line "steps" (length L) ++ l) (ap stepLines (front-flat L list h) ∙ flat-lines L)
+pub prints-each-step : (v : View) (list : List ℕ) → length (viewSteps v) * 4 ≤ length list
+    → compiledLines (positionsOf v) (length (viewSteps v)) (listAfter v list) ≡ compiledJobLines v
+prints-each-step v list h =
+    ap (λ (l : List ℕ). line "positions" (positionsOf v) ++ line "steps" (length (viewSteps v)) ++ l)
+    (ap stepLines (front-flat (viewSteps v) list h) ∙ flat-lines (viewSteps v))
 
 -- what is printed after compiling a text that nothing refuses
-pub compile-prints : (text list : List ℕ) (j : Job) → compiling text (length list) ≡ passed j
-    → compilePrintout (compileAnswer (compiling text (length list))) (listAfter (compiling text (length list)) list)
-    ≡ line "positions" (positionCount j) ++ line "steps" (stepCount j) ++ linesOf (stepsOf j)
-compile-prints text list j e = rw e (prints-each-step (positionCount j) (stepsOf j) list (compiling-passes text (length list) j .0 e .1))
+pub compile-prints : (text list : List ℕ) (answer : CompileAnswer) (after : List ℕ) → Compiles text list answer after
+    → (o : Offer) → loading (compiling text (length list)) ≡ passed o → compilePrintout answer after ≡ compiledJobLines (viewOf o)
+compile-prints text list answer after x o e =
+    let h = compiling text (length list) in
+    let a = answered x (view-of h e) in
+    ap (printout (λ (s : Sizes). compiledLines (s .positions) (s .steps) after)) (a .is)
+    ∙ ap (λ (s : Sizes). compiledLines (s .positions) (s .steps) after) (a .done .sized)
+    ∙ ap (compiledLines (positionsOf (viewOf o)) (length (viewSteps (viewOf o)))) (a .done .list)
+    ∙ prints-each-step (viewOf o) list (loading-iff h o .0 e .1)

@@ -1,82 +1,95 @@
 -- Demand 3, as written: for accepted texts, a list and a table long enough, whatever they held, and every offered list of moves that the program allows.
 -- Assumes nothing.
-use Prim.Native.Nat.{ℕ, _≤_}
+use Prim.Native.Nat.{ℕ}
 use mathlib.Core.Path.{_≡_, refl, sym, _∙_, ap, subst}
 use mathlib.Core.List.{List}
 use mathlib.Core.Logic.{inl, inr}
 use native.Mathlib.Omega.{arith}
 use lib.ListN.{length}
 use Rattle.laws.proofs.Tests.{never}
-use Rattle.job.specs.Job.{Job}
 use Rattle.semantics.specs.Program.{Program}
 use Rattle.semantics.specs.Domain.{Domain}
 use Rattle.semantics.specs.Plan.{cost, Allowed}
-use Rattle.semantics.specs.Verdict as S
-use Rattle.semantics.specs.Verdict.{byRuns}
-use Rattle.semantics.specs.Judgement.{Finds, is-least, is-dearer, is-other}
+use Rattle.semantics.specs.Verdict.{Verdict, plan, Judged, is-plan, byRuns}
+use Rattle.semantics.specs.Judgement.{Judgement, other, Finds, is-least, is-dearer, is-other}
 use Rattle.semantics.proofs.VerdictLaws.{one-move-verdict}
-use Rattle.domain.specs.Domain.{domainOf}
-use Rattle.compile.specs.Program.{programOf}
-use Rattle.validate.specs.declared.verdict.Verdict.{Verdict}
-use Rattle.offers.specs.Refusals.{Offer, listNeed, tableNeed}
-use Rattle.offers.specs.declared.offer.Sort.the-variants.{Moves}
-use Rattle.jesmovit.specs.Checking.{Checks}
-use Rattle.jesmovit.specs.Judging.{judgementOf, Judges}
-use Rattle.jesmovit.specs.declared.checking.CheckAnswer.the-variants.{Said}
-use Rattle.jesmovit.proofs.PassedLaws.{Answered, judge-answered}
-use Rattle.jesmovit.specs.declared.judging.Judgement.{Judgement}
-use Rattle.jesmovit.specs.declared.judging.Judgement.the-variants.{Least, Dearer, Other}
+use Rattle.load.specs.Refusals.{Checked, passed, Offer}
+use Rattle.load.specs.View.{View, viewOf, viewIn}
+use Rattle.load.specs.declared.request.Sort.the-variants.{Moves}
+use Rattle.jesmovit.specs.Outcomes.{SizedJudgement, judgeOutcome}
+use Rattle.jesmovit.specs.Answers.{Answers}
+use Rattle.jesmovit.specs.Compiling.{sizesOf}
+use Rattle.jesmovit.specs.Checking.{checking, CheckDone}
+use Rattle.jesmovit.specs.Judging.{judging, JudgeDone, Judges}
 use Rattle.jesmovit.specs.declared.judging.JudgeAnswer.{JudgeAnswer}
+use Rattle.jesmovit.proofs.AnswerLaws.{Answered, answered, view-of}
 use Rattle.theorems.specs.Accepted.{Accepted}
-use Rattle.theorems.specs.Decided.{answering, Decided, verdictIn}
-use Rattle.theorems.proofs.Acceptance.{judging-iff}
+use Rattle.theorems.specs.Decided.{judgedAs, Decided, verdictIn}
+use Rattle.theorems.proofs.Acceptance.{accepted-iff}
 use Rattle.theorems.proofs.JudgedChecks.{judged-is-checked}
 
--- an allowed list is a plan, by its cost
-allowed-plan : (D : Domain) (σ : Program) (ms : List ℕ) → Allowed D σ ms → S.Judged D (byRuns D σ) ms (S.plan (cost D (D .start) ms))
+-- an allowed list is a plan, by its cost; and a plan is allowed
+allowed-plan : (D : Domain) (σ : Program) (ms : List ℕ) → Allowed D σ ms → Judged D (byRuns D σ) ms (plan (cost D (D .start) ms))
 unfolding byRuns
-allowed-plan D σ ms a = S.is-plan (a .run) (a .reached)
+allowed-plan D σ ms a = is-plan (a .run) (a .reached)
 
-module _ (j : Job) (ms : List ℕ) (allowed : Allowed (domainOf j) (programOf j) ms) where
-  own-verdict : (v : S.Verdict) → S.Judged (domainOf j) (byRuns (domainOf j) (programOf j)) ms v → S.plan (cost (domainOf j) (domainOf j .start) ms) ≡ v
-  own-verdict v x = one-move-verdict (domainOf j) (programOf j) ms _ v (allowed-plan (domainOf j) (programOf j) ms allowed) x
-
-  decided : (g : Judgement) → Finds (domainOf j) (programOf j) ms (judgementOf g) → Decided j ms (answering j g)
-  decided (Least c) (is-least x y) =
-      let e = own-verdict (S.plan c) x in
-      record { own = c; low = c; own-cost = cc; low-cost = y; says = inl refl; exactly = (λ z. refl, λ z. refl) }
-  decided (Dearer c b) (is-dearer x y h) =
-      let e = own-verdict (S.plan c) x in
-      record { own = c; low = b; own-cost = cc; low-cost = y; says = inr refl; exactly = (λ z. never (cc), λ z. absurd (omega arith)) }
-  decided (Other v) (is-other x f) = absurd (f _ (sym (own-verdict _ x)))
-
--- of what is no plan
-plan-allowed : (D : Domain) (σ : Program) (ms : List ℕ) (c : ℕ) → S.Judged D (byRuns D σ) ms (S.plan c) → Allowed D σ ms
+plan-allowed : (D : Domain) (σ : Program) (ms : List ℕ) {c : ℕ} → Judged D (byRuns D σ) ms (plan c) → Allowed D σ ms
 unfolding byRuns
-plan-allowed D σ ms c (S.is-plan run reached) = record { last = _; run = run; reached = reached }
+plan-allowed D σ ms (is-plan run reached) = record { last = _; run = run; reached = reached }
 
-repeated : (j : Job) (ms : List ℕ) → (Allowed (domainOf j) (programOf j) ms → ⊥) → (g : Judgement) → Finds (domainOf j) (programOf j) ms (judgementOf g)
-    → g ≡ Other (verdictIn g)
-repeated j ms none (Least c) (is-least x y) = absurd (none (plan-allowed (domainOf j) (programOf j) ms c x))
-repeated j ms none (Dearer c b) (is-dearer x y h) = absurd (none (plan-allowed (domainOf j) (programOf j) ms c x))
-repeated j ms none (Other v) x = refl
+same-judgement : (v : View) {g h : Judgement} → judgedAs v g ≡ judgedAs v h → g ≡ h
+same-judgement v {g} {h} e =
+    let f : _≡_ {A = SizedJudgement} (record { sizes = sizesOf v; judgement = g }) (record { sizes = sizesOf v; judgement = h }) = cc in
+    ap (λ (x : SizedJudgement). x .judgement) f
 
--- whatever answer, list and table meet the judge's contract
-module _ (text plan list table : List ℕ) (o : Offer) (accepted : Accepted Moves text plan o) (long : listNeed (o .job) ≤ length list)
-    (large : tableNeed (o .job) ≤ length table) (answer : JudgeAnswer) (list-after table-after : List ℕ)
-    (promised : Judges text plan list table answer list-after table-after) where
-  answered : Answered o table table-after answer
-  answered = judge-answered table table-after _ answer (promised .answers) o (judging-iff text plan (length list) o (length table) .1 (accepted, long, large))
+module _ (v : View) where
+  abbrev Offers : Type 0
+  Offers = Allowed (v .domain) (v .program) (v .entries)
 
-  pub judge-decides : Allowed (domainOf (o .job)) (programOf (o .job)) (o .entries) → Decided (o .job) (o .entries) answer
-  judge-decides allowed =
-      subst (Decided (o .job) (o .entries)) (sym (answered .is)) (decided (o .job) (o .entries) allowed (answered .judgement) (answered .found .0))
+  decided : Offers → {g : Judgement} → Finds (v .domain) (v .program) (v .entries) g → Decided v (judgedAs v g)
+  decided allowed f =
+      let own : (w : Verdict) → Judged (v .domain) (byRuns (v .domain) (v .program)) (v .entries) w
+          → plan (cost (v .domain) (v .domain .start) (v .entries)) ≡ w =
+          λ w x. one-move-verdict (v .domain) (v .program) (v .entries) _ w (allowed-plan (v .domain) (v .program) (v .entries) allowed) x in
+      by own f
+    where
+      by : ((w : Verdict) → Judged (v .domain) (byRuns (v .domain) (v .program)) (v .entries) w → plan (cost (v .domain) (v .domain .start) (v .entries)) ≡ w)
+          → {g : Judgement} → Finds (v .domain) (v .program) (v .entries) g → Decided v (judgedAs v g)
+      by own (is-least {c} x y) =
+          let e = own (plan c) x in record { own = c; low = c; own-cost = cc; low-cost = y; says = inl refl; exactly = (λ z. refl, λ z. refl) }
+      by own (is-dearer {c} {b} x y h) =
+          let e = own (plan c) x in
+          record { own = c; low = b; own-cost = cc; low-cost = y; says = inr refl; exactly = (λ z. let y = same-judgement v z in never (cc), λ z. absurd (omega arith)) }
+      by own (is-other x f) = absurd (f _ (sym (own _ x)))
+
+  -- of what is no plan
+  repeated : (Offers → ⊥) → {g : Judgement} → Finds (v .domain) (v .program) (v .entries) g → g ≡ other (verdictIn g)
+  repeated none (is-least x y) = absurd (none (plan-allowed (v .domain) (v .program) (v .entries) x))
+  repeated none (is-dearer x y h) = absurd (none (plan-allowed (v .domain) (v .program) (v .entries) x))
+  repeated none (is-other x f) = refl
+
+-- whatever answer, list and table meet the judge's promise
+module _ (text plan list table : List ℕ) (o : Offer) (accepted : Accepted (judging text plan (length list) (length table)) o)
+    (answer : JudgeAnswer) (list-after table-after : List ℕ) (promised : Judges text plan list table answer list-after table-after) where
+  judged : Answered JudgeDone (viewOf o) (record { list = list; table = table }) (judgeOutcome answer) (record { list = list-after; table = table-after })
+  judged =
+      answered promised
+      (view-of (judging text plan (length list) (length table)) (accepted-iff (judging text plan (length list) (length table)) o .1 accepted))
+
+  outcome-is : judgeOutcome answer ≡ judgedAs (viewOf o) (judged .value .judgement)
+  outcome-is = judged .is ∙ ap (λ s. passed (record { sizes = s; judgement = judged .value .judgement })) (judged .done .sized)
+
+  pub judge-decides : Allowed (viewOf o .domain) (viewOf o .program) (o .entries) → Decided (viewOf o) (judgeOutcome answer)
+  judge-decides allowed = subst (Decided (viewOf o)) (sym outcome-is) (decided (viewOf o) allowed (judged .done .found .finds))
 
   -- "for others it repeats the check's verdict"
-  pub judge-repeats : (Allowed (domainOf (o .job)) (programOf (o .job)) (o .entries) → ⊥)
-      → (v : Verdict) × (answer ≡ answering (o .job) (Other v)) × Checks Moves text plan list (Said v) list-after
-  judge-repeats none =
-      let e = repeated (o .job) (o .entries) none (answered .judgement) (answered .found .0) in
-      let f : answer ≡ answering (o .job) (Other (verdictIn (answered .judgement))) = answered .is ∙ ap (answering (o .job)) e in
-      let p = subst (λ (a : JudgeAnswer). Judges text plan list table a list-after table-after) f promised in
-      (verdictIn (answered .judgement), f, judged-is-checked text plan list table _ _ list-after table-after (Other (verdictIn (answered .judgement))) p)
+  pub judge-repeats : (Allowed (viewOf o .domain) (viewOf o .program) (o .entries) → ⊥)
+      → (w : Verdict) × (judgeOutcome answer ≡ judgedAs (viewOf o) (other w))
+      × Answers (CheckDone Moves) list (viewIn (checking Moves text plan (length list))) (passed w) list-after
+  judge-repeats none = (
+    verdictIn (judged .value .judgement),
+    outcome-is ∙ ap (judgedAs (viewOf o)) (repeated (viewOf o) none (judged .done .found .finds)),
+    judged-is-checked text plan list table (subst (λ (d : Checked SizedJudgement).
+        Answers JudgeDone (record { list = list; table = table }) (viewIn (judging text plan (length list) (length table))) d
+        (record { list = list-after; table = table-after })) (judged .is) promised),
+  )

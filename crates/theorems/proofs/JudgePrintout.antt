@@ -4,42 +4,40 @@ use Prim.Native.Nat.{ℕ}
 use mathlib.Core.Path.{_≡_, ap, _∙_}
 use mathlib.Core.List.{List, _++_}
 use lib.ListN.{length}
-use Rattle.laws.proofs.Tests.{never}
-use Rattle.compile.specs.CompiledJob.{stepsOf, positionCount, stepCount}
-use Rattle.offers.specs.Refusals.{Checked, passed, refused, Offer, jobsOf}
-use Rattle.offers.specs.declared.offer.Sort.the-variants.{Moves}
-use Rattle.jesmovit.specs.Compiling.{listAfter}
-use Rattle.jesmovit.specs.Judging.{judging, JudgeAnswers, judges, not-judged, Judges}
+use Rattle.load.specs.Refusals.{Checked, passed, refused, Offer, loading}
+use Rattle.load.specs.View.{viewOf, viewSteps, positionsOf}
+use Rattle.load.proofs.LoadingLaws.{loading-iff}
+use Rattle.jesmovit.specs.Outcomes.{SizedJudgement, judgeOutcome}
+use Rattle.jesmovit.specs.Judging.{judging, Judges}
 use Rattle.jesmovit.specs.declared.judging.JudgeAnswer.{JudgeAnswer}
-use Rattle.jesmovit.proofs.PassedLaws.{checking-passes, judging-passes, judge-answered}
-use Rattle.report.specs.Printout.{compiledLines, judgementLines, refusedLine, judgePrintout, Printed}
-use Rattle.report.proofs.CompiledPrintout.{prints-each-step}
+use Rattle.jesmovit.proofs.AnswerLaws.{viewed, answered, view-of, refusal-kept}
+use Rattle.report.specs.Printout.{compiledLines, judgementLines, refusedLine, printout, judgePrintout}
+use Rattle.theorems.specs.Printed.{compiledJobLines, Printed}
+use Rattle.theorems.proofs.CompiledPrintout.{prints-each-step}
 
-refusal-printed : (old new : List ℕ) (k : Checked Offer) (a : JudgeAnswer) → JudgeAnswers old new k a → (l : List ℕ) (number place : ℕ) → k ≡ refused number place
-    → judgePrintout a l ≡ refusedLine (record { number = number; place = place })
-refusal-printed old new k a (judges x t) l number place e = never (cc)
-refusal-printed old new k a (not-judged {number = m} {place = p} t) l number place e =
-    let y : m ≡ number = cc in let z : p ≡ place = cc in rw (y, z)
+abbrev judgedLines : List ℕ → SizedJudgement → List ℕ
+judgedLines list g = compiledLines (g .sizes .positions) (g .sizes .steps) list ++ judgementLines (g .judgement)
 
 module _ (text plan list table : List ℕ) (answer : JudgeAnswer) (list-after table-after : List ℕ)
     (promised : Judges text plan list table answer list-after table-after) where
   -- where nothing is refused
-  pub judge-prints : (o : Offer) → judging text plan (length list) (length table) ≡ passed o → Printed o (judgePrintout answer list-after)
+  pub judge-prints : (o : Offer) → loading (judging text plan (length list) (length table)) ≡ passed o
+      → Printed (viewOf o) (judgePrintout answer list-after)
   judge-prints o e =
-      let t = judge-answered table table-after _ answer (promised .answers) o e in
-      let c = judging-passes text plan (length list) (length table) o .0 e .0 in
-      let l : list-after ≡ listAfter (passed (o .job)) list = promised .holds ∙ ap (λ (k : Checked Offer). listAfter (jobsOf k) list) e in
+      let h = judging text plan (length list) (length table) in
+      let a = answered promised (view-of h e) in
+      let g = a .value .judgement in
       record {
-        judgement = t .judgement;
-        finds = t .found .0;
+        judgement = g;
+        finds = a .done .found .finds;
         prints =
-            ap (λ (a : JudgeAnswer). judgePrintout a list-after) (t .is)
-            ∙ ap (λ (b : List ℕ). compiledLines (positionCount (o .job)) (stepCount (o .job)) b ++ judgementLines (t .judgement)) l
-            ∙ ap (λ (b : List ℕ). b ++ judgementLines (t .judgement))
-            (prints-each-step (positionCount (o .job)) (stepsOf (o .job)) list (checking-passes Moves text plan (length list) o .0 c .1));
+            ap (printout (judgedLines list-after)) (a .is)
+            ∙ ap (λ s. judgedLines list-after (record { sizes = s; judgement = g })) (a .done .sized)
+            ∙ ap (λ (b : List ℕ). compiledLines (positionsOf (viewOf o)) (length (viewSteps (viewOf o))) b ++ judgementLines g) (a .done .list)
+            ∙ ap (λ (b : List ℕ). b ++ judgementLines g) (prints-each-step (viewOf o) list (loading-iff h o .0 e .1));
       }
 
   -- "A refusal prints only `refused=number,place`."
-  pub judge-prints-refusal : (number place : ℕ) → judging text plan (length list) (length table) ≡ refused number place
-      → judgePrintout answer list-after ≡ refusedLine (record { number = number; place = place })
-  judge-prints-refusal number place e = refusal-printed table table-after _ answer (promised .answers) list-after number place e
+  pub judge-prints-refusal : (number place : ℕ) → loading (judging text plan (length list) (length table)) ≡ refused number place
+      → judgePrintout answer list-after ≡ refusedLine number place
+  judge-prints-refusal number place e = ap (printout (judgedLines list-after)) (refusal-kept promised (ap viewed e) .0)

@@ -1,40 +1,88 @@
--- The judge and the check agree: for what is no plan the judge's verdict is the check's, and of a plan the check says that it is one, with the same cost.
+-- The judge, the check and the least cost agree: the judge's verdict is the check's, of a plan with its cost, and the least cost that it names is the least
+-- cost's, with the list and the cost table filled alike.
 -- Assumes nothing.
 use Prim.Native.Nat.{ℕ}
-use mathlib.Core.Path.{_≡_, _∙_, ap}
-use mathlib.Core.List.{List}
+use mathlib.Core.Path.{_≡_, refl, sym, _∙_, ap, subst}
+use mathlib.Core.Option.{Option, none, some}
+use mathlib.Core.List.{List, []}
+use native.Mathlib.Omega.{arith}
 use lib.ListN.{length}
+use Rattle.laws.proofs.Tests.{never}
 use Rattle.semantics.specs.Program.{Program}
 use Rattle.semantics.specs.Domain.{Domain}
+use Rattle.semantics.specs.Plan.{Least}
 use Rattle.semantics.specs.Verdict.{Judged, byRuns}
-use Rattle.semantics.specs.Judgement.{Finds, is-least, is-dearer, is-other}
-use Rattle.validate.specs.Verdict.{verdictOf}
-use Rattle.offers.specs.Refusals.{Checked, passed, Offer, jobsOf}
-use Rattle.offers.specs.declared.offer.Sort.the-variants.{Moves}
-use Rattle.jesmovit.specs.Compiling.{listAfter}
-use Rattle.jesmovit.specs.Checking.{checking, says, Checks}
-use Rattle.jesmovit.specs.Judging.{judging, judgementOf, Judges}
-use Rattle.jesmovit.specs.declared.checking.CheckAnswer.the-variants.{Said}
-use Rattle.jesmovit.specs.declared.judging.Judgement.{Judgement}
-use Rattle.jesmovit.specs.declared.judging.Judgement.the-variants.{Least, Dearer, Other}
-use Rattle.jesmovit.specs.declared.judging.JudgeAnswer as J
-use Rattle.jesmovit.proofs.PassedLaws.{judging-passes}
-use Rattle.theorems.specs.Decided.{verdictIn}
-use Rattle.theorems.proofs.JudgedCosts.{told}
+use Rattle.semantics.specs.Judgement.{Judgement, Finds, least, dearer, other, is-least, is-dearer, is-other}
+use Rattle.load.specs.Refusals.{passed, Offer, textsIn, loading}
+use Rattle.load.specs.View.{View, viewOf, viewIn}
+use Rattle.load.specs.declared.request.Sort.the-variants.{Moves}
+use Rattle.load.proofs.LoadingLaws.{loading-iff}
+use Rattle.jesmovit.specs.Outcomes.{SizedJudgement}
+use Rattle.jesmovit.specs.Answers.{Answers}
+use Rattle.jesmovit.specs.Checking.{checking, CheckDone}
+use Rattle.jesmovit.specs.Judging.{costing, judging, Lent, TableOf, TableFor, CostDone, LeastIs, costs, no-plan, JudgeDone}
+use Rattle.jesmovit.proofs.AnswerLaws.{answer-done, spoken, offer-of}
+use Rattle.theorems.specs.Decided.{verdictIn, leastIn}
+use Rattle.theorems.proofs.Acceptance.{accepted-iff}
 
--- what the judge finds has the verdict in it
-found-verdict : (D : Domain) (σ : Program) (ms : List ℕ) (g : Judgement) → Finds D σ ms (judgementOf g) → Judged D (byRuns D σ) ms (verdictOf (verdictIn g))
-found-verdict D σ ms (Least c) (is-least x l) = x
-found-verdict D σ ms (Dearer c b) (is-dearer x l h) = x
-found-verdict D σ ms (Other v) (is-other x f) = x
+-- what the judge finds has the verdict in it, and the least cost that it names
+found-verdict : {D : Domain} {σ : Program} {ms : List ℕ} {g : Judgement} → Finds D σ ms g → Judged D (byRuns D σ) ms (verdictIn g)
+found-verdict (is-least x l) = x
+found-verdict (is-dearer x l h) = x
+found-verdict (is-other x f) = x
 
-pub judged-is-checked : (text plan list table : List ℕ) (positions steps : ℕ) (l t : List ℕ) (g : Judgement)
-    → Judges text plan list table (J.the-variants.Judged positions steps g) l t → Checks Moves text plan list (Said (verdictIn g)) l
-judged-is-checked text plan list table positions steps l t g x =
-    let w = told table t _ positions steps g (x .answers) in
-    let o = w .offer in
-    let f : checking Moves text plan (length list) ≡ passed o = judging-passes text plan (length list) (length table) o .0 (w .is) .0 in
-    record {
-      answers = rw f (says (found-verdict _ _ (o .entries) g (w .finds)));
-      holds = x .holds ∙ ap (λ (c : Checked Offer). listAfter (jobsOf c) list) (w .is) ∙ rw f;
-    }
+named-least : (v : View) {ms : List ℕ} {g : Judgement} {old new : List ℕ} {b : ℕ} → Finds (v .domain) (v .program) ms g → TableFor v g old new
+    → leastIn g ≡ some b → LeastIs v (some b) × TableOf v old new
+named-least v (is-least {c} x l) t e = (subst (λ (k : Option ℕ). LeastIs v k) e (costs l), t)
+named-least v (is-dearer {c} {b} x l h) t e = (subst (λ (k : Option ℕ). LeastIs v k) e (costs l), t)
+named-least v (is-other x f) t e = never (cc)
+
+module _ (text plan list table : List ℕ) {g : SizedJudgement} {l t : List ℕ}
+    (x : Answers JudgeDone (record { list = list; table = table }) (viewIn (judging text plan (length list) (length table))) (passed g)
+    (record { list = l; table = t })) where
+  -- the offer that is judged
+  record Offered : Type 0 where
+    offer : Offer
+    passes : loading (judging text plan (length list) (length table)) ≡ passed offer
+    done : JudgeDone (viewOf offer) g (record { list = list; table = table }) (record { list = l; table = t })
+
+  offered : Offered
+  offered =
+      let (v, p, d) = spoken x refl in
+      let (o, f, q) = offer-of (judging text plan (length list) (length table)) p in
+      record { offer = o; passes = f; done = subst (λ (w : View). JudgeDone w g (record { list = list; table = table }) (record { list = l; table = t })) (sym q) d }
+
+  -- the check's answer
+  checked : loading (checking Moves text plan (length list)) ≡ passed (offered .offer)
+  unfolding textsIn
+  checked =
+      let y = loading-iff (judging text plan (length list) (length table)) (offered .offer) .0 (offered .passes) in
+      loading-iff (checking Moves text plan (length list)) (offered .offer) .1 (y .0, y .1, omega arith)
+
+  pub judged-is-checked :
+      Answers (CheckDone Moves) list (viewIn (checking Moves text plan (length list))) (passed (verdictIn (g .judgement))) l
+  judged-is-checked =
+      answer-done (checking Moves text plan (length list)) (sym checked)
+      (record { says = found-verdict (offered .done .found .finds); list = offered .done .list })
+
+  -- the least cost's answer
+  costed : loading (costing text (length list) (length table)) ≡ passed (record { job = offered .offer .job; entries = [] })
+  costed =
+      let a = accepted-iff (judging text plan (length list) (length table)) (offered .offer) .0 (offered .passes) in
+      accepted-iff (costing text (length list) (length table)) (record { job = offered .offer .job; entries = [] }) .1 (record {
+        texts = record { its-job = a .texts .its-job; its-plan = λ f. never (cc); alone = λ f. refl };
+        list = a .list;
+        table = a .table;
+      })
+
+  pub judged-is-costed : {b : ℕ} → leastIn (g .judgement) ≡ some b
+      → Answers CostDone (record { list = list; table = table }) (viewIn (costing text (length list) (length table))) (passed (some b))
+      (record { list = l; table = t })
+  judged-is-costed f =
+      let n = named-least (viewOf (offered .offer)) (offered .done .found .finds) (offered .done .found .table) f in
+      answer-done (costing text (length list) (length table)) (sym costed) (record { is = again (n .0); list = offered .done .list; table = n .1 })
+    where
+      -- the entries are not looked at
+      again : {k : Option ℕ} → LeastIs (viewOf (offered .offer)) k → LeastIs (viewOf (record { job = offered .offer .job; entries = [] })) k
+      again (costs y) = costs y
+      again (no-plan y) = no-plan y

@@ -12,7 +12,6 @@ pub mod CostSum
 pub mod OneAnswer
 pub mod OneCall
 pub mod CallNumbers
-pub mod JudgedCosts
 pub mod JudgedChecks
 pub mod JudgeDecides
 pub mod Exhibited
@@ -21,3 +20,6 @@ pub mod MarkedCases
 pub mod OriginalStar
 pub mod JobExamples
 pub mod OperationExamples
+pub mod CompiledPrintout
+pub mod JudgePrintout
+pub mod PrintoutExamples

@@ -13,9 +13,9 @@ use Rattle.text.proofs.LineText.{mostBytes, line-short}
 use Rattle.job.specs.Job.{Job}
 use Rattle.limits.specs.Limits.{mostEntries}
 use Rattle.plans.specs.PlanText.{PlanOutcome, entryIn, readEntries, readLines, readPlan}
-use Rattle.offers.specs.Refusals.{keyFor, boundFor}
-use Rattle.offers.specs.declared.offer.Sort.{Sort}
-use Rattle.offers.specs.declared.offer.Sort.the-variants.{Moves, Steps}
+use Rattle.load.specs.Refusals.{keyFor, boundFor}
+use Rattle.load.specs.declared.request.Sort.{Sort}
+use Rattle.load.specs.declared.request.Sort.the-variants.{Moves, Steps}
 use Rattle.plans.proofs.PlanLaws.{countIn, count-right, count-wrong, line-right, line-wrong, entry-number}
 
 -- how many bytes a right line has at the most: it has one number

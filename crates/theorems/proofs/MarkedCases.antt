@@ -23,8 +23,7 @@ use Rattle.domain.specs.Domain.{holdsIn, successorOf, costIn, domainOf}
 use Rattle.compile.specs.Program.{build, programs, programOf}
 use Rattle.compile.specs.CompiledJob.{positionCount, stepCount, fits}
 use Rattle.plans.specs.PlanText.{entryIn, readEntries, readLines, readPlan}
-use Rattle.offers.specs.Refusals.{Checked, passed, refused, Offer, next, jobIn, offerIn}
-use Rattle.jesmovit.specs.Checking.{checking}
+use Rattle.load.specs.Refusals.{Checked, passed, refused, Offer, next, jobIn, textsIn, loading}
 use Rattle.jesmovit.specs.Judging.{judging}
 use Rattle.theorems.specs.MarkedCases.{Case, marked, Right}
 use Rattle.theorems.proofs.Exhibited.{Cell, entryAt, led, every, leads, sound, settles}
@@ -94,7 +93,7 @@ computedOf T o = record { positions = positionCount (o .job); steps = stepCount 
 
 -- the same from the texts, or the refusal
 unfoldable judged : Case → Table → Checked Computed
-judged c T = next (judging (c .job) (c .plan) (mostSteps * 4) 12288) (λ o. passed (computedOf T o))
+judged c T = next (loading (judging (c .job) (c .plan) (mostSteps * 4) 12288)) (λ o. passed (computedOf T o))
 
 unfoldable judgements : List Case → List Table → List (Checked Computed)
 judgements [] Ts = []
@@ -110,16 +109,16 @@ unfolding bytes lines hasKey valueOf byteRead numbers
     end steps branchSteps whileSteps starSteps build programs fits
     fact putFact value values afterEffect applied affected classCost holdsIn successorOf costIn
     spread close silentIn isMove anyMark firstSet nextSet onward finished verdictFrom verdictBy verdict
-    entryIn readEntries readLines readPlan jobIn offerIn checking judging
+    entryIn readEntries readLines readPlan jobIn textsIn loading
     arrives made entryAt led every leads sound settles notBelow shows weighed finds
     marked tables judged judgements
 computed = refl
 
 judged-right : (c : Case) (T : Table) → judged c T ≡ said c → Right c
 unfolding judged
-judged-right c T e = by (judging (c .job) (c .plan) (mostSteps * 4) 12288) refl e
+judged-right c T e = by (loading (judging (c .job) (c .plan) (mostSteps * 4) 12288)) refl e
   where
-    by : (k : Checked Offer) → judging (c .job) (c .plan) (mostSteps * 4) 12288 ≡ k → next k (λ o. passed (computedOf T o)) ≡ said c → Right c
+    by : (k : Checked Offer) → loading (judging (c .job) (c .plan) (mostSteps * 4) 12288) ≡ k → next k (λ o. passed (computedOf T o)) ≡ said c → Right c
     by (passed o) f g =
         let z : computedOf T o ≡ record { positions = c .positions; steps = c .steps; says = some (c .says) } = cc in
         let j = verdict-judged (domainOf (o .job)) (programOf (o .job)) (o .entries) in

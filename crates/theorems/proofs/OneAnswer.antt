@@ -1,66 +1,111 @@
--- At most one answer, list and cost table meet the contract of an operation.
+-- At most one answer, list and cost table meet the promise of an operation. What is handed in counts by its view alone.
 -- Assumes nothing.
-use Prim.Native.Nat.{ℕ, _-_}
+use Prim.Native.Nat.{ℕ}
 use mathlib.Core.Path.{_≡_, refl, sym, _∙_, ap}
+use mathlib.Core.Option.{Option, none, some}
 use mathlib.Core.List.{List}
 use lib.ListN.{length}
 use Rattle.laws.proofs.Tests.{never}
-use Rattle.job.specs.Job.{Job}
 use Rattle.semantics.specs.Verdict.{Verdict}
 use Rattle.semantics.specs.Judgement as J
 use Rattle.semantics.proofs.CostLaws.{least-unique}
 use Rattle.semantics.proofs.VerdictLaws.{one-move-verdict, one-step-verdict}
 use Rattle.semantics.proofs.FilledLaws.{filled-unique}
 use Rattle.semantics.proofs.JudgementLaws.{one-judgement}
-use Rattle.domain.specs.Domain.{domainOf}
-use Rattle.compile.specs.Program.{programOf}
-use Rattle.compile.specs.CompiledJob.{stepsOf, positionCount, stepCount}
-use Rattle.validate.specs.Verdict.{verdictOf}
+use Rattle.compile.specs.declared.sizes.Sizes.{Sizes}
 use Rattle.validate.proofs.VerdictLaws.{verdict-injective}
-use Rattle.offers.specs.Refusals.{Checked, Offer}
-use Rattle.offers.specs.declared.offer.Sort.{Sort}
-use Rattle.offers.specs.declared.offer.Sort.the-variants.{Moves, Steps}
-use Rattle.jesmovit.specs.Checking.{checking, Says, Answers, says, refuses, Checks}
-use Rattle.jesmovit.specs.Judging.{costing, TableOf, CostAnswers, costs, no-plan, not-costed, CostsLeast}
-use Rattle.jesmovit.specs.Judging.{judging, judgementOf, TableFor, JudgeAnswers, judges, not-judged, Judges}
-use Rattle.jesmovit.specs.declared.checking.CheckAnswer.{CheckAnswer}
-use Rattle.jesmovit.specs.declared.checking.CheckAnswer.the-variants.{Said}
-use Rattle.jesmovit.specs.declared.judging.LeastAnswer.{LeastAnswer}
-use Rattle.jesmovit.specs.declared.judging.LeastAnswer.the-variants.{Costs}
+use Rattle.load.specs.Refusals.{Checked}
+use Rattle.load.specs.View.{View, viewSteps, finalOf, positionsOf}
+use Rattle.load.specs.declared.request.Sort.{Sort}
+use Rattle.load.specs.declared.request.Sort.the-variants.{Moves, Steps}
+use Rattle.jesmovit.specs.Outcomes.{readOutcome, compileOutcome, checkOutcome, leastOutcome, judgementOf, SizedJudgement, judgeOutcome}
+use Rattle.jesmovit.specs.JobText.{Reads}
+use Rattle.jesmovit.specs.Compiling.{CompileDone, Compiles}
+use Rattle.jesmovit.specs.Checking.{Says, CheckDone, Checks}
+use Rattle.jesmovit.specs.Judging.{Lent, TableOf, LeastIs, costs, no-plan, CostDone, CostsLeast, TableFor, JudgeDone, Judges}
+use Rattle.jesmovit.specs.declared.job_text.ReadAnswer as R
+use Rattle.jesmovit.specs.declared.compiling.CompileAnswer as C
+use Rattle.jesmovit.specs.declared.checking.CheckAnswer as K
+use Rattle.jesmovit.specs.declared.judging.LeastAnswer as L
 use Rattle.jesmovit.specs.declared.judging.Judgement.{Judgement}
 use Rattle.jesmovit.specs.declared.judging.Judgement.the-variants.{Least, Dearer, Other}
-use Rattle.jesmovit.specs.declared.judging.JudgeAnswer.{JudgeAnswer}
-use Rattle.jesmovit.specs.declared.judging.JudgeAnswer.the-variants.{Judged}
+use Rattle.jesmovit.specs.declared.judging.JudgeAnswer as G
+use Rattle.jesmovit.proofs.AnswerLaws.{OneWay, one-outcome}
 
-one-says : (sort : Sort) (o : Offer) (v w : Verdict) → Says sort o v → Says sort o w → v ≡ w
-one-says Moves o v w x y = one-move-verdict (domainOf (o .job)) (programOf (o .job)) (o .entries) v w x y
-one-says Steps o v w x y = one-step-verdict (domainOf (o .job)) (stepsOf (o .job)) (positionCount (o .job) - 1) (o .entries) v w x y
+-- what each operation does, it does in one way
+pub one-compiled : {old : List ℕ} → OneWay CompileDone old
+one-compiled v s t x y p q = (p .sized ∙ sym (q .sized), p .list ∙ sym (q .list))
 
-same-answer : (sort : Sort) (c : Checked Offer) (a b : CheckAnswer) → Answers sort c a → Answers sort c b → a ≡ b
-same-answer sort c a b (says {o} {v} x) (says {v = w} y) = ap Said (verdict-injective v w (one-says sort o (verdictOf v) (verdictOf w) x y))
-same-answer sort c a b refuses refuses = refl
+one-says : (sort : Sort) (v : View) {w u : Verdict} → Says sort v w → Says sort v u → w ≡ u
+one-says Moves v x y = one-move-verdict (v .domain) (v .program) (v .entries) _ _ x y
+one-says Steps v x y = one-step-verdict (v .domain) (viewSteps v) (finalOf v) (v .entries) _ _ x y
 
--- of a check
-pub one-answer : (sort : Sort) (text plan list : List ℕ) (a b : CheckAnswer) (after other : List ℕ)
-    → Checks sort text plan list a after → Checks sort text plan list b other → (a ≡ b) × (after ≡ other)
-one-answer sort text plan list a b after other x y =
-    (same-answer sort (checking sort text plan (length list)) a b (x .answers) (y .answers), x .holds ∙ sym (y .holds))
+pub one-checked : {sort : Sort} {old : List ℕ} → OneWay (CheckDone sort) old
+one-checked {sort} v w u x y p q = (one-says sort v (p .says) (q .says), p .list ∙ sym (q .list))
 
-module _ (old new other : List ℕ) where
-  same-table : (j : Job) → TableOf j old new → TableOf j old other → new ≡ other
-  same-table j x y = filled-unique (domainOf j) (stepsOf j) (positionCount j) old new other x y
+one-table : (v : View) {old new other : List ℕ} → TableOf v old new → TableOf v old other → new ≡ other
+one-table v x y = filled-unique (v .domain) (viewSteps v) (positionsOf v) _ _ _ x y
 
-  same-cost : (c : Checked Job) (a b : LeastAnswer) → CostAnswers old new c a → CostAnswers old other c b → (a ≡ b) × (new ≡ other)
-  same-cost c a b (costs {j} {c = d} x t) (costs {c = e} y u) = (ap Costs (least-unique (domainOf j) (programOf j) d e x y), same-table j t u)
-  same-cost c a b (costs x t) (no-plan f u) = absurd (f (x .best) (x .allowed))
-  same-cost c a b (no-plan f t) (costs y u) = absurd (f (y .best) (y .allowed))
-  same-cost c a b (no-plan {j} f t) (no-plan g u) = (refl, same-table j t u)
-  same-cost c a b (not-costed t) (not-costed u) = (refl, t ∙ sym u)
+one-least : {v : View} {c d : Option ℕ} → LeastIs v c → LeastIs v d → c ≡ d
+one-least {v} (costs x) (costs y) = ap some (least-unique (v .domain) (v .program) _ _ x y)
+one-least (costs x) (no-plan f) = absurd (f (x .best) (x .allowed))
+one-least (no-plan f) (costs y) = absurd (f (y .best) (y .allowed))
+one-least (no-plan f) (no-plan g) = refl
 
-  same-table-for : (j : Job) (g : J.Judgement) → TableFor j g old new → TableFor j g old other → new ≡ other
-  same-table-for j (J.least c) t u = same-table j t u
-  same-table-for j (J.dearer c b) t u = same-table j t u
-  same-table-for j (J.other v) t u = t ∙ sym u
+lent-same : {x y : Lent} → x .list ≡ y .list → x .table ≡ y .table → x ≡ y
+lent-same e f = rw (e, f)
+
+pub one-costed : {old : Lent} → OneWay CostDone old
+one-costed v c d x y p q = (one-least (p .is) (q .is), lent-same (p .list ∙ sym (q .list)) (one-table v (p .table) (q .table)))
+
+one-table-for : (v : View) (g : J.Judgement) (old new other : List ℕ) → TableFor v g old new → TableFor v g old other → new ≡ other
+one-table-for v (J.least c) old new other t u = one-table v t u
+one-table-for v (J.dearer c b) old new other t u = one-table v t u
+one-table-for v (J.other w) old new other t u = t ∙ sym u
+
+pub one-judged : {old : Lent} → OneWay JudgeDone old
+one-judged v g h x y p q =
+    let s : g .sizes ≡ h .sizes = p .sized ∙ sym (q .sized) in
+    let e : g .judgement ≡ h .judgement = one-judgement (v .domain) (v .program) (v .entries) _ _ (p .found .finds) (q .found .finds) in
+    (
+      rw (s, e),
+      lent-same (p .list ∙ sym (q .list)) (one-table-for v (g .judgement) _ _ _ (p .found .table) (rw (← e) at (q .found .table))),
+    )
+
+-- one answer has an outcome
+read-injective : (a b : R.ReadAnswer) → readOutcome a ≡ readOutcome b → a ≡ b
+read-injective (R.the-variants.Read c) (R.the-variants.Read d) e = ap R.the-variants.Read (cc)
+read-injective (R.the-variants.Read c) (R.the-variants.Refused r) e = never (cc)
+read-injective (R.the-variants.Refused r) (R.the-variants.Read c) e = never (cc)
+read-injective (R.the-variants.Refused r) (R.the-variants.Refused q) e = let f : r .number ≡ q .number = cc in let g : r .place ≡ q .place = cc in rw (f, g)
+
+sizes-same : {A : Type 0} {p n q m : ℕ} → _≡_ {A = Sizes} (record { positions = p; steps = n }) (record { positions = q; steps = m })
+    → (f : ℕ → ℕ → A) → f p n ≡ f q m
+sizes-same e f = ap (λ (s : Sizes). f (s .positions) (s .steps)) e
+
+compile-injective : (a b : C.CompileAnswer) → compileOutcome a ≡ compileOutcome b → a ≡ b
+compile-injective (C.the-variants.Compiled p n) (C.the-variants.Compiled q m) e =
+    let s : _≡_ {A = Sizes} (record { positions = p; steps = n }) (record { positions = q; steps = m }) = cc in sizes-same s C.the-variants.Compiled
+compile-injective (C.the-variants.Compiled p n) (C.the-variants.Refused r) e = never (cc)
+compile-injective (C.the-variants.Refused r) (C.the-variants.Compiled p n) e = never (cc)
+compile-injective (C.the-variants.Refused r) (C.the-variants.Refused q) e = let f : r .number ≡ q .number = cc in let g : r .place ≡ q .place = cc in rw (f, g)
+
+check-injective : (a b : K.CheckAnswer) → checkOutcome a ≡ checkOutcome b → a ≡ b
+check-injective (K.the-variants.Said v) (K.the-variants.Said w) e = ap K.the-variants.Said (verdict-injective v w (cc))
+check-injective (K.the-variants.Said v) (K.the-variants.Refused r) e = never (cc)
+check-injective (K.the-variants.Refused r) (K.the-variants.Said v) e = never (cc)
+check-injective (K.the-variants.Refused r) (K.the-variants.Refused q) e = let f : r .number ≡ q .number = cc in let g : r .place ≡ q .place = cc in rw (f, g)
+
+least-injective : (a b : L.LeastAnswer) → leastOutcome a ≡ leastOutcome b → a ≡ b
+least-injective (L.the-variants.Costs c) (L.the-variants.Costs d) e = ap L.the-variants.Costs (cc)
+least-injective (L.the-variants.Costs c) L.the-variants.NoPlan e = never (cc)
+least-injective (L.the-variants.Costs c) (L.the-variants.Refused r) e = never (cc)
+least-injective L.the-variants.NoPlan (L.the-variants.Costs d) e = never (cc)
+least-injective L.the-variants.NoPlan L.the-variants.NoPlan e = refl
+least-injective L.the-variants.NoPlan (L.the-variants.Refused r) e = never (cc)
+least-injective (L.the-variants.Refused r) (L.the-variants.Costs d) e = never (cc)
+least-injective (L.the-variants.Refused r) L.the-variants.NoPlan e = never (cc)
+least-injective (L.the-variants.Refused r) (L.the-variants.Refused q) e = let f : r .number ≡ q .number = cc in let g : r .place ≡ q .place = cc in rw (f, g)
 
 judgement-injective : (g h : Judgement) → judgementOf g ≡ judgementOf h → g ≡ h
 judgement-injective (Least c) (Least d) e = let f : c ≡ d = cc in ap Least f
@@ -71,24 +116,39 @@ judgement-injective (Dearer c b) (Dearer d a) e = let f : c ≡ d = cc in let g 
 judgement-injective (Dearer c b) (Other v) e = never (cc)
 judgement-injective (Other v) (Least d) e = never (cc)
 judgement-injective (Other v) (Dearer d b) e = never (cc)
-judgement-injective (Other v) (Other w) e = let f : verdictOf v ≡ verdictOf w = cc in ap Other (verdict-injective v w f)
+judgement-injective (Other v) (Other w) e = ap Other (verdict-injective v w (cc))
 
-same-judgement : (old new other : List ℕ) (c : Checked Offer) (a b : JudgeAnswer)
-    → JudgeAnswers old new c a → JudgeAnswers old other c b → (a ≡ b) × (new ≡ other)
-same-judgement old new other c a b (judges {o} {g} x t) (judges {g = h} y u) =
-    let e : judgementOf g ≡ judgementOf h = one-judgement (domainOf (o .job)) (programOf (o .job)) (o .entries) (judgementOf g) (judgementOf h) x y in
-    let f : g ≡ h = judgement-injective g h e in
-    (ap (Judged (positionCount (o .job)) (stepCount (o .job))) f, same-table-for old new other (o .job) (judgementOf g) t (rw (← e) at u))
-same-judgement old new other c a b (not-judged t) (not-judged u) = (refl, t ∙ sym u)
+judge-injective : (a b : G.JudgeAnswer) → judgeOutcome a ≡ judgeOutcome b → a ≡ b
+judge-injective (G.the-variants.Judged p n g) (G.the-variants.Judged q m h) e =
+    let j : _≡_ {A = SizedJudgement} (record { sizes = record { positions = p; steps = n }; judgement = judgementOf g })
+        (record { sizes = record { positions = q; steps = m }; judgement = judgementOf h }) = cc in
+    let f : g ≡ h = judgement-injective g h (ap (λ (x : SizedJudgement). x .judgement) j) in
+    rw f (sizes-same (ap (λ (x : SizedJudgement). x .sizes) j) (λ x y. G.the-variants.Judged x y h))
+judge-injective (G.the-variants.Judged p n g) (G.the-variants.Refused r) e = never (cc)
+judge-injective (G.the-variants.Refused r) (G.the-variants.Judged p n g) e = never (cc)
+judge-injective (G.the-variants.Refused r) (G.the-variants.Refused q) e = let f : r .number ≡ q .number = cc in let g : r .place ≡ q .place = cc in rw (f, g)
+
+-- of reading
+pub one-read-answer : (text : List ℕ) (a b : R.ReadAnswer) → Reads text a → Reads text b → a ≡ b
+one-read-answer text a b x y = read-injective a b (x ∙ sym y)
+
+-- of compiling
+pub one-compile-answer : (text list : List ℕ) (a b : C.CompileAnswer) (l m : List ℕ) → Compiles text list a l → Compiles text list b m → (a ≡ b) × (l ≡ m)
+one-compile-answer text list a b l m x y = let z = one-outcome one-compiled x y in (compile-injective a b (z .0), z .1)
+
+-- of a check
+pub one-answer : (sort : Sort) (text plan list : List ℕ) (a b : K.CheckAnswer) (l m : List ℕ)
+    → Checks sort text plan list a l → Checks sort text plan list b m → (a ≡ b) × (l ≡ m)
+one-answer sort text plan list a b l m x y = let z = one-outcome one-checked x y in (check-injective a b (z .0), z .1)
 
 -- of the least cost
-pub one-cost-answer : (text list table : List ℕ) (a b : LeastAnswer) (l m t u : List ℕ)
+pub one-cost-answer : (text list table : List ℕ) (a b : L.LeastAnswer) (l m t u : List ℕ)
     → CostsLeast text list table a l t → CostsLeast text list table b m u → (a ≡ b) × (l ≡ m) × (t ≡ u)
 one-cost-answer text list table a b l m t u x y =
-    let v = same-cost table t u (costing text (length list) (length table)) a b (x .answers) (y .answers) in (v .0, x .holds ∙ sym (y .holds), v .1)
+    let z = one-outcome one-costed x y in (least-injective a b (z .0), ap (λ (k : Lent). k .list) (z .1), ap (λ (k : Lent). k .table) (z .1))
 
 -- of the judge
-pub one-judge-answer : (text plan list table : List ℕ) (a b : JudgeAnswer) (l m t u : List ℕ)
+pub one-judge-answer : (text plan list table : List ℕ) (a b : G.JudgeAnswer) (l m t u : List ℕ)
     → Judges text plan list table a l t → Judges text plan list table b m u → (a ≡ b) × (l ≡ m) × (t ≡ u)
 one-judge-answer text plan list table a b l m t u x y =
-    let v = same-judgement table t u (judging text plan (length list) (length table)) a b (x .answers) (y .answers) in (v .0, x .holds ∙ sym (y .holds), v .1)
+    let z = one-outcome one-judged x y in (judge-injective a b (z .0), ap (λ (k : Lent). k .list) (z .1), ap (λ (k : Lent). k .table) (z .1))

@@ -14,27 +14,28 @@ use Rattle.semantics.specs.CompilingTable.{end, steps, flat}
 use Rattle.compile.specs.Program.{build, programs}
 use Rattle.compile.specs.CompiledJob.{fits}
 use Rattle.plans.specs.PlanText.{entryIn, readEntries, readLines, readPlan}
-use Rattle.offers.specs.Refusals.{refused, jobIn, offerIn}
-use Rattle.offers.specs.declared.offer.Sort.the-variants.{Moves}
+use Rattle.load.specs.Refusals.{passed, refused, next, jobIn, textsIn, loading}
+use Rattle.load.specs.View.{viewIn}
+use Rattle.load.specs.declared.request.Sort.the-variants.{Moves}
 use Rattle.jesmovit.specs.Checking.{checking}
 use Rattle.jesmovit.specs.Judging.{costing, judging}
 use Rattle.theorems.specs.MarkedCases.{sample}
-use Rattle.jesmovit.specs.Compiling.{compiling, compileAnswer, listAfter}
-use Rattle.jesmovit.specs.declared.compiling.CompileAnswer.{CompileAnswer}
+use Rattle.jesmovit.specs.Compiling.{compiling, listAfter, sizesOf}
 
 -- "`positions=3` `steps=2` `s=3,0,1,0` `s=3,1,2,1`"
-compiles-sample : compileAnswer (compiling sample 9) ≡ CompileAnswer.Compiled 3 2
-unfolding bytes lines hasKey valueOf byteRead numbers lineNumbers fault taken ended readFrom readJob end steps build programs fits jobIn compiling
+compiles-sample : next (viewIn (compiling sample 9)) (λ v. passed (sizesOf v)) ≡ passed (record { positions = 3; steps = 2 })
+unfolding bytes lines hasKey valueOf byteRead numbers lineNumbers fault taken ended readFrom readJob end steps build programs fits jobIn textsIn loading
 compiles-sample = refl
 
 -- with a later entry, which does not change
-fills-list : listAfter (compiling sample 9) (7 ∷ 7 ∷ 7 ∷ 7 ∷ 7 ∷ 7 ∷ 7 ∷ 7 ∷ 7 ∷ []) ≡ 3 ∷ 0 ∷ 1 ∷ 0 ∷ 3 ∷ 1 ∷ 2 ∷ 1 ∷ 7 ∷ []
-unfolding bytes lines hasKey valueOf byteRead numbers lineNumbers fault taken ended readFrom readJob end steps flat build programs fits jobIn compiling
+fills-list : next (viewIn (compiling sample 9)) (λ v. passed (listAfter v (7 ∷ 7 ∷ 7 ∷ 7 ∷ 7 ∷ 7 ∷ 7 ∷ 7 ∷ 7 ∷ [])))
+    ≡ passed (3 ∷ 0 ∷ 1 ∷ 0 ∷ 3 ∷ 1 ∷ 2 ∷ 1 ∷ 7 ∷ [])
+unfolding bytes lines hasKey valueOf byteRead numbers lineNumbers fault taken ended readFrom readJob end steps flat build programs fits jobIn textsIn loading
 fills-list = refl
 
 -- a list that is one place too short
-refuses-list : compiling sample 7 ≡ refused 6 8
-unfolding bytes lines hasKey valueOf byteRead numbers lineNumbers fault taken ended readFrom readJob end steps build programs fits jobIn compiling
+refuses-list : loading (compiling sample 7) ≡ refused 6 8
+unfolding bytes lines hasKey valueOf byteRead numbers lineNumbers fault taken ended readFrom readJob end steps build programs fits jobIn textsIn loading
 refuses-list = refl
 
 -- "`p=1,0,0,0`, then `p=4,k,k,0` for k from 0 to 7: 257 positions"
@@ -43,30 +44,30 @@ unfolding bytes lines hasKey valueOf byteRead numbers lineNumbers fault taken en
 refuses-positions = refl
 
 -- "`plan=1`, `m=2` on the sample: line 2"
-refuses-entry : checking Moves sample (bytes "plan=1\nm=2\n") (mostSteps * 4) ≡ refused 5 2
+refuses-entry : loading (checking Moves sample (bytes "plan=1\nm=2\n") (mostSteps * 4)) ≡ refused 5 2
 unfolding bytes lines hasKey valueOf byteRead numbers lineNumbers fault taken ended readFrom readJob end steps build programs fits
-    entryIn readEntries readLines readPlan jobIn offerIn checking
+    entryIn readEntries readLines readPlan jobIn textsIn loading
 refuses-entry = refl
 
 -- "An entry of the other sort is of wrong form."
-refuses-step : checking Moves sample (bytes "plan=1\nt=0\n") (mostSteps * 4) ≡ refused 5 2
+refuses-step : loading (checking Moves sample (bytes "plan=1\nt=0\n") (mostSteps * 4)) ≡ refused 5 2
 unfolding bytes lines hasKey valueOf byteRead numbers lineNumbers fault taken ended readFrom readJob end steps build programs fits
-    entryIn readEntries readLines readPlan jobIn offerIn checking
+    entryIn readEntries readLines readPlan jobIn textsIn loading
 refuses-step = refl
 
 -- "so 6 doesn't look at the plan": a plan that would be blocked, with a list that is one place too short
-refuses-before-verdict : checking Moves sample (bytes "plan=1\nm=1\n") 7 ≡ refused 6 8
+refuses-before-verdict : loading (checking Moves sample (bytes "plan=1\nm=1\n") 7) ≡ refused 6 8
 unfolding bytes lines hasKey valueOf byteRead numbers lineNumbers fault taken ended readFrom readJob end steps build programs fits
-    entryIn readEntries readLines readPlan jobIn offerIn checking
+    entryIn readEntries readLines readPlan jobIn textsIn loading
 refuses-before-verdict = refl
 
 -- "11 numbers for the sample's cost table: 12"
-refuses-table : costing sample 8 11 ≡ refused 6 12
-unfolding bytes lines hasKey valueOf byteRead numbers lineNumbers fault taken ended readFrom readJob end steps build programs fits jobIn compiling costing
+refuses-table : loading (costing sample 8 11) ≡ refused 6 12
+unfolding bytes lines hasKey valueOf byteRead numbers lineNumbers fault taken ended readFrom readJob end steps build programs fits jobIn textsIn loading
 refuses-table = refl
 
 -- "Where it and a cost table are both too short, it decides."
-refuses-list-first : judging sample (bytes "plan=0\n") 7 11 ≡ refused 6 8
+refuses-list-first : loading (judging sample (bytes "plan=0\n") 7 11) ≡ refused 6 8
 unfolding bytes lines hasKey valueOf byteRead numbers lineNumbers fault taken ended readFrom readJob end steps build programs fits
-    entryIn readEntries readLines readPlan jobIn offerIn checking judging
+    entryIn readEntries readLines readPlan jobIn textsIn loading
 refuses-list-first = refl

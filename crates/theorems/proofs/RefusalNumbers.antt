@@ -1,8 +1,8 @@
 -- The numbers by which each operation refuses.
 -- Assumes nothing.
 use Prim.Native.Nat.{ℕ, _+_, _≤_}
-use mathlib.Core.Path.{_≡_, refl, subst}
-use mathlib.Core.Bool.{cond}
+use mathlib.Core.Path.{_≡_, refl, sym, subst}
+use mathlib.Core.Bool.{Bool, false, cond}
 use mathlib.Core.List.{List, [], _∷_}
 use mathlib.Core.Logic.{inl, inr}
 use mathlib.Core.Option.{Option, none, some}
@@ -22,12 +22,8 @@ use Rattle.text.specs.Lines.{lines}
 use Rattle.plans.specs.PlanText as P
 use Rattle.plans.specs.PlanText.{PlanOutcome, readPlan}
 use Rattle.compile.specs.CompiledJob.{fits}
-use Rattle.offers.specs.Refusals.{Checked, passed, refused, next, compilable, jobIn, offered, keyFor, boundFor, offerIn, listNeed, tableNeed}
-use Rattle.offers.specs.declared.offer.Sort.{Sort}
-use Rattle.offers.specs.declared.offer.Sort.the-variants.{Moves}
-use Rattle.jesmovit.specs.Compiling.{compiling}
-use Rattle.jesmovit.specs.Checking.{checking}
-use Rattle.jesmovit.specs.Judging.{costing, judging}
+use Rattle.load.specs.Refusals.{Handed, Checked, passed, refused, next, compilable, jobIn, offered, keyFor, boundFor, planIn, textsIn}
+use Rattle.load.specs.Refusals.{listNeed, tableNeed, loading}
 use Rattle.theorems.specs.RefusalNumbers.{UpTo, WithoutPlan}
 
 -- whatever refusal it is, its number meets P
@@ -84,36 +80,41 @@ offered-refuses : (j : Job) (p : PlanOutcome) → RefusedBy (UpTo 5) (offered j 
 offered-refuses j (P.listed es) = λ a b e. never (cc)
 offered-refuses j (P.refused line) = λ a b e. let y : a ≡ 5 = cc in (omega arith, omega arith)
 
--- and of a plan text beside it: 5 too
-pub texts-number : (sort : Sort) (text plan : List ℕ) (number place : ℕ) → offerIn sort text plan ≡ refused number place → UpTo 5 number
-unfolding offerIn
-texts-number sort text plan =
-    next-refuses (UpTo 5) (jobIn text) (λ j. offered j (readPlan (keyFor sort) (boundFor sort j) plan))
-    (λ a b e. let x = job-number text a b e in (x .0, omega (arith, x .1)))
-    (λ j. offered-refuses j (readPlan (keyFor sort) (boundFor sort j) plan))
+-- of what is handed in, with or without a plan text
+module _ (h : Handed) where
+  plan-refuses : (j : Job) → RefusedBy (UpTo 5) (planIn (h .request) (h .plan) j)
+  plan-refuses j =
+      cond-has (RefusedBy (UpTo 5)) (h .request .plan) _ (passed (record { job = j; entries = [] }))
+      (λ z. offered-refuses j (readPlan (keyFor (h .request .sort)) (boundFor (h .request .sort) j) (h .plan))) (λ z number place e. never (cc))
 
--- of compiling
-pub compile-number : (text : List ℕ) (places : ℕ) (number place : ℕ) → compiling text places ≡ refused number place → WithoutPlan number
-unfolding compiling
-compile-number text places =
-    next-refuses WithoutPlan (jobIn text) _ (λ a b e. inl (job-number text a b e)) (λ j. length-refuses WithoutPlan j (listNeed j) places (inr refl))
+  alone-refuses : h .request .plan ≡ false → (j : Job) → RefusedBy WithoutPlan (planIn (h .request) (h .plan) j)
+  alone-refuses f j =
+      subst (λ (b : Bool). RefusedBy WithoutPlan
+      (cond b (offered j (readPlan (keyFor (h .request .sort)) (boundFor (h .request .sort) j) (h .plan))) (passed (record { job = j; entries = [] }))))
+      (sym f) (λ number place e. never (cc))
 
--- of the least cost
-pub cost-number : (text : List ℕ) (places cells : ℕ) (number place : ℕ) → costing text places cells ≡ refused number place → WithoutPlan number
-unfolding costing
-cost-number text places cells =
-    next-refuses WithoutPlan (compiling text places) _ (compile-number text places) (λ j. length-refuses WithoutPlan j (tableNeed j) cells (inr refl))
+  -- reason 6 after both texts
+  lengths-refuse : (P : ℕ → Type 0) → P 6 → RefusedBy P (textsIn h) → RefusedBy P (loading h)
+  unfolding loading
+  lengths-refuse P six x =
+      next-refuses P _ _
+      (next-refuses P (textsIn h) _ x (λ o. length-refuses P o (listNeed (o .job)) (h .request .places) six))
+      (λ o. length-refuses P o (tableNeed (h .request) (o .job)) (h .request .cells) six)
 
--- of a check
-pub check-number : (sort : Sort) (text plan : List ℕ) (places : ℕ) (number place : ℕ) → checking sort text plan places ≡ refused number place → UpTo 6 number
-unfolding checking
-check-number sort text plan places =
-    next-refuses (UpTo 6) (offerIn sort text plan) _ (λ a b e. let x = texts-number sort text plan a b e in (x .0, omega (arith, x .1)))
-    (λ o. length-refuses (UpTo 6) o (listNeed (o .job)) places (omega arith, omega arith))
+  texts-number : RefusedBy (UpTo 6) (textsIn h)
+  unfolding textsIn
+  texts-number =
+      next-refuses (UpTo 6) (jobIn (h .job)) _ (λ a b e. let x = job-number (h .job) a b e in (x .0, omega (arith, x .1)))
+      (λ j a b e. let x = plan-refuses j a b e in (x .0, omega (arith, x .1)))
 
--- of the judge
-pub judge-number : (text plan : List ℕ) (places cells : ℕ) (number place : ℕ) → judging text plan places cells ≡ refused number place → UpTo 6 number
-unfolding judging
-judge-number text plan places cells =
-    next-refuses (UpTo 6) (checking Moves text plan places) _ (check-number Moves text plan places)
-    (λ o. length-refuses (UpTo 6) o (tableNeed (o .job)) cells (omega arith, omega arith))
+  job-text-number : h .request .plan ≡ false → RefusedBy WithoutPlan (textsIn h)
+  unfolding textsIn
+  job-text-number f = next-refuses WithoutPlan (jobIn (h .job)) _ (λ a b e. inl (job-number (h .job) a b e)) (alone-refuses f)
+
+  -- of every operation that takes texts
+  pub load-number : (number place : ℕ) → loading h ≡ refused number place → UpTo 6 number
+  load-number = lengths-refuse (UpTo 6) (omega arith, omega arith) texts-number
+
+  -- and where it takes no plan text
+  pub job-load-number : h .request .plan ≡ false → (number place : ℕ) → loading h ≡ refused number place → WithoutPlan number
+  job-load-number f = lengths-refuse WithoutPlan (inr refl) (job-text-number f)

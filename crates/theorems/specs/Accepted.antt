@@ -1,15 +1,16 @@
--- "Texts are accepted where no reason but 6 refuses them", said without reading them.
+-- What is not refused, said without reading it: "Texts are accepted where no reason but 6 refuses them."
 use Prim.Native.Nat.{ℕ, _≤_, _<_}
 use mathlib.Core.Path.{_≡_}
-use mathlib.Core.List.{List}
+use mathlib.Core.Bool.{true, false}
+use mathlib.Core.List.{List, []}
 use lib.ListN.{length, getD}
 use Rattle.limits.specs.Limits.{mostPositions, mostSteps, mostEntries}
 use Rattle.job.specs.Job.{Job}
 use Rattle.job.specs.WellFormed.{WellFormed}
 use Rattle.compile.specs.CompiledJob.{positionCount, stepCount}
 use Rattle.plans.specs.PlanText.{planText}
-use Rattle.offers.specs.Refusals.{Offer, keyFor, boundFor}
-use Rattle.offers.specs.declared.offer.Sort.{Sort}
+use Rattle.load.specs.Refusals.{Handed, Offer, keyFor, boundFor, listNeed, tableNeed}
+use Rattle.load.specs.declared.request.Sort.{Sort}
 use Rattle.theorems.specs.JobText.{jobText}
 
 -- no reason from 1 to 4 refuses the text of a well-formed job: "At most 256 positions and 1,024 steps."
@@ -25,7 +26,14 @@ pub record AcceptedPlan (sort : Sort) (j : Job) (plan entries : List ℕ) : Type
   pub each : (i : ℕ) → i < length entries → getD entries i 0 < boundFor sort j
   pub written : plan ≡ planText (keyFor sort) entries
 
--- both texts
-pub record Accepted (sort : Sort) (text plan : List ℕ) (o : Offer) : Type 0 where
-  pub its-job : AcceptedJob text (o .job)
-  pub its-plan : AcceptedPlan sort (o .job) plan (o .entries)
+-- the texts; where no plan text is handed in there are no entries
+pub record AcceptedTexts (h : Handed) (o : Offer) : Type 0 where
+  pub its-job : AcceptedJob (h .job) (o .job)
+  pub its-plan : h .request .plan ≡ true → AcceptedPlan (h .request .sort) (o .job) (h .plan) (o .entries)
+  pub alone : h .request .plan ≡ false → o .entries ≡ []
+
+-- and a list and a table that are long enough
+pub record Accepted (h : Handed) (o : Offer) : Type 0 where
+  pub texts : AcceptedTexts h o
+  pub list : listNeed (o .job) ≤ h .request .places
+  pub table : tableNeed (h .request) (o .job) ≤ h .request .cells

@@ -5,3 +5,4 @@ pub mod Decided
 pub mod CostSum
 pub mod OriginalStar
 pub mod MarkedCases
+pub mod Printed

@@ -10,7 +10,7 @@ use Rattle.semantics.specs.Judgement.{Judgement, least, dearer, other, Finds}
 use Rattle.domain.specs.Domain.{domainOf}
 use Rattle.compile.specs.Program.{programOf}
 use Rattle.compile.specs.CompiledJob.{positionCount, stepCount}
-use Rattle.offers.specs.Refusals.{passed, Offer}
+use Rattle.load.specs.Refusals.{passed, Offer, loading}
 use Rattle.jesmovit.specs.Judging.{judging}
 
 -- the bytes of a job text and of a plan text, the positions and steps of the compiled job, and what the judge finds
@@ -69,7 +69,7 @@ marked =
 -- program's own runs, and by all allowed plans of whatever length
 pub record Right (c : Case) : Type 0 where
   pub offer : Offer
-  pub passes : judging (c .job) (c .plan) (mostSteps * 4) 12288 ≡ passed offer
+  pub passes : loading (judging (c .job) (c .plan) (mostSteps * 4) 12288) ≡ passed offer
   pub positions : positionCount (offer .job) ≡ c .positions
   pub steps : stepCount (offer .job) ≡ c .steps
   pub finds : Finds (domainOf (offer .job)) (programOf (offer .job)) (offer .entries) (c .says)
