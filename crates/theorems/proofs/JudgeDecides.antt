@@ -49,8 +49,8 @@ module _ (v : View) where
   decided : Offers → {g : Judgement} → Finds (v .domain) (v .program) (v .entries) g → Decided v (judgedAs v g)
   decided allowed f =
       let own : (w : Verdict) → Judged (v .domain) (byRuns (v .domain) (v .program)) (v .entries) w
-          → plan (cost (v .domain) (v .domain .start) (v .entries)) ≡ w =
-          λ w x. one-move-verdict (v .domain) (v .program) (v .entries) _ w (allowed-plan (v .domain) (v .program) (v .entries) allowed) x in
+      → plan (cost (v .domain) (v .domain .start) (v .entries)) ≡ w =
+      λ w x. one-move-verdict (v .domain) (v .program) (v .entries) _ w (allowed-plan (v .domain) (v .program) (v .entries) allowed) x in
       by own f
     where
       by : ((w : Verdict) → Judged (v .domain) (byRuns (v .domain) (v .program)) (v .entries) w → plan (cost (v .domain) (v .domain .start) (v .entries)) ≡ w)

@@ -66,8 +66,7 @@ one-table-for v (J.other w) old new other t u = t ∙ sym u
 pub one-judged : {old : Lent} → OneWay JudgeDone old
 one-judged v g h x y p q =
     let s : g .sizes ≡ h .sizes = p .sized ∙ sym (q .sized) in
-    let e : g .judgement ≡ h .judgement = one-judgement (v .domain) (v .program) (v .entries) _ _ (p .found .finds) (q .found .finds) in
-    (
+    let e : g .judgement ≡ h .judgement = one-judgement (v .domain) (v .program) (v .entries) _ _ (p .found .finds) (q .found .finds) in (
       rw (s, e),
       lent-same (p .list ∙ sym (q .list)) (one-table-for v (g .judgement) _ _ _ (p .found .table) (rw (← e) at (q .found .table))),
     )
@@ -121,7 +120,7 @@ judgement-injective (Other v) (Other w) e = ap Other (verdict-injective v w (cc)
 judge-injective : (a b : G.JudgeAnswer) → judgeOutcome a ≡ judgeOutcome b → a ≡ b
 judge-injective (G.the-variants.Judged p n g) (G.the-variants.Judged q m h) e =
     let j : _≡_ {A = SizedJudgement} (record { sizes = record { positions = p; steps = n }; judgement = judgementOf g })
-        (record { sizes = record { positions = q; steps = m }; judgement = judgementOf h }) = cc in
+    (record { sizes = record { positions = q; steps = m }; judgement = judgementOf h }) = cc in
     let f : g ≡ h = judgement-injective g h (ap (λ (x : SizedJudgement). x .judgement) j) in
     rw f (sizes-same (ap (λ (x : SizedJudgement). x .sizes) j) (λ x y. G.the-variants.Judged x y h))
 judge-injective (G.the-variants.Judged p n g) (G.the-variants.Refused r) e = never (cc)

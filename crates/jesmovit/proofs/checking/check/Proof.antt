@@ -15,8 +15,12 @@ compile-requires c κs = load-listed (c .before .before .before .before .before 
 
 part-verdict-end : tie.Need-part-verdict-end
 part-verdict-end c =
-    omega (arith, front-fits (load-sized (c .before .before .before .before .before .before .before .before .before .before .before .before .before .before .load .ensures) (c .before .before .before .before .before .before .before .before .before .before .loaded .given .1)) (c .before .before .before .before .before .before .before .before .before .before .before .before .before .before .before .before .before .before .before .before .args .list .now)
-    (load-listed (c .before .before .before .before .before .before .before .before .before .before .before .before .before .before .load .ensures) (c .before .before .before .before .before .before .before .before .before .before .loaded .given .1) .1 .1) (c .before .before .before .before .before .before .before .list-need .ensures), c .before .before .before .before .compile .kept .1 .1 .0)
+    omega (
+      arith,
+      front-fits (load-sized (c .before .before .before .before .before .before .before .before .before .before .before .before .before .before .load .ensures) (c .before .before .before .before .before .before .before .before .before .before .loaded .given .1)) (c .before .before .before .before .before .before .before .before .before .before .before .before .before .before .before .before .before .before .before .before .args .list .now)
+          (load-listed (c .before .before .before .before .before .before .before .before .before .before .before .before .before .before .load .ensures) (c .before .before .before .before .before .before .before .before .before .before .loaded .given .1) .1 .1) (c .before .before .before .before .before .before .before .list-need .ensures),
+      c .before .before .before .before .compile .kept .1 .1 .0,
+    )
 
 part-verdict-end-2 : tie.Need-part-verdict-end-2
 part-verdict-end-2 c =

@@ -15,8 +15,12 @@ compile-requires c κs = load-listed (c .before .before .before .before .before 
 
 part-judge-entries-end : tie.Need-part-judge-entries-end
 part-judge-entries-end c =
-    omega (arith, front-fits (load-sized (c .before .before .before .before .before .before .before .before .before .before .before .before .before .before .before .load .ensures) (c .before .before .before .before .before .before .before .before .before .before .before .loaded .given .1)) (c .before .before .before .before .before .before .before .before .before .before .before .before .before .before .before .before .before .before .before .before .before .before .args .list .now)
-    (load-listed (c .before .before .before .before .before .before .before .before .before .before .before .before .before .before .before .load .ensures) (c .before .before .before .before .before .before .before .before .before .before .before .loaded .given .1) .1 .1) (c .before .before .before .before .before .before .before .before .list-need .ensures), c .before .before .before .before .before .compile .kept .1 .1 .0)
+    omega (
+      arith,
+      front-fits (load-sized (c .before .before .before .before .before .before .before .before .before .before .before .before .before .before .before .load .ensures) (c .before .before .before .before .before .before .before .before .before .before .before .loaded .given .1)) (c .before .before .before .before .before .before .before .before .before .before .before .before .before .before .before .before .before .before .before .before .before .before .args .list .now)
+          (load-listed (c .before .before .before .before .before .before .before .before .before .before .before .before .before .before .before .load .ensures) (c .before .before .before .before .before .before .before .before .before .before .before .loaded .given .1) .1 .1) (c .before .before .before .before .before .before .before .before .list-need .ensures),
+      c .before .before .before .before .before .compile .kept .1 .1 .0,
+    )
 
 part-judge-entries-end-2 : tie.Need-part-judge-entries-end-2
 part-judge-entries-end-2 c =

@@ -20,8 +20,12 @@ compile-requires c κs = load-listed (c .before .before .before .before .before 
 
 part-least-cost-end : tie.Need-part-least-cost-end
 part-least-cost-end c =
-    omega (arith, front-fits (load-sized (c .before .before .before .before .before .before .before .before .before .before .before .before .before .before .before .load .ensures) (c .before .before .before .before .before .before .before .before .before .before .before .loaded .given .1)) (c .before .before .before .before .before .before .before .before .before .before .before .before .before .before .before .before .before .before .before .before .before .before .args .list .now)
-    (load-listed (c .before .before .before .before .before .before .before .before .before .before .before .before .before .before .before .load .ensures) (c .before .before .before .before .before .before .before .before .before .before .before .loaded .given .1) .1 .1) (c .before .before .before .before .before .before .before .before .list-need .ensures), c .before .before .before .before .before .compile .kept .1 .1 .0)
+    omega (
+      arith,
+      front-fits (load-sized (c .before .before .before .before .before .before .before .before .before .before .before .before .before .before .before .load .ensures) (c .before .before .before .before .before .before .before .before .before .before .before .loaded .given .1)) (c .before .before .before .before .before .before .before .before .before .before .before .before .before .before .before .before .before .before .before .before .before .before .args .list .now)
+          (load-listed (c .before .before .before .before .before .before .before .before .before .before .before .before .before .before .before .load .ensures) (c .before .before .before .before .before .before .before .before .before .before .before .loaded .given .1) .1 .1) (c .before .before .before .before .before .before .before .before .list-need .ensures),
+      c .before .before .before .before .before .compile .kept .1 .1 .0,
+    )
 
 least-cost-requires : tie.Need-least-cost-requires
 least-cost-requires c κs =
