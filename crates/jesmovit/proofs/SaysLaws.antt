@@ -8,6 +8,7 @@ use Rattle.limits.specs.Limits.{mostPositions}
 use Rattle.job.specs.Job.{Job}
 use Rattle.job.specs.Store.{jobOf}
 use Rattle.job.specs.declared.head.Head.{Head}
+use Rattle.semantics.specs.CompilingTable.{end}
 use Rattle.semantics.specs.Verdict.{Verdict}
 use Rattle.semantics.specs.PositionSets.{verdictBy}
 use Rattle.semantics.specs.StepVerdict.{stepVerdict}
@@ -15,9 +16,9 @@ use Rattle.semantics.proofs.CheckLaws.{verdict-by-judged}
 use Rattle.semantics.proofs.StepVerdictLaws.{step-verdict-judged}
 use Rattle.domain.specs.Domain.{domainIn}
 use Rattle.compile.specs.Program.{programOf}
-use Rattle.compile.specs.CompiledJob.{stepsOf, positionCount}
+use Rattle.compile.specs.CompiledJob.{stepsOf}
 use Rattle.validate.specs.Ready.{Ready, EntriesBelow}
-use Rattle.validate.proofs.ReadyLaws.{final-below}
+use Rattle.validate.proofs.ReadyLaws.{last-final, final-below}
 use Rattle.offers.specs.Refusals.{boundFor}
 use Rattle.offers.specs.declared.offer.Sort.{Sort}
 use Rattle.offers.specs.declared.offer.Sort.the-variants.{Moves, Steps}
@@ -41,4 +42,4 @@ module _ (h : Head) (rows plan : List ℕ) where
 
     pub says-steps : {list : List ℕ} {positions : ℕ} → Ready h rows list positions → {v : Verdict} → v ≡ stepVerdict (domainIn h rows) (stepsOf (jobOf h rows)) (positions - 1) plan
         → Says sort (record { job = jobOf h rows; entries = plan }) v
-    says-steps r f = rw (e, f, r .positions) (step-verdict-judged (domainIn h rows) (stepsOf j) (positionCount j - 1) plan)
+    says-steps r f = rw (e, f, last-final r) (step-verdict-judged (domainIn h rows) (stepsOf j) (end (programOf j) 0) plan)
