@@ -11,6 +11,7 @@ pub mod Compiled
 pub mod PathLaws
 pub mod Agreement
 pub mod OneVerdict
+pub mod MachineLaws
 pub mod VerdictLaws
 pub mod Marks
 pub mod SetLaws

@@ -4,6 +4,7 @@ use Prim.Native.Nat.{ℕ, _*_}
 use mathlib.Core.Path.{_≡_, refl, ap}
 use mathlib.Core.Option.{Option, some}
 use mathlib.Core.List.{List, [], _∷_, map, List·Memᴰ, List·Memᴰ·head, List·Memᴰ·tail}
+use native.Mathlib.Omega.{arith}
 use Rattle.limits.specs.Limits.{mostSteps}
 use Rattle.laws.proofs.Tests.{never}
 use Rattle.text.specs.Bytes.{bytes}
@@ -14,9 +15,10 @@ use Rattle.job.specs.Fault.{fault}
 use Rattle.job.specs.ReadJob.{taken, ended, readFrom, readJob}
 use Rattle.semantics.specs.CompilingTable.{end, steps, branchSteps, whileSteps, starSteps}
 use Rattle.semantics.specs.Judgement.{Judgement}
-use Rattle.semantics.specs.PositionSets.{spread, close, silentIn, isMove, anyMark, firstSet, nextSet, onward, finished, verdictFrom, verdictBy, verdict}
+use Rattle.semantics.specs.Machine.{onward, finished, verdictFrom}
+use Rattle.semantics.specs.PositionSets.{spread, close, silentIn, isMove, anyMark, firstSet, nextSet, moveOn, verdictBy}
 use Rattle.semantics.specs.StepVerdict.{arrives, made}
-use Rattle.semantics.proofs.CheckLaws.{verdict-judged}
+use Rattle.semantics.proofs.CheckLaws.{verdict-by-judged}
 use Rattle.domain.specs.State.{fact, putFact, value, values, afterEffect, applied, affected}
 use Rattle.domain.specs.Cost.{classCost}
 use Rattle.domain.specs.Domain.{holdsIn, successorOf, costIn, domainOf}
@@ -81,7 +83,7 @@ tables =
 
 -- the judgement by position sets and a table
 abbrev judgement : Table → Offer → Option Judgement
-judgement T o = finds (domainOf (o .job)) (programOf (o .job)) T (verdict (domainOf (o .job)) (programOf (o .job)) (o .entries))
+judgement T o = finds (domainOf (o .job)) (programOf (o .job)) T (verdictBy (positionCount (o .job)) (domainOf (o .job)) (programOf (o .job)) (o .entries))
 
 -- the sizes and the judgement
 record Computed : Type 0 where
@@ -109,7 +111,7 @@ unfolding bytes lines hasKey valueOf byteRead numbers
     lineNumbers fault taken ended readFrom readJob
     end steps branchSteps whileSteps starSteps build programs fits
     fact putFact value values afterEffect applied affected classCost holdsIn successorOf costIn
-    spread close silentIn isMove anyMark firstSet nextSet onward finished verdictFrom verdictBy verdict
+    spread close silentIn isMove anyMark firstSet nextSet onward finished verdictFrom moveOn verdictBy
     entryIn readEntries readLines readPlan jobIn offerIn checking judging
     arrives made entryAt led every leads sound settles notBelow shows weighed finds
     marked tables judged judgements
@@ -122,7 +124,7 @@ judged-right c T e = by (judging (c .job) (c .plan) (mostSteps * 4) 12288) refl 
     by : (k : Checked Offer) → judging (c .job) (c .plan) (mostSteps * 4) 12288 ≡ k → next k (λ o. passed (computedOf T o)) ≡ said c → Right c
     by (passed o) f g =
         let z : computedOf T o ≡ record { positions = c .positions; steps = c .steps; says = some (c .says) } = cc in
-        let j = verdict-judged (domainOf (o .job)) (programOf (o .job)) (o .entries) in
+        let j = verdict-by-judged (domainOf (o .job)) (programOf (o .job)) (positionCount (o .job)) (omega arith) (o .entries) in
         record {
           offer = o;
           passes = f;

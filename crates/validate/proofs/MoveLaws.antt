@@ -3,7 +3,7 @@
 use Prim.Native.Nat.{ℕ, suc, _+_, _-_, _*_, _≤_, _<_}
 use mathlib.Core.Path.{_≡_, sym, _∙_, ap}
 use mathlib.Core.Bool.{Bool, true, false}
-use mathlib.Core.Option.{some}
+use mathlib.Core.Option.{none, some}
 use mathlib.Core.List.{List, _∷_}
 use native.Mathlib.Omega.{arith}
 use lib.ListN.{length, getD, set, replicate, drop}
@@ -14,9 +14,11 @@ use Rattle.job.specs.declared.head.Head.{Head}
 use Rattle.semantics.specs.Domain.{Domain}
 use Rattle.semantics.specs.CompilingTable.{Step, end}
 use Rattle.semantics.specs.Verdict.{Verdict, blocked}
-use Rattle.semantics.specs.PositionSets.{closure, spread, isMove, silentIn, anyMark, firstSet, nextSet, onward, finished, verdictFrom, verdictBy}
+use Rattle.semantics.specs.Machine.{onward, finished, verdictFrom}
+use Rattle.semantics.specs.PositionSets.{closure, spread, isMove, silentIn, anyMark, firstSet, nextSet, Configurations, moveOn, setMachine, verdictBy}
 use Rattle.semantics.proofs.Marks.{count-zero, count-some}
-use Rattle.semantics.proofs.SetVerdict.{verdict-none, verdict-stuck, verdict-onward}
+use Rattle.semantics.proofs.MachineLaws.{verdict-blocked, verdict-onward}
+use Rattle.semantics.proofs.SetVerdict.{not-applicable, moves-nowhere, moves-somewhere}
 use Rattle.domain.specs.Cost.{mostCost}
 use Rattle.domain.specs.Domain.{domainIn, Tells}
 use Rattle.domain.specs.Successor.{successorIn}
@@ -45,10 +47,15 @@ module _ (head : Head) (rows list : List ℕ) (plan : List ℕ) where
   abbrev e : ℕ
   e = end (programOf (jobOf head rows)) 0
 
+  -- what moves get from a state and a set of positions
+  abbrev from : ℕ → List Bool → List ℕ → Verdict
+  from state marks = verdictFrom D (setMachine D L e) (record { state = state; marks = marks })
+
   -- after i moves at this cost, in this state, where its formulas have these values and the program may be at the positions of S
   pub record Checking (state : ℕ) (values : List Bool) (S : PositionSet) (cost i : ℕ) : Type 0 where
     pub left : Left plan (verdictBy mostPositions (domainIn head rows) (programOf (jobOf head rows)) plan)
-        (verdictFrom (domainIn head rows) (stepsOf (jobOf head rows)) (end (programOf (jobOf head rows)) 0) state (S .marks)) cost i
+        (verdictFrom (domainIn head rows) (setMachine (domainIn head rows) (stepsOf (jobOf head rows)) (end (programOf (jobOf head rows)) 0))
+        (record { state = state; marks = S .marks })) cost i
     pub counted : CountedSet S
     pub told : Tells (domainIn head rows) state values
     pub room : length values ≡ mostFormulas
@@ -66,13 +73,13 @@ module _ (head : Head) (rows list : List ℕ) (plan : List ℕ) where
 
     module _ (state : ℕ) (start : state ≡ D .start) (values : List Bool) (told : Tells D state values) (room : length values ≡ mostFormulas) (S : PositionSet)
         (T : List Bool) (counted : CountedSet S) where
-      begins : T ≡ set (replicate mostPositions false) 0 true → S .marks ≡ closure (silentBy values) (stepsOn list) T → verdictFrom D L e state (S .marks) plan ≡ whole
+      begins : T ≡ set (replicate mostPositions false) 0 true → S .marks ≡ closure (silentBy values) (stepsOn list) T → from state (S .marks) plan ≡ whole
       unfolding verdictBy firstSet
       begins f g = rw (closed-is values T state told g, f, start)
 
       pub checking-start : T ≡ set (replicate mostPositions false) 0 true → S .marks ≡ closure (silentBy values) (stepsOn list) T → Checking state values S 0 0
       checking-start f g = record {
-        left = left-start plan whole (verdictFrom D L e state (S .marks)) (sym (begins f g));
+        left = left-start plan whole (from state (S .marks)) (sym (begins f g));
         counted = counted;
         told = told;
         room = room;
@@ -88,12 +95,15 @@ module _ (head : Head) (rows list : List ℕ) (plan : List ℕ) where
         abbrev rest : List ℕ
         rest = drop (suc i) plan
 
-        stops : verdictFrom D L e state (S .marks) (m ∷ rest) ≡ blocked 0 → blocked i ≡ whole
-        stops f = left-blocked plan whole (x .left) h f
+        abbrev here : Configurations
+        here = record { state = state; marks = S .marks }
+
+        stops : moveOn D L here m ≡ none → blocked i ≡ whole
+        stops f = left-blocked plan whole (x .left) h (verdict-blocked D (setMachine D L e) here m rest f)
 
         -- the move is not applicable
         pub checking-none : {a : Successor} → a ≡ Inapplicable → successorIn a ≡ D .successor m state → blocked i ≡ whole
-        checking-none f g = stops (verdict-none D L e state m (S .marks) rest (sym g ∙ ap successorIn f))
+        checking-none f g = stops (not-applicable D L here m (sym g ∙ ap successorIn f))
 
         module _ {a : Successor} {next : ℕ} (to : a ≡ To next) (after : successorIn a ≡ D .successor m state) (told : List Bool) (tells : Tells D next told)
             (A : List Bool) (B : PositionSet) (advanced : A ≡ spread (isMove m) (stepsOn list) (S .marks) (replicate mostPositions false))
@@ -108,16 +118,17 @@ module _ (head : Head) (rows list : List ℕ) (plan : List ℕ) where
           -- no position is left
           pub checking-stuck : B .count ≡ 0 → blocked i ≡ whole
           checking-stuck f =
-              stops (verdict-stuck D L e state m (S .marks) rest next made (ap anyMark (sym is-next) ∙ count-zero (B .marks) (sym (counted .counted) ∙ f)))
+              stops (moves-nowhere D L here m next made (ap anyMark (sym is-next) ∙ count-zero (B .marks) (sym (counted .counted) ∙ f)))
 
-          goes-on : (B .count ≡ 0 → ⊥) → verdictFrom D L e state (S .marks) (m ∷ rest) ≡ onward (D .cost m state) (verdictFrom D L e next (B .marks) rest)
+          goes-on : (B .count ≡ 0 → ⊥) → from state (S .marks) (m ∷ rest) ≡ onward (D .cost m state) (from next (B .marks) rest)
           goes-on f =
-              verdict-onward D L e state m (S .marks) rest next made (ap anyMark (sym is-next) ∙ count-some (B .marks) (omega (arith, counted .counted, f)))
-              ∙ ap (λ T. onward (D .cost m state) (verdictFrom D L e next T rest)) (sym is-next)
+              verdict-onward D (setMachine D L e) here m rest _
+              (moves-somewhere D L here m next made (ap anyMark (sym is-next) ∙ count-some (B .marks) (omega (arith, counted .counted, f))))
+              ∙ ap (λ T. onward (D .cost m state) (from next T rest)) (sym is-next)
 
           pub checking-more : (B .count ≡ 0 → ⊥) → {c : ℕ} → c ≡ D .cost m state → c ≤ mostCost → length told ≡ mostFormulas → Checking next told B (cost + c) (i + 1)
           checking-more f {c} g k room = record {
-            left = rw g (left-more plan whole (x .left) h (verdictFrom D L e next (B .marks)) (D .cost m state) (goes-on f));
+            left = rw g (left-more plan whole (x .left) h (from next (B .marks)) (D .cost m state) (goes-on f));
             counted = counted;
             told = tells;
             room = room;

@@ -9,7 +9,7 @@ use native.Mathlib.Numerals.{add-one}
 use lib.ListN.{length, getD, drop, drop-of-length-le}
 use lib.Seq.{drop-cons}
 use Rattle.semantics.specs.Verdict.{Verdict, plan, blocked, unfinished, missed}
-use Rattle.semantics.specs.PositionSets.{onward, finished}
+use Rattle.semantics.specs.Machine.{onward, finished}
 use Rattle.validate.specs.Verdict.{verdictOf}
 use Rattle.validate.specs.declared.verdict.Verdict as A
 use Rattle.validate.specs.declared.verdict.Verdict.the-variants.{Plan, Blocked, Unfinished, Missed}
