@@ -16,11 +16,12 @@ pub mod VerdictLaws
 pub mod Marks
 pub mod SetLaws
 pub mod CostLaws
+pub mod Bounds
+pub mod Arrivals
 pub mod Reach
 pub mod FirstSet
 pub mod SetVerdict
 pub mod CheckLaws
-pub mod CostTableLaws
 pub mod FilledLaws
 pub mod JudgementLaws
 pub mod Totals

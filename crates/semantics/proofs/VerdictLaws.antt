@@ -50,7 +50,7 @@ module _ (D : Domain) (σ : Program) where
   verdicts-agree ms v = (
     same-verdict D (byRuns D σ) (byPaths D σ) ms (partial-runs D (D .start) σ) (complete-runs D (D .start) σ) refl,
     same-verdict D (byPaths D σ) (byRuns D σ) ms
-    (λ ks u. Iff·symm (partial-runs D (D .start) σ ks u)) (λ ks u. Iff·symm (complete-runs D (D .start) σ ks u)) refl,
+        (λ ks u. Iff·symm (partial-runs D (D .start) σ ks u)) (λ ks u. Iff·symm (complete-runs D (D .start) σ ks u)) refl,
   )
 
   pub one-move-verdict : (ms : List ℕ) (v w : Verdict) → Judged D (byRuns D σ) ms v → Judged D (byRuns D σ) ms w → v ≡ w

@@ -15,8 +15,8 @@ pub mod CallNumbers
 pub mod JudgedCosts
 pub mod JudgedChecks
 pub mod JudgeDecides
-pub mod Exhibited
-pub mod ExhibitedLeast
+pub mod ComputedTable
+pub mod ComputedJudgement
 pub mod MarkedCases
 pub mod OriginalStar
 pub mod JobExamples

@@ -7,13 +7,15 @@ use mathlib.Core.List.{List}
 use native.Mathlib.Omega.{arith}
 use lib.Dec.{eqb}
 use lib.ListN.{length, getD}
-use Rattle.semantics.specs.Domain.{Domain, Bounded}
+use Rattle.semantics.specs.Domain.{Domain}
 use Rattle.semantics.specs.CompilingTable.{Step}
 use Rattle.semantics.specs.Verdict.{blocked}
 use Rattle.semantics.specs.Machine.{onward, finished, verdictFrom}
 use Rattle.semantics.specs.StepVerdict.{Arrival, made, Configuration, stepMachine, stepVerdict}
+use Rattle.semantics.proofs.Bounds.{Bounded}
+use Rattle.semantics.proofs.Arrivals.{made-bounded}
 use Rattle.semantics.proofs.MachineLaws.{verdict-blocked, verdict-onward}
-use Rattle.semantics.proofs.StepVerdictLaws.{made-bounded, steps-nowhere, steps-on}
+use Rattle.semantics.proofs.StepVerdictLaws.{steps-nowhere, steps-on}
 use Rattle.validate.proofs.VerdictLaws.{Left, left-start, left-blocked, left-more, left-end}
 
 abbrev here : ℕ → ℕ → Configuration
