@@ -10,7 +10,7 @@ use native.Mathlib.Omega.{arith}
 use Rattle.laws.proofs.Tests.{never}
 use Rattle.semantics.specs.Domain.{Domain}
 use Rattle.semantics.specs.Verdict.{Verdict, blocked, Entries, Judged, is-plan, is-blocked, is-unfinished, is-missed}
-use Rattle.semantics.specs.Machine.{Machine, onward, finished, verdictFrom}
+use Rattle.semantics.specs.Machine.{Arrival, Machine, onward, finished, verdictFrom}
 
 -- entries F go on from where a first entry x of E leads, at cost c
 pub record GoesOn (E F : Entries) (x c : ℕ) : Type 0 where
@@ -25,22 +25,25 @@ onward-verdict D k (is-blocked {i} h y f) = is-blocked {i = suc i} (omega arith)
 onward-verdict D k (is-unfinished y f) = is-unfinished (k .made _ _ .0 y) (λ t z. f t (k .completed _ _ .1 z))
 onward-verdict D k (is-missed y g) = is-missed (k .completed _ _ .0 y) g
 
--- configurations that are ready stand for entries: E c is what lists of entries do from c
-pub record StandsFor (M : Machine) (Ready : M .Config → Type 0) (E : M .Config → Entries) : Type 0 where
-  -- where no entry is made
-  pub made : (c : M .Config) → Ready c → E c .Made [] (M .state c)
-  pub completed : (c : M .Config) (u : ℕ) → Ready c → E c .Completed [] u ↔ ((u ≡ M .state c) × (M .complete c ≡ true))
-  pub free : (c : M .Config) → E c .costOf [] ≡ 0
-  -- and one after another
-  pub stuck : (c : M .Config) (x u : ℕ) → Ready c → M .take c x ≡ none → E c .Made (x ∷ []) u → ⊥
-  pub goes : (c : M .Config) (x : ℕ) (a : M .Config × ℕ) → Ready c → M .take c x ≡ some a → Ready (a .0) × GoesOn (E c) (E (a .0)) x (a .1)
+module _ (M : Machine) (Ready : M .Config → Type 0) (E : M .Config → Entries) where
+  -- what comes of a first entry x from c
+  pub data Takes (c : M .Config) (x : ℕ) : Option (Arrival (M .Config)) → Type 0 where
+    stuck : ((u : ℕ) → E c .Made (x ∷ []) u → ⊥) → Takes c x none
+    goes : {a : Arrival (M .Config)} → Ready (a .to) → GoesOn (E c) (E (a .to)) x (a .cost) → Takes c x (some a)
+
+  -- configurations that are ready stand for entries: E c is what lists of entries do from c
+  pub record StandsFor : Type 0 where
+    pub made : (c : M .Config) → Ready c → E c .Made [] (M .state c)
+    pub completed : (c : M .Config) (u : ℕ) → Ready c → E c .Completed [] u ↔ ((u ≡ M .state c) × (M .complete c ≡ true))
+    pub free : (c : M .Config) → E c .costOf [] ≡ 0
+    pub takes : (c : M .Config) (x : ℕ) → Ready c → Takes c x (M .take c x)
 
 module _ (D : Domain) (M : Machine) (c : M .Config) (x : ℕ) (xs : List ℕ) where
   pub verdict-blocked : M .take c x ≡ none → verdictFrom D M c (x ∷ xs) ≡ blocked 0
   unfolding verdictFrom
   verdict-blocked h = rw (h, verdictFrom)
 
-  pub verdict-onward : (a : M .Config × ℕ) → M .take c x ≡ some a → verdictFrom D M c (x ∷ xs) ≡ onward (a .1) (verdictFrom D M (a .0) xs)
+  pub verdict-onward : (a : Arrival (M .Config)) → M .take c x ≡ some a → verdictFrom D M c (x ∷ xs) ≡ onward (a .cost) (verdictFrom D M (a .to) xs)
   unfolding verdictFrom
   verdict-onward a h = rw (h, verdictFrom)
 
@@ -53,9 +56,9 @@ module _ (D : Domain) (M : Machine) (Ready : M .Config → Type 0) (E : M .Confi
 
   pub machine-judged : (es : List ℕ) (c : M .Config) → Ready c → Judged D (E c) es (verdictFrom D M c es)
   machine-judged [] c r = unfold verdictFrom in judged-end c (M .complete c) (D .goal (M .state c)) r refl refl
-  machine-judged (x ∷ es) c r = by (M .take c x) refl (λ (d : M .Config) (k : Ready d). machine-judged es d k)
+  machine-judged (x ∷ es) c r = by (M .take c x) refl (law .takes c x r) (λ (d : M .Config) (k : Ready d). machine-judged es d k)
     where
-      by : (o : Option (M .Config × ℕ)) → M .take c x ≡ o → ((d : M .Config) → Ready d → Judged D (E d) es (verdictFrom D M d es))
-          → Judged D (E c) (x ∷ es) (verdictFrom D M c (x ∷ es))
-      by none h f = rw (verdict-blocked D M c x es h) (is-blocked {i = 0} {u = M .state c} (omega arith) (law .made c r) (λ t y. law .stuck c x t r h y))
-      by (some a) h f = let k = law .goes c x a r h in rw (verdict-onward D M c x es a h) (onward-verdict D (k .1) (f (a .0) (k .0)))
+      by : (o : Option (Arrival (M .Config))) → M .take c x ≡ o → Takes M Ready E c x o
+          → ((d : M .Config) → Ready d → Judged D (E d) es (verdictFrom D M d es)) → Judged D (E c) (x ∷ es) (verdictFrom D M c (x ∷ es))
+      by none h (stuck f) rest = rw (verdict-blocked D M c x es h) (is-blocked {i = 0} {u = M .state c} (omega arith) (law .made c r) f)
+      by (some a) h (goes k f) rest = rw (verdict-onward D M c x es a h) (onward-verdict D f (rest (a .to) k))

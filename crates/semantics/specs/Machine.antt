@@ -6,10 +6,15 @@ use mathlib.Core.List.{List, [], _∷_}
 use Rattle.semantics.specs.Domain.{Domain}
 use Rattle.semantics.specs.Verdict.{Verdict, plan, blocked, unfinished, missed}
 
+-- where an entry leads, and what it costs
+pub record Arrival (C : Type 0) : Type 0 where
+  pub to : C
+  pub cost : ℕ
+
 pub record Machine : Type 1 where
   pub Config : Type 0
-  -- where an entry leads, and what it costs; none where it can't be made
-  pub take : Config → ℕ → Option (Config × ℕ)
+  -- none where the entry can't be made
+  pub take : Config → ℕ → Option (Arrival Config)
   pub state : Config → ℕ
   -- whether the program may be completed here
   pub complete : Config → Bool
@@ -25,9 +30,10 @@ onward c missed = missed
 unfoldable pub finished : Bool → Bool → Verdict
 finished complete goal = cond complete (cond goal (plan 0) missed) unfinished
 
+-- the verdict on a list of entries from a configuration
 unfoldable pub verdictFrom : (D : Domain) (M : Machine) → M .Config → List ℕ → Verdict
 verdictFrom D M c [] = finished (M .complete c) (D .goal (M .state c))
 verdictFrom D M c (x ∷ xs) = elim (M .take c x) [
   | none ↦ blocked 0
-  | some a ↦ onward (a .1) (verdictFrom D M (a .0) xs)
+  | some a ↦ onward (a .cost) (verdictFrom D M (a .to) xs)
 ]

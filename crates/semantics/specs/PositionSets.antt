@@ -12,7 +12,7 @@ use Rattle.semantics.specs.Program.{Program}
 use Rattle.semantics.specs.Domain.{Domain}
 use Rattle.semantics.specs.CompilingTable.{Step, arc, end, steps}
 use Rattle.semantics.specs.Verdict.{Verdict}
-use Rattle.semantics.specs.Machine.{Machine, verdictFrom}
+use Rattle.semantics.specs.Machine.{Arrival, Machine, verdictFrom}
 
 -- T with the ends marked of all steps that pass the test and start at a mark of S
 unfoldable pub spread : (Label → Bool) → List Step → List Bool → List Bool → List Bool
@@ -68,12 +68,12 @@ pub record Configurations : Type 0 where
   pub state : ℕ
   pub marks : List Bool
 
--- move m made there, and its cost; none where it is not applicable, or no position is left
-unfoldable pub moveOn : Domain → List Step → Configurations → ℕ → Option (Configurations × ℕ)
+-- move m made there; none where it is not applicable, or no position is left
+unfoldable pub moveOn : Domain → List Step → Configurations → ℕ → Option (Arrival Configurations)
 moveOn D L c m = elim (D .successor m (c .state)) [
   | none ↦ none
   | some t ↦ cond (anyMark (nextSet D L t m (c .marks)))
-      (some (record { state = t; marks = nextSet D L t m (c .marks) }, D .cost m (c .state))) none
+      (some (record { to = record { state = t; marks = nextSet D L t m (c .marks) }; cost = D .cost m (c .state) })) none
 ]
 
 -- e is the final position

@@ -14,7 +14,8 @@ use Rattle.semantics.specs.CompilingTable.{labelIn}
 use Rattle.semantics.specs.Path.{Does}
 use Rattle.semantics.specs.PositionSets.{silentIn}
 use Rattle.semantics.specs.Plan.{cost}
-use Rattle.semantics.specs.StepVerdict.{Arrival, stays, arrives}
+use Rattle.semantics.specs.Machine.{Arrival}
+use Rattle.semantics.specs.StepVerdict.{Configuration, arrival, stays, arrives}
 use Rattle.semantics.proofs.Arrivals.{does-arrives, arrives-does}
 use Rattle.validate.specs.Positions.{silentBy}
 use Rattle.validate.proofs.ArrivalLaws.{arrives-after, arrives-nowhere}
@@ -22,15 +23,15 @@ use Rattle.validate.proofs.WantedLaws.{is-make, silent-told}
 use Rattle.sweep.specs.Targets.{Leads, Reaches, nowhere, somewhere}
 
 -- to t at cost c; the position does not matter
-abbrev target : ℕ → ℕ → Option Arrival
-target t c = some (record { state = t; position = 0; cost = c })
+abbrev target : ℕ → ℕ → Option (Arrival Configuration)
+target t c = some (arrival t 0 c)
 
 module _ (D : Domain) {l : Label} {w t c : ℕ} where
   only-target : arrives D l w 0 ≡ target t c → (u : ℕ) (ks : List ℕ) → Does D l w ks u → (u ≡ t) × (cost D w ks ≡ c)
   only-target e u ks d =
-      let f : _≡_ {A = Arrival} (record { state = u; position = 0; cost = cost D w ks }) (record { state = t; position = 0; cost = c }) =
+      let f : _≡_ {A = Arrival Configuration} (arrival u 0 (cost D w ks)) (arrival t 0 c) =
       cc (e, does-arrives D 0 d) in
-      (ap (λ (a : Arrival). a .state) f, ap (λ (a : Arrival). a .cost) f)
+      (ap (λ (a : Arrival Configuration). a .to .state) f, ap (λ (a : Arrival Configuration). a .cost) f)
 
   reaches : (on : Bool) → arrives D l w 0 ≡ cond on (target t c) nothing → Reaches D l w on t c
   reaches true e = let x = arrives-does D e in somewhere (record { made = x .moves; does = x .does; costs = x .costs; alone = only-target e })
@@ -53,7 +54,7 @@ module _ (D : Domain) (w kind arg : ℕ) where
       reaches D on (silent-arrives kind h ∙ ap (λ (b : Bool). cond b (stays w 0) nothing) (sym f))
 
   module _ (h : 3 ≤ kind) where
-    moves : {o : Option Arrival} → o ≡ arrives D (make arg) w 0 → arrives D (labelIn kind arg) w 0 ≡ o
+    moves : {o : Option (Arrival Configuration)} → o ≡ arrives D (make arg) w 0 → arrives D (labelIn kind arg) w 0 ≡ o
     moves e = ap (λ (l : Label). arrives D l w 0) (is-make [] kind arg (λ e. omega arith) (λ e. omega arith) (λ e. omega arith)) ∙ sym e
 
     pub reaches-nowhere : {t c : ℕ} → nothing ≡ D .successor arg w → Reaches D (labelIn kind arg) w false t c

@@ -15,7 +15,8 @@ use Rattle.semantics.specs.Label.{Label}
 use Rattle.semantics.specs.CompilingTable.{Step, arc}
 use Rattle.semantics.specs.Path.{StepAt, here, there}
 use Rattle.semantics.specs.Plan.{cost}
-use Rattle.semantics.specs.StepVerdict.{Arrival, arrives}
+use Rattle.semantics.specs.Machine.{Arrival}
+use Rattle.semantics.specs.StepVerdict.{Configuration, arrives}
 use Rattle.semantics.specs.CostTable.{unreached, Filled}
 use Rattle.semantics.specs.Cells as C
 use Rattle.semantics.specs.Cells.{cell, Graph, entry, Edge, Runs, Relaxed}
@@ -25,10 +26,10 @@ use Rattle.semantics.proofs.CellSound.{runs-fill}
 use Rattle.semantics.proofs.Arrivals.{does-arrives, arrives-does}
 
 -- a step followed from state s to where it leads
-abbrev lowered : Graph → ℕ → ℕ → ℕ → List ℕ → Option Arrival → List ℕ
+abbrev lowered : Graph → ℕ → ℕ → ℕ → List ℕ → Option (Arrival Configuration) → List ℕ
 lowered G s p q T none = T
 lowered G s p q T (some a) =
-    let v = cell (G .positions) (a .state) q in
+    let v = cell (G .positions) (a .to .state) q in
     let x = entry G T s p + a .cost in
     cond (ltb x (getD T v 0)) (set T v x) T
 
@@ -58,9 +59,9 @@ computedTable G rounds = sweeps G rounds (set (clear G) (cell (G .positions) (G 
 
 -- the test: no step lowers an entry
 
-abbrev kept : Graph → ℕ → ℕ → ℕ → List ℕ → Option Arrival → Bool
+abbrev kept : Graph → ℕ → ℕ → ℕ → List ℕ → Option (Arrival Configuration) → Bool
 kept G s p q T none = true
-kept G s p q T (some a) = leb (entry G T (a .state) q) (entry G T s p + a .cost)
+kept G s p q T (some a) = leb (entry G T (a .to .state) q) (entry G T s p + a .cost)
 
 unfoldable pub keeps : Graph → ℕ → List ℕ → Step → Bool
 keeps G s T (arc l p q) = kept G s p q T (arrives (G .domain) l s q)
@@ -102,12 +103,12 @@ module _ (G : Graph) where
     unfolding follow
     follow-runs {i} {p} {q} {l} {T} h r = by (arrives (G .domain) l s q) refl
       where
-        by : (o : Option Arrival) → arrives (G .domain) l s q ≡ o → Runs G T₀ (lowered G s p q T o)
+        by : (o : Option (Arrival Configuration)) → arrives (G .domain) l s q ≡ o → Runs G T₀ (lowered G s p q T o)
         by none f = r
         by (some a) f =
             let m = arrives-does (G .domain) f in
-            let e : Edge G i l s p (a .state) q (a .cost) = record { inside = inside; step = h; made = m .moves; does = m .does; costs = m .costs } in
-            let v = cell (G .positions) (a .state) q in
+            let e : Edge G i l s p (a .to .state) q (a .cost) = record { inside = inside; step = h; made = m .moves; does = m .does; costs = m .costs } in
+            let v = cell (G .positions) (a .to .state) q in
             let x = entry G T s p + a .cost in
             cond-has (λ (U : List ℕ). Runs G T₀ U) (ltb x (getD T v 0)) (set T v x) T
             (λ k. C.more x r e refl (ltb-true x (getD T v 0) k)) (λ k. r)

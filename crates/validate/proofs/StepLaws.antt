@@ -10,12 +10,11 @@ use lib.ListN.{length, getD}
 use Rattle.semantics.specs.Domain.{Domain}
 use Rattle.semantics.specs.CompilingTable.{Step}
 use Rattle.semantics.specs.Verdict.{blocked}
-use Rattle.semantics.specs.Machine.{onward, finished, verdictFrom}
-use Rattle.semantics.specs.StepVerdict.{Arrival, made, Configuration, stepMachine, stepVerdict}
+use Rattle.semantics.specs.Machine.{Arrival, onward, finished, verdictFrom}
+use Rattle.semantics.specs.StepVerdict.{Configuration, made, stepMachine, stepVerdict}
 use Rattle.semantics.proofs.Bounds.{Bounded}
 use Rattle.semantics.proofs.Arrivals.{made-bounded}
 use Rattle.semantics.proofs.MachineLaws.{verdict-blocked, verdict-onward}
-use Rattle.semantics.proofs.StepVerdictLaws.{steps-nowhere, steps-on}
 use Rattle.validate.proofs.VerdictLaws.{Left, left-start, left-blocked, left-more, left-end}
 
 abbrev here : ℕ → ℕ → Configuration
@@ -39,15 +38,15 @@ module _ {D : Domain} {most : ℕ} {L : List Step} {e : ℕ} {plan : List ℕ} w
   module _ {s p c i : ℕ} (x : Stepping D most L e plan s p c i) where
     module _ (h : i < length plan) where
       pub stepping-blocked : none ≡ made D L (getD plan i 0) s p → blocked i ≡ stepVerdict D L e plan
-      stepping-blocked n = left-blocked plan _ (x .left) h (verdict-blocked D (stepMachine D L e) _ _ _ (steps-nowhere D L (here s p) _ (sym n)))
+      stepping-blocked n = left-blocked plan _ (x .left) h (verdict-blocked D (stepMachine D L e) (here s p) _ _ (sym n))
 
-      pub stepping-more : Bounded D most → {a : Arrival} → some a ≡ made D L (getD plan i 0) s p
-          → Stepping D most L e plan (a .state) (a .position) (c + a .cost) (i + 1)
+      pub stepping-more : Bounded D most → {a : Arrival Configuration} → some a ≡ made D L (getD plan i 0) s p
+          → Stepping D most L e plan (a .to .state) (a .to .position) (c + a .cost) (i + 1)
       stepping-more b {a} n =
           let v = made-bounded D b L (getD plan i 0) s p (x .state) (sym n) in
           record {
-            left = left-more plan _ (x .left) h (verdictFrom D (stepMachine D L e) (here (a .state) (a .position))) (a .cost)
-                (verdict-onward D (stepMachine D L e) _ _ _ _ (steps-on D L (here s p) _ a (sym n)));
+            left = left-more plan _ (x .left) h (verdictFrom D (stepMachine D L e) (a .to)) (a .cost)
+                (verdict-onward D (stepMachine D L e) (here s p) _ _ a (sym n));
             state = v .0;
             cost = omega (arith, x .cost, v .1);
           }
