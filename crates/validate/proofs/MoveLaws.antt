@@ -65,12 +65,14 @@ module _ (head : Head) (rows list : List ℕ) (plan : List ℕ) where
 
   module _ {positions : ℕ} (r : Ready head rows list positions) where
     -- marks as the code closes them
-    closed-is : (values T : List Bool) {U : List Bool} (s : ℕ) → Tells D s values → U ≡ closure (silentBy values) (stepsOn list) T → U ≡ closure (silentIn D s) L T
+    closed-is : (values T : List Bool) {U : List Bool} (s : ℕ) → Tells D s values → U ≡ closure (silentBy values) (stepsOn list) T
+        → U ≡ closure (silentIn D s) L T
     closed-is values T s told f = f ∙ rw (silent-told D s values told, r .steps)
 
     module _ (state : ℕ) (start : state ≡ D .start) (values : List Bool) (told : Tells D state values) (room : length values ≡ mostFormulas) (S : PositionSet)
         (T : List Bool) (counted : CountedSet S) where
-      begins : T ≡ set (replicate mostPositions false) 0 true → S .marks ≡ closure (silentBy values) (stepsOn list) T → verdictFrom D M (record { state = state; marks = S .marks }) plan ≡ whole
+      begins : T ≡ set (replicate mostPositions false) 0 true → S .marks ≡ closure (silentBy values) (stepsOn list) T
+          → verdictFrom D M (record { state = state; marks = S .marks }) plan ≡ whole
       unfolding verdictBy firstSet
       begins f g = rw (closed-is values T state told g, f, start)
 
@@ -119,7 +121,8 @@ module _ (head : Head) (rows list : List ℕ) (plan : List ℕ) where
               moves-somewhere D L here m next made (ap anyMark (sym is-next) ∙ count-some (B .marks) (omega (arith, counted .counted, f)))
               ∙ ap (λ (T : List Bool). some (record { to = record { state = next; marks = T }; cost = D .cost m state })) (sym is-next)
 
-          pub checking-more : (B .count ≡ 0 → ⊥) → {c : ℕ} → c ≡ D .cost m state → c ≤ mostCost → length told ≡ mostFormulas → Checking next told B (cost + c) (i + 1)
+          pub checking-more : (B .count ≡ 0 → ⊥) → {c : ℕ} → c ≡ D .cost m state → c ≤ mostCost → length told ≡ mostFormulas
+              → Checking next told B (cost + c) (i + 1)
           checking-more f {c} g k room = record {
             left = rw g (left-more D M plan whole (x .left) h (goes-on f));
             counted = counted;
