@@ -14,7 +14,7 @@ use Rattle.job.specs.Job.{Job, Move, moveAt}
 use Rattle.job.specs.WellFormed.{WellFormed}
 use Rattle.job.specs.Stored.{Stored}
 use Rattle.job.specs.declared.head.Head.{Head}
-use Rattle.semantics.specs.Domain.{Bounded}
+use Rattle.semantics.proofs.Bounds.{Bounded}
 use Rattle.domain.specs.State.{affected}
 use Rattle.domain.specs.Cost.{mostCost}
 use Rattle.domain.specs.Domain.{effectsOf, holdsIn, successorOf, costIn, domainOf, domainIn}

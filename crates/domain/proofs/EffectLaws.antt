@@ -30,7 +30,8 @@ module _ (j : Job) (k : WellFormed j) (first n : ℕ) where
   abbrev own : List Effect
   own = take n (drop first (j .effects))
 
-  effect-below : (vs : List Bool) (v w i : ℕ) → i < length own → w < stateCount (j .scalars .facts) → afterEffect vs v w (getD own i (effectOf [])) < stateCount (j .scalars .facts)
+  effect-below : (vs : List Bool) (v w i : ℕ) → i < length own → w < stateCount (j .scalars .facts)
+      → afterEffect vs v w (getD own i (effectOf [])) < stateCount (j .scalars .facts)
   unfolding afterEffect
   effect-below vs v w i h l =
       let q : i < min n (length (j .effects) - first) = simp (length-take, length-drop) at h in

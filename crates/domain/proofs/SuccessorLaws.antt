@@ -17,7 +17,8 @@ module _ (j : Job) (m w : ℕ) (vs : List Bool) (t : Tells (domainOf j) w vs) (g
   is-move : ltb m (length (j .moves)) ≡ true
   is-move = lt-ltb m (length (j .moves)) g
 
-  pub successor-some : (y z : ℕ) → getD vs (x .pre) false ≡ true → y ≡ applied vs 0 (effectsOf j x) w → z ≡ applied vs 1 (effectsOf j x) y → some z ≡ successorOf j m w
+  pub successor-some : (y z : ℕ) → getD vs (x .pre) false ≡ true → y ≡ applied vs 0 (effectsOf j x) w
+      → z ≡ applied vs 1 (effectsOf j x) y → some z ≡ successorOf j m w
   unfolding successorOf holdsIn affected
   successor-some y z p a b =
       let us = values w (j .formulas) in

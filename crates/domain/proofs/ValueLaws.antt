@@ -45,7 +45,8 @@ values-more w fs k t x f h g s d e =
     let vs : List Bool = values w (take k fs) in
     let n : length vs ≡ k = omega (arith, grown-length (value w) (take k fs) [], length-take-le k fs (omega arith)) in
     let y : x ≡ value w vs (getD fs k (formulaOf [])) = d ∙ value-same w t vs f s ∙ ap (value w vs) e in
-    let m : values w (take (k + 1) fs) ≡ vs ++ (x ∷ []) = fold-more (λ vs f. vs ++ (value w vs f ∷ [])) (formulaOf []) [] fs k h ∙ ap (λ (z : Bool). vs ++ (z ∷ [])) (sym y) in
+    let m : values w (take (k + 1) fs) ≡ vs ++ (x ∷ []) =
+    fold-more (λ vs f. vs ++ (value w vs f ∷ [])) (formulaOf []) [] fs k h ∙ ap (λ (z : Bool). vs ++ (z ∷ [])) (sym y) in
     rw m (stored-same t vs k x n g s)
 
 pub all-same : (w : ℕ) (fs : List Formula) (k : ℕ) (t : List Bool) → length fs ≤ k → Same t (values w (take k fs)) → Same t (values w fs)

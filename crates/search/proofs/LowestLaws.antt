@@ -9,14 +9,15 @@ use mathlib.Core.List.{List}
 use mathlib.Core.Logic.{inl, inr, ⊎-elim}
 use lib.ListN.{getD}
 use Rattle.semantics.specs.Program.{Program}
-use Rattle.semantics.specs.Domain.{Domain, Bounded}
+use Rattle.semantics.specs.Domain.{Domain}
 use Rattle.semantics.specs.CompilingTable.{Step, end, steps}
 use Rattle.semantics.specs.Path.{Path, stop, step}
 use Rattle.semantics.specs.Plan.{cost, Allowed}
 use Rattle.semantics.specs.CostTable.{unreached, Entry, reached, not-reached, Filled, LeastOr, found, no-plan}
-use Rattle.semantics.specs.Cells.{cell, Graph, Closed, Edge}
+use Rattle.semantics.specs.Cells.{cell, Graph, Edge}
 use Rattle.semantics.proofs.Agreement.{complete-runs}
 use Rattle.semantics.proofs.Compiled.{compiled}
+use Rattle.semantics.proofs.Bounds.{Bounded, Closed}
 use Rattle.semantics.proofs.CellLaws.{cell-below, edge-within}
 use Rattle.search.specs.Filling.{Lowest, Lower, kept, lower}
 

@@ -1,7 +1,7 @@
 -- A program and its compiled job make the same lists of moves, in complete runs and in partial ones.
 -- Assumes nothing.
 use Prim.Native.Nat.{ℕ}
-use mathlib.Core.Path.{refl, subst}
+use mathlib.Core.Path.{refl}
 use mathlib.Core.List.{List}
 use mathlib.Core.Logic.{_↔_}
 use Rattle.semantics.specs.Program.{Program, nil}
@@ -10,7 +10,6 @@ use Rattle.semantics.specs.Transition as T
 use Rattle.semantics.specs.Transition.{Transition, Run}
 use Rattle.semantics.specs.CompilingTable.{Step, end, steps}
 use Rattle.semantics.specs.Path.{Path}
-use Rattle.semantics.specs.Plan.{Allowed, CompiledPlan}
 use Rattle.semantics.specs.Agreement.{Agrees}
 use Rattle.semantics.proofs.Chains.{Chain, halt, go, settle, simulate}
 use Rattle.semantics.proofs.Taken.{Taken, taken, path-chain, chain-path}
@@ -53,19 +52,12 @@ module _ (D : Domain) (s : ℕ) (σ : Program) (ms : List ℕ) (u : ℕ) where
   )
 
 module _ (D : Domain) (σ : Program) where
-  abbrev L : List Step
-  L = steps (D .moves) σ 0
-
-  plan-allowed : {is ms : List ℕ} → CompiledPlan D L (end σ 0) is ms → Allowed D σ ms
-  plan-allowed {is} {ms} c = record { last = c .last; run = complete-runs D (D .start) σ ms (c .last) .1 (is, c .path); reached = c .reached }
-
-  allowed-plan : {ms : List ℕ} → Allowed D σ ms → (is : List ℕ) × CompiledPlan D L (end σ 0) is ms
-  allowed-plan {ms} a = let k = complete-runs D (D .start) σ ms (a .last) .0 (a .run) in (k .0, record { last = a .last; path = k .1; reached = a .reached })
-
   pub agreement : Agrees D σ (steps (D .moves) σ 0) (end σ 0)
   agreement = record {
-    moves = λ ms. (allowed-plan, λ c. plan-allowed (c .1));
     dropped = λ is ms c. path-moves (c .path);
-    sound = λ is ms c. subst (λ (ks : List ℕ). Allowed D σ ks) (path-moves (c .path)) (plan-allowed c);
-    complete = λ ms a. let c = allowed-plan a in (c .0, c .1, path-moves (c .1 .path));
+    sound = λ is ms c.
+        record { last = c .last; run = complete-runs D (D .start) σ ms (c .last) .1 (is, c .path); reached = c .reached };
+    complete = λ ms a.
+        let k = complete-runs D (D .start) σ ms (a .last) .0 (a .run) in
+        (k .0, record { last = a .last; path = k .1; reached = a .reached });
   }

@@ -1,7 +1,7 @@
 -- The verdict that position sets give is the verdict by the program's own runs.
 -- Assumes nothing.
-use Prim.Native.Nat.{ℕ, suc, _<_}
-use mathlib.Core.Path.{_≡_, refl}
+use Prim.Native.Nat.{ℕ, _<_}
+use mathlib.Core.Path.{refl}
 use mathlib.Core.Bool.{Bool}
 use mathlib.Core.List.{List}
 use mathlib.Core.Logic.{_↔_}
@@ -11,15 +11,15 @@ use Rattle.semantics.specs.Program.{Program}
 use Rattle.semantics.specs.Domain.{Domain}
 use Rattle.semantics.specs.CompilingTable.{Step, end, steps}
 use Rattle.semantics.specs.Path.{StepAt, Path}
-use Rattle.semantics.specs.Verdict.{Verdict, Judged, byRuns, byPaths}
-use Rattle.semantics.specs.PositionSets.{firstSet, verdictBy, verdict}
+use Rattle.semantics.specs.Verdict.{Judged, byRuns}
+use Rattle.semantics.specs.PositionSets.{Configurations, firstSet, verdictBy}
 use Rattle.semantics.proofs.Taken.{path-chain, chain-path}
 use Rattle.semantics.proofs.Compiled.{compiled}
 use Rattle.semantics.proofs.OneVerdict.{same-verdict}
-use Rattle.semantics.proofs.VerdictLaws.{verdicts-agree, one-move-verdict}
+use Rattle.semantics.proofs.VerdictLaws.{byPaths, verdicts-agree}
 use Rattle.semantics.proofs.Reach.{Reach}
 use Rattle.semantics.proofs.FirstSet.{first-ready, first-reach}
-use Rattle.semantics.proofs.SetVerdict.{bySet, judged}
+use Rattle.semantics.proofs.SetVerdict.{bySet, set-judged}
 
 module _ (D : Domain) (σ : Program) where
   abbrev L : List Step
@@ -38,15 +38,11 @@ module _ (D : Domain) (σ : Program) where
     set-partial-path : {u : ℕ} {ms : List ℕ} → ((q : ℕ) × Reach D L (D .start) S ms u q) ↔ ((p : ℕ) × (is : List ℕ) × Path D L (D .start) 0 is ms u p)
     set-partial-path = (λ x. let k = set-path .0 (x .1) in (x .0, k .0, k .1), λ y. (y .0, set-path .1 (y .1, y .2)))
 
+    abbrev first : Configurations
+    first = record { state = D .start; marks = S }
+
     pub verdict-by-judged : (ms : List ℕ) → Judged D (byRuns D σ) ms (verdictBy n D σ ms)
     unfolding verdictBy bySet byPaths
     verdict-by-judged ms =
-        let j = judged D L (end σ 0) ms (D .start) S (first-ready D L n (D .start) (omega arith) inside) in
-        verdicts-agree D σ ms _ .1 (same-verdict D (bySet D L (end σ 0) (D .start) S) (byPaths D σ) ms (λ ks u. set-partial-path) (λ ks u. set-path) refl j)
-
-  pub verdict-judged : (ms : List ℕ) → Judged D (byRuns D σ) ms (verdict D σ ms)
-  unfolding verdict
-  verdict-judged = verdict-by-judged (suc (end σ 0)) (omega arith)
-
-  pub verdict-is : (ms : List ℕ) (v : Verdict) → Judged D (byRuns D σ) ms v → v ≡ verdict D σ ms
-  verdict-is ms v j = one-move-verdict D σ ms v (verdict D σ ms) j (verdict-judged ms)
+        let j = set-judged D L (end σ 0) ms first (first-ready D L n (D .start) (omega arith) inside) in
+        verdicts-agree D σ ms _ .1 (same-verdict D (bySet D L (end σ 0) first) (byPaths D σ) ms (λ ks u. set-partial-path) (λ ks u. set-path) refl j)

@@ -1,4 +1,5 @@
--- Each list has at most one verdict, move lists have the same one against the program and against its compiled job, and the plans among step lists are those among move lists.
+-- Each list has at most one verdict, move lists have the same one against the program and against its compiled job, and the plans among step lists
+-- are those among move lists.
 -- Assumes nothing.
 use Prim.Native.Nat.{ℕ}
 use mathlib.Core.Path.{_≡_, refl, sym, subst}
@@ -8,12 +9,20 @@ use Rattle.semantics.specs.Program.{Program, nil}
 use Rattle.semantics.specs.Domain.{Domain}
 use Rattle.semantics.specs.Transition.{Run}
 use Rattle.semantics.specs.CompilingTable.{Step, end, steps}
-use Rattle.semantics.specs.Path.{movesIn}
+use Rattle.semantics.specs.Path.{Path, movesIn}
 use Rattle.semantics.specs.Plan.{cost}
-use Rattle.semantics.specs.Verdict.{Verdict, plan, Judged, is-plan, byRuns, byPaths, bySteps}
+use Rattle.semantics.specs.Verdict.{Verdict, plan, Entries, Judged, is-plan, byRuns, bySteps}
 use Rattle.semantics.proofs.PathLaws.{path-moves, path-leads, front-of-steps, front-of-moves}
 use Rattle.semantics.proofs.Agreement.{partial-runs, complete-runs}
 use Rattle.semantics.proofs.OneVerdict.{Lawful, one-verdict, same-verdict}
+
+-- move lists against the compiled job: silent steps may come anywhere
+unfoldable pub byPaths : Domain → Program → Entries
+byPaths D σ = record {
+  Made = λ ms u. (p : ℕ) × (is : List ℕ) × Path D (steps (D .moves) σ 0) (D .start) 0 is ms u p;
+  Completed = λ ms u. (is : List ℕ) × Path D (steps (D .moves) σ 0) (D .start) 0 is ms u (end σ 0);
+  costOf = λ ms. cost D (D .start) ms;
+}
 
 module _ (D : Domain) (L : List Step) (e : ℕ) where
   steps-lawful : Lawful (bySteps D L e)
@@ -39,8 +48,9 @@ module _ (D : Domain) (σ : Program) where
   pub verdicts-agree : (ms : List ℕ) (v : Verdict) → Judged D (byRuns D σ) ms v ↔ Judged D (byPaths D σ) ms v
   unfolding byRuns byPaths
   verdicts-agree ms v = (
-    same-verdict D (byRuns D σ) (byPaths D σ) ms (λ ks u. partial-runs D (D .start) σ ks u) (λ ks u. complete-runs D (D .start) σ ks u) refl,
-    same-verdict D (byPaths D σ) (byRuns D σ) ms (λ ks u. Iff·symm (partial-runs D (D .start) σ ks u)) (λ ks u. Iff·symm (complete-runs D (D .start) σ ks u)) refl,
+    same-verdict D (byRuns D σ) (byPaths D σ) ms (partial-runs D (D .start) σ) (complete-runs D (D .start) σ) refl,
+    same-verdict D (byPaths D σ) (byRuns D σ) ms
+        (λ ks u. Iff·symm (partial-runs D (D .start) σ ks u)) (λ ks u. Iff·symm (complete-runs D (D .start) σ ks u)) refl,
   )
 
   pub one-move-verdict : (ms : List ℕ) (v w : Verdict) → Judged D (byRuns D σ) ms v → Judged D (byRuns D σ) ms w → v ≡ w
@@ -49,7 +59,8 @@ module _ (D : Domain) (σ : Program) where
   abbrev L : List Step
   L = steps (D .moves) σ 0
 
-  pub step-plan-is-move-plan : (is : List ℕ) (c : ℕ) → Judged D (bySteps D (steps (D .moves) σ 0) (end σ 0)) is (plan c) → Judged D (byRuns D σ) (movesIn (steps (D .moves) σ 0) is) (plan c)
+  pub step-plan-is-move-plan : (is : List ℕ) (c : ℕ) → Judged D (bySteps D (steps (D .moves) σ 0) (end σ 0)) is (plan c)
+      → Judged D (byRuns D σ) (movesIn (steps (D .moves) σ 0) is) (plan c)
   unfolding byRuns bySteps
   step-plan-is-move-plan is c (is-plan {u} x g) =
       is-plan {u = u} (subst (λ (ms : List ℕ). Run D (D .start) σ ms u nil) (path-moves (x .1)) (complete-runs D (D .start) σ (x .0) u .1 (is, x .1))) g

@@ -1,8 +1,9 @@
--- The verdict on a list of moves as a function: "the set of positions that the recipe may be at", one mark a position, and "each move turns it into the next set".
-use Prim.Native.Nat.{ℕ, zero, suc, _+_}
+-- The verdict on a list of moves as a function: "the set of positions that the recipe may be at", one mark a position, and "each move turns it into
+-- the next set".
+use Prim.Native.Nat.{ℕ, zero, suc}
 use mathlib.Core.Path.{_≡_}
 use mathlib.Core.Bool.{Bool, true, false, not, _&&_, _||_, cond}
-use mathlib.Core.Option.{none, some}
+use mathlib.Core.Option.{Option, none, some}
 use mathlib.Core.List.{List, [], _∷_}
 use lib.Dec.{eqb}
 use lib.ListN.{length, getD, set, replicate}
@@ -10,7 +11,8 @@ use Rattle.semantics.specs.Label.{Label, noop, holds, fails, make}
 use Rattle.semantics.specs.Program.{Program}
 use Rattle.semantics.specs.Domain.{Domain}
 use Rattle.semantics.specs.CompilingTable.{Step, arc, end, steps}
-use Rattle.semantics.specs.Verdict.{Verdict, plan, blocked, unfinished, missed}
+use Rattle.semantics.specs.Verdict.{Verdict}
+use Rattle.semantics.specs.Machine.{Arrival, Machine, verdictFrom}
 
 -- T with the ends marked of all steps that pass the test and start at a mark of S
 unfoldable pub spread : (Label → Bool) → List Step → List Bool → List Bool → List Bool
@@ -61,34 +63,30 @@ firstSet D L n s = closure (silentIn D s) L (set (replicate n false) 0 true)
 unfoldable pub nextSet : Domain → List Step → ℕ → ℕ → List Bool → List Bool
 nextSet D L t m S = closure (silentIn D t) L (spread (isMove m) L S (replicate (length S) false))
 
--- a list's verdict, from that of the list without its first move, which costs c
-unfoldable pub onward : ℕ → Verdict → Verdict
-onward c (plan d) = plan (c + d)
-onward c (blocked i) = blocked (suc i)
-onward c unfinished = unfinished
-onward c missed = missed
+-- what the program may be at: one state, and a set of positions
+pub record Configurations : Type 0 where
+  pub state : ℕ
+  pub marks : List Bool
 
--- where all moves are made: the final position is reached or not, the goal holds or not
-unfoldable pub finished : Bool → Bool → Verdict
-finished complete goal = cond complete (cond goal (plan 0) missed) unfinished
-
--- in state s, from the positions of S, where e is the final position
-unfoldable pub verdictFrom : Domain → List Step → ℕ → ℕ → List Bool → List ℕ → Verdict
-verdictFrom D L e s S [] = finished (getD S e false) (D .goal s)
-verdictFrom D L e s S (m ∷ ms) = elim (D .successor m s) [
-  | none ↦ blocked 0
-  | some t ↦ elim (anyMark (nextSet D L t m S)) [
-    | true ↦ onward (D .cost m s) (verdictFrom D L e t (nextSet D L t m S) ms)
-    | false ↦ blocked 0
-  ]
+-- move m made there; none where it is not applicable, or no position is left
+unfoldable pub moveOn : Domain → List Step → Configurations → ℕ → Option (Arrival Configurations)
+moveOn D L c m = elim (D .successor m (c .state)) [
+  | none ↦ none
+  | some t ↦ cond (anyMark (nextSet D L t m (c .marks)))
+      (some (record { to = record { state = t; marks = nextSet D L t m (c .marks) }; cost = D .cost m (c .state) })) none
 ]
+
+-- e is the final position
+abbrev pub setMachine : Domain → List Step → ℕ → Machine
+setMachine D L e = record {
+  Config = Configurations;
+  take = moveOn D L;
+  state = λ c. c .state;
+  complete = λ c. getD (c .marks) e false;
+}
 
 -- by sets of n marks; any n above the final position gives the same
 unfoldable pub verdictBy : ℕ → Domain → Program → List ℕ → Verdict
 verdictBy n D σ ms =
     let L = steps (D .moves) σ 0 in
-    verdictFrom D L (end σ 0) (D .start) (firstSet D L n (D .start)) ms
-
--- with a mark for each position
-unfoldable pub verdict : Domain → Program → List ℕ → Verdict
-verdict D σ ms = verdictBy (suc (end σ 0)) D σ ms
+    verdictFrom D (setMachine D L (end σ 0)) (record { state = D .start; marks = firstSet D L n (D .start) }) ms

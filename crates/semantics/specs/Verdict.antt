@@ -7,7 +7,7 @@ use lib.ListN.{length, take}
 use Rattle.semantics.specs.Program.{Program, nil}
 use Rattle.semantics.specs.Domain.{Domain}
 use Rattle.semantics.specs.Transition.{Run}
-use Rattle.semantics.specs.CompilingTable.{Step, end, steps}
+use Rattle.semantics.specs.CompilingTable.{Step}
 use Rattle.semantics.specs.Path.{Path, movesIn}
 use Rattle.semantics.specs.Plan.{cost}
 
@@ -37,14 +37,6 @@ unfoldable pub byRuns : Domain → Program → Entries
 byRuns D σ = record {
   Made = λ ms u. (ρ : Program) × Run D (D .start) σ ms u ρ;
   Completed = λ ms u. Run D (D .start) σ ms u nil;
-  costOf = λ ms. cost D (D .start) ms;
-}
-
--- move lists against the compiled job: silent steps may come anywhere
-unfoldable pub byPaths : Domain → Program → Entries
-byPaths D σ = record {
-  Made = λ ms u. (p : ℕ) × (is : List ℕ) × Path D (steps (D .moves) σ 0) (D .start) 0 is ms u p;
-  Completed = λ ms u. (is : List ℕ) × Path D (steps (D .moves) σ 0) (D .start) 0 is ms u (end σ 0);
   costOf = λ ms. cost D (D .start) ms;
 }
 

@@ -9,7 +9,7 @@ use Rattle.job.specs.Store.{jobOf}
 use Rattle.job.specs.declared.head.Head.{Head}
 use Rattle.semantics.specs.Label.{Label}
 use Rattle.semantics.specs.Path.{StepAt}
-use Rattle.semantics.specs.Cells.{Closed}
+use Rattle.semantics.proofs.Bounds.{Closed}
 use Rattle.semantics.proofs.Compiled.{compiled}
 use Rattle.semantics.proofs.FlatLaws.{steps-at}
 use Rattle.domain.specs.Cost.{mostCost}

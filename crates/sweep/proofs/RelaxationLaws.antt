@@ -18,9 +18,9 @@ use Rattle.semantics.specs.CompilingTable.{labelIn}
 use Rattle.semantics.specs.Path.{Does}
 use Rattle.semantics.specs.Plan.{cost}
 use Rattle.semantics.specs.CostTable.{unreached}
-use Rattle.semantics.specs.Cells.{cell, Graph, entry, Closed, Edge, Runs, none, more, Relaxed, sum}
-use Rattle.semantics.proofs.CostLaws.{does-bounded}
+use Rattle.semantics.specs.Cells.{cell, Graph, entry, Edge, Runs, none, more, Relaxed, sum}
 use Rattle.semantics.proofs.FlatLaws.{steps-only}
+use Rattle.semantics.proofs.Bounds.{Closed, does-bounded}
 use Rattle.semantics.proofs.CellLaws.{cell-below, edge-within, relaxed-store, runs-length, sum-falls}
 use Rattle.domain.specs.Domain.{domainIn}
 use Rattle.domain.proofs.DomainLaws.{stored-bounded}

@@ -11,7 +11,8 @@ use lib.Seq.{getD-set-same, getD-set-other}
 use Rattle.limits.specs.Limits.{mostPositions}
 use Rattle.laws.proofs.Tests.{never}
 use Rattle.semantics.specs.CostTable.{unreached}
-use Rattle.semantics.specs.Cells.{Graph, Closed, Runs, none, Relaxed}
+use Rattle.semantics.specs.Cells.{Graph, Runs, none, Relaxed}
+use Rattle.semantics.proofs.Bounds.{Closed}
 use Rattle.semantics.proofs.CellLaws.{edge-within, runs-on}
 use Rattle.sweep.specs.Sweeps.{Keyed, Only, passed, marked, Processed, below, past, potential}
 use Rattle.sweep.specs.Relaxation.{Scanned, Better}

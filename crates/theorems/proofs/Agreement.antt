@@ -1,9 +1,8 @@
 -- Demand 2: the compiled job of an accepted text has just the plans that its program allows, and the list holds that compiled job.
 -- Assumes nothing.
-use Prim.Native.Nat.{ℕ, _-_, _≤_}
-use mathlib.Core.Path.{_≡_, sym, _∙_, ap, subst}
+use Prim.Native.Nat.{ℕ, _≤_}
+use mathlib.Core.Path.{_≡_, sym, subst}
 use mathlib.Core.List.{List, []}
-use native.Mathlib.Omega.{arith}
 use lib.ListN.{length}
 use Rattle.job.specs.Job.{Job}
 use Rattle.semantics.specs.CompilingTable.{Step, end, stepsIn}
@@ -12,7 +11,7 @@ use Rattle.semantics.proofs.Agreement.{agreement}
 use Rattle.semantics.proofs.FlatLaws.{laid-back}
 use Rattle.domain.specs.Domain.{domainOf}
 use Rattle.compile.specs.Program.{programOf}
-use Rattle.compile.specs.CompiledJob.{stepsOf, positionCount, stepCount}
+use Rattle.compile.specs.CompiledJob.{stepsOf, stepCount}
 use Rattle.load.specs.Refusals.{listNeed}
 use Rattle.load.specs.View.{viewOf}
 use Rattle.jesmovit.specs.Compiling.{listAfter}
@@ -20,10 +19,8 @@ use Rattle.theorems.specs.Accepted.{AcceptedJob}
 
 module _ (text : List ℕ) (j : Job) (accepted : AcceptedJob text j) where
   -- "a plan of the compiled job, bookkeeping dropped, is allowed by the program on the original job, and every allowed plan comes from one"
-  pub accepted-plans-agree : Agrees (domainOf j) (programOf j) (stepsOf j) (positionCount j - 1)
-  accepted-plans-agree =
-      let e : end (programOf j) 0 ≡ positionCount j - 1 = omega arith in
-      subst (λ (q : ℕ). Agrees (domainOf j) (programOf j) (stepsOf j) q) e (agreement (domainOf j) (programOf j))
+  pub accepted-plans-agree : Agrees (domainOf j) (programOf j) (stepsOf j) (end (programOf j) 0)
+  accepted-plans-agree = agreement (domainOf j) (programOf j)
 
   -- a list that is long enough
   module _ (list : List ℕ) (long : listNeed j ≤ length list) where
@@ -34,5 +31,5 @@ module _ (text : List ℕ) (j : Job) (accepted : AcceptedJob text j) where
     list-holds = laid-back (stepsOf j) list long
 
     -- the same of the steps that it holds after compiling
-    pub compiled-plans-agree : Agrees (domainOf j) (programOf j) (stepsIn (stepCount j) after) (positionCount j - 1)
-    compiled-plans-agree = subst (λ (L : List Step). Agrees (domainOf j) (programOf j) L (positionCount j - 1)) (sym list-holds) accepted-plans-agree
+    pub compiled-plans-agree : Agrees (domainOf j) (programOf j) (stepsIn (stepCount j) after) (end (programOf j) 0)
+    compiled-plans-agree = subst (λ (L : List Step). Agrees (domainOf j) (programOf j) L (end (programOf j) 0)) (sym list-holds) accepted-plans-agree

@@ -14,8 +14,8 @@ pub mod OneCall
 pub mod CallNumbers
 pub mod JudgedChecks
 pub mod JudgeDecides
-pub mod Exhibited
-pub mod ExhibitedLeast
+pub mod ComputedTable
+pub mod ComputedJudgement
 pub mod MarkedCases
 pub mod OriginalStar
 pub mod JobExamples

@@ -1,9 +1,10 @@
 -- 003's star is wrong: with the steps of its own row, on the job of marked case 8, some path that makes move 0 reaches the final position, while no run of
 -- the program that makes move 0 leaves nil.
 -- Assumes nothing.
-use Prim.Native.Nat.{ℕ}
+use Prim.Native.Nat.{ℕ, _<_}
 use mathlib.Core.Path.{_≡_, refl}
 use mathlib.Core.List.{List, [], _∷_}
+use native.Mathlib.Omega.{arith}
 use Rattle.text.specs.Bytes.{bytes}
 use Rattle.text.specs.Lines.{lines, hasKey, valueOf}
 use Rattle.text.specs.Numbers.{byteRead, numbers}
@@ -18,8 +19,9 @@ use Rattle.semantics.specs.CompilingTable.{end, steps, whileSteps, starSteps}
 use Rattle.semantics.specs.Path as P
 use Rattle.semantics.specs.Path.{Path, here, there, idles, passes, moves-on}
 use Rattle.semantics.specs.Verdict.{Entries, Judged, unfinished, byRuns, is-unfinished}
-use Rattle.semantics.specs.PositionSets.{spread, close, silentIn, isMove, anyMark, firstSet, nextSet, onward, finished, verdictFrom, verdictBy, verdict}
-use Rattle.semantics.proofs.CheckLaws.{verdict-judged}
+use Rattle.semantics.specs.Machine.{onward, finished, verdictFrom}
+use Rattle.semantics.specs.PositionSets.{spread, close, silentIn, isMove, anyMark, firstSet, nextSet, moveOn, verdictBy}
+use Rattle.semantics.proofs.CheckLaws.{verdict-by-judged}
 use Rattle.domain.specs.State.{fact, putFact, value, values, afterEffect, applied, affected}
 use Rattle.domain.specs.Cost.{classCost}
 use Rattle.domain.specs.Domain.{holdsIn, successorOf, costIn, domainOf}
@@ -58,10 +60,14 @@ way-out =
     P.step (there here) (passes refl)
     (P.step here (moves-on refl) (P.step (there (there (there here))) idles (P.step (there (there (there (there here)))) idles P.stop)))
 
+final-below : end (star body) 0 < 6
+unfolding end
+final-below = omega arith
+
 -- the program's own runs, by the verdict on move 0
-computed : verdict D (star body) (0 ∷ []) ≡ unfinished
+computed : verdictBy 6 D (star body) (0 ∷ []) ≡ unfinished
 unfolding end steps whileSteps starSteps fact putFact value values afterEffect applied affected classCost holdsIn successorOf costIn
-    spread close silentIn isMove anyMark firstSet nextSet onward finished verdictFrom verdictBy verdict
+    spread close silentIn isMove anyMark firstSet nextSet onward finished verdictFrom moveOn verdictBy
 computed = refl
 
 not-completed : (E : Entries) (es : List ℕ) → Judged D E es unfinished → (t : ℕ) → E .Completed es t → ⊥
@@ -69,7 +75,7 @@ not-completed E es (is-unfinished x f) = f
 
 no-run : (t : ℕ) → Run D (D .start) (programOf caseEight) (0 ∷ []) t nil → ⊥
 unfolding byRuns
-no-run = rw star-of-body (not-completed (byRuns D (star body)) (0 ∷ []) (rw computed at (verdict-judged D (star body) (0 ∷ []))))
+no-run = rw star-of-body (not-completed (byRuns D (star body)) (0 ∷ []) (rw computed at (verdict-by-judged D (star body) 6 final-below (0 ∷ []))))
 
 -- marked case 8: "case 8 would say goal missed"
 pub original-star-fails : StarFails starOfWhile (0 ∷ [])

@@ -1,12 +1,12 @@
 -- The check of a list of moves, move by move: the verdict from the start is the verdict from here.
 -- Assumes nothing.
-use Prim.Native.Nat.{ℕ, suc, _+_, _-_, _*_, _≤_, _<_}
+use Prim.Native.Nat.{ℕ, _+_, _-_, _*_, _≤_, _<_}
 use mathlib.Core.Path.{_≡_, sym, _∙_, ap}
 use mathlib.Core.Bool.{Bool, true, false}
-use mathlib.Core.Option.{some}
-use mathlib.Core.List.{List, _∷_}
+use mathlib.Core.Option.{none, some}
+use mathlib.Core.List.{List}
 use native.Mathlib.Omega.{arith}
-use lib.ListN.{length, getD, set, replicate, drop}
+use lib.ListN.{length, getD, set, replicate}
 use Rattle.limits.specs.Limits.{mostPositions, mostFormulas}
 use Rattle.job.specs.Job.{Job}
 use Rattle.job.specs.Store.{jobOf}
@@ -14,9 +14,10 @@ use Rattle.job.specs.declared.head.Head.{Head}
 use Rattle.semantics.specs.Domain.{Domain}
 use Rattle.semantics.specs.CompilingTable.{Step, end}
 use Rattle.semantics.specs.Verdict.{Verdict, blocked}
-use Rattle.semantics.specs.PositionSets.{closure, spread, isMove, silentIn, anyMark, firstSet, nextSet, onward, finished, verdictFrom, verdictBy}
+use Rattle.semantics.specs.Machine.{Machine, onward, finished, verdictFrom}
+use Rattle.semantics.specs.PositionSets.{closure, spread, isMove, silentIn, anyMark, firstSet, nextSet, Configurations, moveOn, setMachine, verdictBy}
 use Rattle.semantics.proofs.Marks.{count-zero, count-some}
-use Rattle.semantics.proofs.SetVerdict.{verdict-none, verdict-stuck, verdict-onward}
+use Rattle.semantics.proofs.SetVerdict.{not-applicable, moves-nowhere, moves-somewhere}
 use Rattle.domain.specs.Cost.{mostCost}
 use Rattle.domain.specs.Domain.{domainIn, Tells}
 use Rattle.domain.specs.Successor.{successorIn}
@@ -47,8 +48,8 @@ module _ (head : Head) (rows list : List ℕ) (plan : List ℕ) where
 
   -- after i moves at this cost, in this state, where its formulas have these values and the program may be at the positions of S
   pub record Checking (state : ℕ) (values : List Bool) (S : PositionSet) (cost i : ℕ) : Type 0 where
-    pub left : Left plan (verdictBy mostPositions (domainIn head rows) (programOf (jobOf head rows)) plan)
-        (verdictFrom (domainIn head rows) (stepsOf (jobOf head rows)) (end (programOf (jobOf head rows)) 0) state (S .marks)) cost i
+    pub left : Left (domainIn head rows) (setMachine (domainIn head rows) (stepsOf (jobOf head rows)) (end (programOf (jobOf head rows)) 0)) plan
+        (verdictBy mostPositions (domainIn head rows) (programOf (jobOf head rows)) plan) (record { state = state; marks = S .marks }) cost i
     pub counted : CountedSet S
     pub told : Tells (domainIn head rows) state values
     pub room : length values ≡ mostFormulas
@@ -59,20 +60,25 @@ module _ (head : Head) (rows list : List ℕ) (plan : List ℕ) where
   abbrev whole : Verdict
   whole = verdictBy mostPositions D (programOf j) plan
 
+  abbrev M : Machine
+  M = setMachine D L e
+
   module _ {positions : ℕ} (r : Ready head rows list positions) where
     -- marks as the code closes them
-    closed-is : (values T : List Bool) {U : List Bool} (s : ℕ) → Tells D s values → U ≡ closure (silentBy values) (stepsOn list) T → U ≡ closure (silentIn D s) L T
+    closed-is : (values T : List Bool) {U : List Bool} (s : ℕ) → Tells D s values → U ≡ closure (silentBy values) (stepsOn list) T
+        → U ≡ closure (silentIn D s) L T
     closed-is values T s told f = f ∙ rw (silent-told D s values told, r .steps)
 
     module _ (state : ℕ) (start : state ≡ D .start) (values : List Bool) (told : Tells D state values) (room : length values ≡ mostFormulas) (S : PositionSet)
         (T : List Bool) (counted : CountedSet S) where
-      begins : T ≡ set (replicate mostPositions false) 0 true → S .marks ≡ closure (silentBy values) (stepsOn list) T → verdictFrom D L e state (S .marks) plan ≡ whole
+      begins : T ≡ set (replicate mostPositions false) 0 true → S .marks ≡ closure (silentBy values) (stepsOn list) T
+          → verdictFrom D M (record { state = state; marks = S .marks }) plan ≡ whole
       unfolding verdictBy firstSet
       begins f g = rw (closed-is values T state told g, f, start)
 
       pub checking-start : T ≡ set (replicate mostPositions false) 0 true → S .marks ≡ closure (silentBy values) (stepsOn list) T → Checking state values S 0 0
       checking-start f g = record {
-        left = left-start plan whole (verdictFrom D L e state (S .marks)) (sym (begins f g));
+        left = left-start D M plan whole _ (sym (begins f g));
         counted = counted;
         told = told;
         room = room;
@@ -85,15 +91,15 @@ module _ (head : Head) (rows list : List ℕ) (plan : List ℕ) where
         abbrev m : ℕ
         m = getD plan i 0
 
-        abbrev rest : List ℕ
-        rest = drop (suc i) plan
+        abbrev here : Configurations
+        here = record { state = state; marks = S .marks }
 
-        stops : verdictFrom D L e state (S .marks) (m ∷ rest) ≡ blocked 0 → blocked i ≡ whole
-        stops f = left-blocked plan whole (x .left) h f
+        stops : moveOn D L here m ≡ none → blocked i ≡ whole
+        stops = left-blocked D M plan whole (x .left) h
 
         -- the move is not applicable
         pub checking-none : {a : Successor} → a ≡ Inapplicable → successorIn a ≡ D .successor m state → blocked i ≡ whole
-        checking-none f g = stops (verdict-none D L e state m (S .marks) rest (sym g ∙ ap successorIn f))
+        checking-none f g = stops (not-applicable D L here m (sym g ∙ ap successorIn f))
 
         module _ {a : Successor} {next : ℕ} (to : a ≡ To next) (after : successorIn a ≡ D .successor m state) (told : List Bool) (tells : Tells D next told)
             (A : List Bool) (B : PositionSet) (advanced : A ≡ spread (isMove m) (stepsOn list) (S .marks) (replicate mostPositions false))
@@ -108,16 +114,17 @@ module _ (head : Head) (rows list : List ℕ) (plan : List ℕ) where
           -- no position is left
           pub checking-stuck : B .count ≡ 0 → blocked i ≡ whole
           checking-stuck f =
-              stops (verdict-stuck D L e state m (S .marks) rest next made (ap anyMark (sym is-next) ∙ count-zero (B .marks) (sym (counted .counted) ∙ f)))
+              stops (moves-nowhere D L here m next made (ap anyMark (sym is-next) ∙ count-zero (B .marks) (sym (counted .counted) ∙ f)))
 
-          goes-on : (B .count ≡ 0 → ⊥) → verdictFrom D L e state (S .marks) (m ∷ rest) ≡ onward (D .cost m state) (verdictFrom D L e next (B .marks) rest)
+          goes-on : (B .count ≡ 0 → ⊥) → moveOn D L here m ≡ some (record { to = record { state = next; marks = B .marks }; cost = D .cost m state })
           goes-on f =
-              verdict-onward D L e state m (S .marks) rest next made (ap anyMark (sym is-next) ∙ count-some (B .marks) (omega (arith, counted .counted, f)))
-              ∙ ap (λ T. onward (D .cost m state) (verdictFrom D L e next T rest)) (sym is-next)
+              moves-somewhere D L here m next made (ap anyMark (sym is-next) ∙ count-some (B .marks) (omega (arith, counted .counted, f)))
+              ∙ ap (λ (T : List Bool). some (record { to = record { state = next; marks = T }; cost = D .cost m state })) (sym is-next)
 
-          pub checking-more : (B .count ≡ 0 → ⊥) → {c : ℕ} → c ≡ D .cost m state → c ≤ mostCost → length told ≡ mostFormulas → Checking next told B (cost + c) (i + 1)
+          pub checking-more : (B .count ≡ 0 → ⊥) → {c : ℕ} → c ≡ D .cost m state → c ≤ mostCost → length told ≡ mostFormulas
+              → Checking next told B (cost + c) (i + 1)
           checking-more f {c} g k room = record {
-            left = rw g (left-more plan whole (x .left) h (verdictFrom D L e next (B .marks)) (D .cost m state) (goes-on f));
+            left = rw g (left-more D M plan whole (x .left) h (goes-on f));
             counted = counted;
             told = tells;
             room = room;
@@ -128,6 +135,4 @@ module _ (head : Head) (rows list : List ℕ) (plan : List ℕ) where
       -- all moves are made
       pub checking-end : length plan ≤ i → {complete goal : Bool} → complete ≡ getD (S .marks) (positions - 1) false → goal ≡ D .goal state
           → onward cost (finished complete goal) ≡ verdictBy mostPositions D (programOf j) plan
-      unfolding verdictFrom
-      checking-end h {complete} {goal} f g =
-          left-end plan whole (x .left) h complete goal (rw (f, g, last-final r))
+      checking-end h f g = rw (f, g, last-final r) (left-end D M plan whole (x .left) h)

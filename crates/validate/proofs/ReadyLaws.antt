@@ -9,8 +9,8 @@ use Rattle.limits.specs.Limits.{mostSteps, mostPositions}
 use Rattle.job.specs.Job.{Job}
 use Rattle.job.specs.Store.{jobOf}
 use Rattle.job.specs.declared.head.Head.{Head}
-use Rattle.semantics.specs.Domain.{Bounded}
 use Rattle.semantics.specs.CompilingTable.{end}
+use Rattle.semantics.proofs.Bounds.{Bounded}
 use Rattle.semantics.proofs.Compiled.{compiled}
 use Rattle.semantics.proofs.FlatLaws.{steps-at}
 use Rattle.semantics.proofs.Part.{Range}

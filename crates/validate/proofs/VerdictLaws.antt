@@ -3,13 +3,16 @@
 use Prim.Native.Nat.{ℕ, suc, _+_, _≤_, _<_}
 use mathlib.Core.Path.{_≡_, refl, sym, _∙_, ap}
 use mathlib.Core.Bool.{Bool, true, false}
-use mathlib.Core.List.{List, [], _∷_}
+use mathlib.Core.Option.{none, some}
+use mathlib.Core.List.{List, _∷_}
 use native.Mathlib.Omega.{arith}
 use native.Mathlib.Numerals.{add-one}
 use lib.ListN.{length, getD, drop, drop-of-length-le}
 use lib.Seq.{drop-cons}
+use Rattle.semantics.specs.Domain.{Domain}
 use Rattle.semantics.specs.Verdict.{Verdict, plan, blocked, unfinished, missed}
-use Rattle.semantics.specs.PositionSets.{onward, finished}
+use Rattle.semantics.specs.Machine.{Arrival, Machine, onward, finished, verdictFrom}
+use Rattle.semantics.proofs.MachineLaws.{verdict-blocked, verdict-onward}
 use Rattle.validate.specs.Verdict.{verdictOf}
 use Rattle.validate.specs.declared.verdict.Verdict as A
 use Rattle.validate.specs.declared.verdict.Verdict.the-variants.{Plan, Blocked, Unfinished, Missed}
@@ -48,32 +51,34 @@ later-finished c i true false = refl
 later-finished c i false true = refl
 later-finished c i false false = refl
 
--- a list checked entry by entry: the verdict from the start is the verdict `rest` gives from here, after i entries at cost c
-module _ (plan : List ℕ) (all : Verdict) where
-  pub record Left (rest : List ℕ → Verdict) (c i : ℕ) : Type 0 where
+-- a list checked entry by entry: the verdict on it is the one that the machine gives its rest from here, after i entries at cost c
+module _ (D : Domain) (M : Machine) (plan : List ℕ) (all : Verdict) where
+  pub record Left (here : M .Config) (c i : ℕ) : Type 0 where
     pub within : i ≤ length plan
-    pub same : all ≡ later c i (rest (drop i plan))
+    pub same : all ≡ later c i (verdictFrom D M here (drop i plan))
 
-  pub left-start : (rest : List ℕ → Verdict) → all ≡ rest plan → Left rest 0 0
-  left-start rest e = record { within = omega arith; same = e ∙ sym (later-none (rest plan)) }
+  pub left-start : (here : M .Config) → all ≡ verdictFrom D M here plan → Left here 0 0
+  left-start here e = record { within = omega arith; same = e ∙ sym (later-none (verdictFrom D M here plan)) }
 
-  module _ {rest : List ℕ → Verdict} {c i : ℕ} (x : Left rest c i) where
+  module _ {here : M .Config} {c i : ℕ} (x : Left here c i) where
     module _ (h : i < length plan) where
-      here : all ≡ later c i (rest (getD plan i 0 ∷ drop (suc i) plan))
-      here = x .same ∙ ap (λ (l : List ℕ). later c i (rest l)) (drop-cons plan i 0 h)
+      next : all ≡ later c i (verdictFrom D M here (getD plan i 0 ∷ drop (suc i) plan))
+      next = x .same ∙ ap (λ (l : List ℕ). later c i (verdictFrom D M here l)) (drop-cons plan i 0 h)
 
-      pub left-blocked : rest (getD plan i 0 ∷ drop (suc i) plan) ≡ blocked 0 → blocked i ≡ all
-      left-blocked e = sym (here ∙ ap (later c i) e ∙ later-blocked c i)
+      pub left-blocked : M .take here (getD plan i 0) ≡ none → blocked i ≡ all
+      left-blocked e = sym (next ∙ ap (later c i) (verdict-blocked D M here _ _ e) ∙ later-blocked c i)
 
-      pub left-more : (after : List ℕ → Verdict) (d : ℕ) → rest (getD plan i 0 ∷ drop (suc i) plan) ≡ onward d (after (drop (suc i) plan)) → Left after (c + d) (i + 1)
-      left-more after d e = record {
+      pub left-more : {a : Arrival (M .Config)} → M .take here (getD plan i 0) ≡ some a → Left (a .to) (c + a .cost) (i + 1)
+      left-more {a} e = record {
         within = omega arith;
-        same = here ∙ ap (later c i) e ∙ later-onward c i d (after (drop (suc i) plan)) ∙ rw (add-one i);
+        same = next ∙ ap (later c i) (verdict-onward D M here _ _ a e) ∙ later-onward c i (a .cost) _ ∙ rw (add-one i);
       }
 
-    pub left-end : length plan ≤ i → (complete goal : Bool) → rest [] ≡ finished complete goal → onward c (finished complete goal) ≡ all
-    left-end h complete goal e =
-        sym (x .same ∙ ap (λ (l : List ℕ). later c i (rest l)) (drop-of-length-le plan h) ∙ ap (later c i) e ∙ later-finished c i complete goal)
+    pub left-end : length plan ≤ i → onward c (finished (M .complete here) (D .goal (M .state here))) ≡ all
+    unfolding verdictFrom
+    left-end h = sym (x .same
+        ∙ ap (λ (l : List ℕ). later c i (verdictFrom D M here l)) (drop-of-length-le plan h)
+        ∙ later-finished c i (M .complete here) (D .goal (M .state here)))
 
 -- the case of the answer that gives a verdict
 abbrev caseOf : Verdict → A.Verdict

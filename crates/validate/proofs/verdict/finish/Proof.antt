@@ -2,7 +2,7 @@ use Prim.Native.Nat.{_+_}
 use mathlib.Core.Path.{_≡_, ap}
 use native.Mathlib.Omega.{arith}
 use Rattle.semantics.specs.Verdict.{plan}
-use Rattle.semantics.specs.PositionSets.{onward, finished}
+use Rattle.semantics.specs.Machine.{onward, finished}
 use Rattle.validate.proofs.verdict.finish.Statement.{statement}
 use Rattle.validate.proofs.verdict.finish.Tie as tie
 
