@@ -1,10 +1,11 @@
 -- The program of a row is built from those of the rows that it refers to.
 -- Assumes nothing.
-use Prim.Native.Nat.{ℕ, zero, suc, _≤_, _<_}
+use Prim.Native.Nat.{ℕ, _≤_, _<_}
 use mathlib.Core.Path.{_≡_, refl, sym, _∙_, ap, subst}
 use mathlib.Core.List.{List, [], _∷_, map}
 use native.Mathlib.Omega.{arith}
 use lib.ListN.{length, getD, take}
+use Rattle.laws.proofs.Tables.{getD-map, Pairs, pair-at}
 use Rattle.laws.proofs.Growing.{grown-front, grown-at}
 use Rattle.job.specs.Job.{Row, rowOf, programRowAt}
 use Rattle.job.specs.Fields.{rowFields, Within}
@@ -31,11 +32,6 @@ row-earlier : (program : List Row) (i : ℕ) → i ≤ length program → (k : �
 unfolding programs
 row-earlier program i h k l = grown-front build nil program i h k l
 
-getD-map : {A B : Type 0} (f : A → B) (l : List A) (k : ℕ) (d : A) → getD (map f l) k (f d) ≡ f (getD l k d)
-getD-map f [] k d = refl
-getD-map f (x ∷ l) zero d = refl
-getD-map f (x ∷ l) (suc k) d = getD-map f l k d
-
 -- the compiling table's kinds, by what they say
 kinds-say : (of : ℕ → Program) (r : Row) → kinds of r ≡ map (programIn of) (constructs r)
 kinds-say of r = refl
@@ -45,30 +41,6 @@ unfolding build
 build-says ps r =
     ap (λ (l : List Program). getD l (r .kind) nil) (kinds-say (λ k. getD ps k nil) r)
     ∙ getD-map (programIn (λ k. getD ps k nil)) (constructs r) (r .kind) (Leaf Nil)
-
--- a number that is none of those below n
-abbrev pub NoneBelow : ℕ → ℕ → Type 0
-NoneBelow zero k = Unit {0}
-NoneBelow (suc n) k = NoneBelow n k × (k ≡ n → ⊥)
-
-pub none-below : (n k : ℕ) → NoneBelow n k → n ≤ k
-none-below zero k h = omega arith
-none-below (suc n) k h = omega (arith, none-below n k (h .0), h .1)
-
--- two tables, kind by kind
-module _ {A B : Type 0} (R : A → B → Type 0) where
-  abbrev Pairs : List A → List B → Type 0
-  Pairs [] [] = Unit {0}
-  Pairs [] (y ∷ ys) = ⊥
-  Pairs (x ∷ xs) [] = ⊥
-  Pairs (x ∷ xs) (y ∷ ys) = R x y × Pairs xs ys
-
-  pair-at : (d : A) (e : B) (xs : List A) (ys : List B) → Pairs xs ys → (k : ℕ) → k < length xs → R (getD xs k d) (getD ys k e)
-  pair-at d e [] [] p k h = absurd (omega arith)
-  pair-at d e [] (y ∷ ys) p k h = absurd p
-  pair-at d e (x ∷ xs) [] p k h = absurd p
-  pair-at d e (x ∷ xs) (y ∷ ys) p zero h = p .0
-  pair-at d e (x ∷ xs) (y ∷ ys) p (suc k) h = pair-at d e xs ys (p .1) k (omega arith)
 
 -- a row with right fields refers to earlier rows alone
 module _ (c : Counts) (r : Row) where

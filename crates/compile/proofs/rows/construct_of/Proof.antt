@@ -1,7 +1,7 @@
 use mathlib.Core.Path.{sym}
 use lib.ListN.{List·getD-eq-default}
 use Rattle.compile.specs.Construct.{constructs}
-use Rattle.compile.proofs.ProgramLaws.{none-below}
+use Rattle.laws.proofs.Tests.{none-below}
 use Rattle.job.specs.Store.{rowIn}
 use Rattle.compile.proofs.rows.construct_of.Statement.{statement}
 use Rattle.compile.proofs.rows.construct_of.Tie as tie
