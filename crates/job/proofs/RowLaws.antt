@@ -28,7 +28,8 @@ within-true c (f ∷ fs) (x ∷ xs) e =
 
 -- three fields, one after another
 pub three-fields : (c : Counts) (fs : List Field) (x y z : ℕ) → length fs ≡ 3
-    → within c fs (x ∷ y ∷ z ∷ []) ≡ (ltb x (bound c (getD fs 0 Unused)) && (ltb y (bound c (getD fs 1 Unused)) && ltb z (bound c (getD fs 2 Unused))))
+    → within c fs (x ∷ y ∷ z ∷ [])
+    ≡ (ltb x (bound c (getD fs 0 Unused)) && (ltb y (bound c (getD fs 1 Unused)) && ltb z (bound c (getD fs 2 Unused))))
 three-fields c [] x y z e = absurd (omega arith)
 three-fields c (f ∷ []) x y z e = absurd (omega arith)
 three-fields c (f ∷ g ∷ []) x y z e = absurd (omega arith)
@@ -36,9 +37,12 @@ three-fields c (f ∷ g ∷ h ∷ []) x y z e = rw and-true
 three-fields c (f ∷ g ∷ h ∷ i ∷ fs) x y z e = absurd (omega arith)
 
 -- a formula has no third field
-pub third-unused : (c : Counts) (x y : ℕ) (k : ℕ) → k < 6
-    → within c (getD (map (λ fs. fs ++ (Unused ∷ [])) formulaFields) k []) (x ∷ y ∷ 0 ∷ []) ≡ within c (getD formulaFields k []) (x ∷ y ∷ [])
-third-unused c x y = pair-at (λ fs gs. within c fs (x ∷ y ∷ 0 ∷ []) ≡ within c gs (x ∷ y ∷ [])) [] [] (map (λ fs. fs ++ (Unused ∷ [])) formulaFields) formulaFields
+abbrev threeFields : List (List Field)
+threeFields = map (λ fs. fs ++ (Unused ∷ [])) formulaFields
+
+pub third-unused : (c : Counts) (x y k : ℕ) → k < length formulaFields
+    → within c (getD threeFields k []) (x ∷ y ∷ 0 ∷ []) ≡ within c (getD formulaFields k []) (x ∷ y ∷ [])
+third-unused c x y = pair-at (λ fs gs. within c fs (x ∷ y ∷ 0 ∷ []) ≡ within c gs (x ∷ y ∷ [])) [] [] threeFields formulaFields
     (refl, (refl, (refl, (refl, (refl, (refl, tt))))))
 
 -- a kind whose fields hold something is in the table

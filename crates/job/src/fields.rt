@@ -59,13 +59,10 @@ fn right(fields: [Field; 3], a: u16, b: u16, c: u16, counts: Counts) -> bool
     let fa = fields[0];
     let fb = fields[1];
     let fc = fields[2];
-    if a < bound(fa, counts) {
-        if b < bound(fb, counts) {
-            return c < bound(fc, counts);
-        }
-        return false;
-    }
-    false
+    let right_a = a < bound(fa, counts);
+    let right_b = b < bound(fb, counts);
+    let right_c = c < bound(fc, counts);
+    right_a & (right_b & right_c)
 }
 
 // Whether a formula refers to facts and earlier formulas alone: its numbers are kind, a and b.
@@ -73,7 +70,7 @@ pub fn formula_right(numbers: [u16; WIDTH], counts: Counts) -> bool
     ensures { λ r. ⌜ r ≡ within counts (getD formulaFields (getD numbers 0 0) []) (getD numbers 1 0 ∷ getD numbers 2 0 ∷ []) ⌝ }
 {
     let kind = numbers[0] as usize;
-    if kind < 6 {
+    if kind < FORMULA_FIELDS.len() {
         return right(FORMULA_FIELDS[kind], numbers[1], numbers[2], 0, counts);
     }
     false
@@ -84,7 +81,7 @@ pub fn row_right(numbers: [u16; WIDTH], counts: Counts) -> bool
     ensures { λ r. ⌜ r ≡ within counts (getD rowFields (getD numbers 0 0) []) (getD numbers 1 0 ∷ getD numbers 2 0 ∷ getD numbers 3 0 ∷ []) ⌝ }
 {
     let kind = numbers[0] as usize;
-    if kind < 9 {
+    if kind < ROW_FIELDS.len() {
         return right(ROW_FIELDS[kind], numbers[1], numbers[2], numbers[3], counts);
     }
     false
