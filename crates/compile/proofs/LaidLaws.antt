@@ -11,7 +11,7 @@ use Rattle.laws.proofs.Lists.{sets-append}
 use Rattle.semantics.specs.Label as L
 use Rattle.semantics.proofs.FlatLaws.{flat-append, flat-length}
 use Rattle.semantics.specs.CompilingTable.{Step, arc, flat, moveSteps, branchSteps, whileSteps, starSteps}
-use Rattle.compile.specs.Laid.{numbersOf, Laid}
+use Rattle.compile.specs.Laid.{labelNumbers, Laid}
 use Rattle.compile.specs.declared.steps.Label.{Label}
 use Rattle.compile.proofs.SizeLaws.{moves-count}
 
@@ -42,11 +42,11 @@ moves-more k n =
     rw (add-one k, add-one n) (ap flat (moves-snoc k 0 n) ∙ flat-append (moveSteps k 0 n) _ ∙ rw e)
 
 -- as the code writes them
-pub leaf-flat : (x : L.Label) (k : Label) → k ≡ numbersOf x → (n : ℕ) → flat (arc x n (n + 1) ∷ []) ≡ k .kind ∷ n ∷ (n + 1) ∷ k .arg ∷ []
+pub leaf-flat : (x : L.Label) (k : Label) → k ≡ labelNumbers x → (n : ℕ) → flat (arc x n (n + 1) ∷ []) ≡ k .kind ∷ n ∷ (n + 1) ∷ k .arg ∷ []
 unfolding flat
 leaf-flat x k e n = rw e
 
-pub branch-flat : (x y : L.Label) (k l : Label) → k ≡ numbersOf x → l ≡ numbersOf y → (n p q : ℕ)
+pub branch-flat : (x y : L.Label) (k l : Label) → k ≡ labelNumbers x → l ≡ labelNumbers y → (n p q : ℕ)
     → flat (branchSteps x y n p q) ≡ k .kind ∷ n ∷ (n + 1) ∷ k .arg ∷ l .kind ∷ n ∷ (p + 1) ∷ l .arg ∷ 0 ∷ p ∷ (q + 1) ∷ 0 ∷ 0 ∷ q ∷ (q + 1) ∷ 0 ∷ []
 unfolding flat branchSteps
 branch-flat x y k l e f n p q = rw (e, f, add-one n, add-one p, add-one q)

@@ -28,21 +28,21 @@ pub record Loop (M : ℕ) (σ a : Program) (glue : ℕ → ℕ → List Step) : 
   pub ends : (n : ℕ) → end σ n ≡ suc (end a (suc n))
 
 module _ (M : ℕ) where
-  pub simple-leaf : (s : Simple) → Leaf M (simple s) (labelOf s)
+  pub leaf-made : (s : Simple) → Leaf M (simple s) (labelOf s)
   unfolding steps end
-  simple-leaf Nil = record { made = λ n. refl; ends = λ n. refl }
-  simple-leaf (Move a) = record { made = λ n. refl; ends = λ n. refl }
-  simple-leaf (Test a) = record { made = λ n. refl; ends = λ n. refl }
+  leaf-made Nil = record { made = λ n. refl; ends = λ n. refl }
+  leaf-made (Move a) = record { made = λ n. refl; ends = λ n. refl }
+  leaf-made (Test a) = record { made = λ n. refl; ends = λ n. refl }
 
-  pub branch-parts : (g : Guard) (a b : Program) → Branch M (branch g a b) a b (firstLabel g) (secondLabel g)
+  pub branch-made : (g : Guard) (a b : Program) → Branch M (branch g a b) a b (firstLabel g) (secondLabel g)
   unfolding steps end
-  branch-parts Free a b = record { made = λ n. refl; ends = λ n. refl }
-  branch-parts (On f) a b = record { made = λ n. refl; ends = λ n. refl }
+  branch-made Free a b = record { made = λ n. refl; ends = λ n. refl }
+  branch-made (On f) a b = record { made = λ n. refl; ends = λ n. refl }
 
-  pub loop-part : (g : Guard) (a : Program) → Loop M (loop g a) a (loopSteps g)
+  pub loop-made : (g : Guard) (a : Program) → Loop M (loop g a) a (loopSteps g)
   unfolding steps end
-  loop-part Free a = record { made = λ n. refl; ends = λ n. refl }
-  loop-part (On f) a = record { made = λ n. refl; ends = λ n. refl }
+  loop-made Free a = record { made = λ n. refl; ends = λ n. refl }
+  loop-made (On f) a = record { made = λ n. refl; ends = λ n. refl }
 
 -- what holds of each shape, if it does of the parts, holds of every program
 module _ (P : Program → Type 0) (leaf : (s : Simple) → P (simple s)) (one : P any) (two : (a b : Program) → P a → P b → P (seq a b))

@@ -13,13 +13,13 @@ use Rattle.semantics.specs.Program.{Program, any, seq}
 use Rattle.semantics.specs.CompilingTable.{Step, end, steps, moveSteps, branchSteps, whileSteps, starSteps}
 use Rattle.compile.specs.Program.{rowProgram, programOf}
 use Rattle.compile.specs.Construct.{loopSteps, programIn, Earlier, Says}
-use Rattle.compile.specs.Size.{sized, sizesOf, sum, sizesIn, capped, cappedSizes, listed}
+use Rattle.compile.specs.Size.{sized, sizesOf, sizesSum, sizesIn, capped, cappedSizes, listed}
 use Rattle.compile.specs.declared.rows.Guard.{Guard}
 use Rattle.compile.specs.declared.rows.Guard.the-variants.{Free, On}
 use Rattle.compile.specs.declared.rows.Construct.{Construct}
 use Rattle.compile.specs.declared.rows.Construct.the-variants as C
 use Rattle.compile.specs.declared.sizes.Sizes.{Sizes}
-use Rattle.compile.proofs.Shapes.{Leaf, Branch, Loop, simple-leaf, branch-parts, loop-part, by-shape}
+use Rattle.compile.proofs.Shapes.{Leaf, Branch, Loop, leaf-made, branch-made, loop-made, by-shape}
 
 pub moves-count : (count a n : ℕ) → length (moveSteps count a n) ≡ count
 unfolding moveSteps
@@ -45,21 +45,21 @@ module _ (M : ℕ) where
   any-sized = record { ends = λ n. omega arith; counts = λ n. moves-count M 0 n }
 
   module _ {a b : Program} {x y : Sizes} (u : Sized a x) (v : Sized b y) where
-    seq-sized : Sized (seq a b) (sum x y (sized 0 0))
+    seq-sized : Sized (seq a b) (sizesSum x y (sized 0 0))
     unfolding steps end
     seq-sized = record {
       ends = λ n. omega (arith, v .ends (end a n), u .ends n);
       counts = λ n. length-append (steps M a n) (steps M b (end a n)) ∙ omega (arith, u .counts n, v .counts (end a n));
     }
 
-    branch-sized : {σ : Program} {k l : Label} → Branch M σ a b k l → Sized σ (sum x y (sized 3 4))
+    branch-sized : {σ : Program} {k l : Label} → Branch M σ a b k l → Sized σ (sizesSum x y (sized 3 4))
     unfolding branchSteps
     branch-sized {σ} z = record {
       ends = λ n. omega (arith, z .ends n, v .ends (suc (end a (suc n))), u .ends (suc n));
       counts = λ n. rw (z .made n) (simp length-append (omega (arith, u .counts (suc n), v .counts (suc (end a (suc n))))));
     }
 
-  loop-sized : {a σ : Program} {x : Sizes} (g : Guard) → Sized a x → Loop M σ a (loopSteps g) → Sized σ (sum x (sized 0 0) (sized 2 3))
+  loop-sized : {a σ : Program} {x : Sizes} (g : Guard) → Sized a x → Loop M σ a (loopSteps g) → Sized σ (sizesSum x (sized 0 0) (sized 2 3))
   loop-sized {a} g u z = record {
     ends = λ n. omega (arith, z .ends n, u .ends (suc n));
     counts = λ n. rw (z .made n) (simp length-append (omega (arith, u .counts (suc n), glue-count g n (end a (suc n)))));
@@ -75,22 +75,22 @@ module _ (M : ℕ) where
 
   -- the sizes from position 0 are those from any
   pub has-sizes : (σ : Program) → Sized σ (sizesOf M σ)
-  has-sizes = by-shape (λ σ. Sized σ (sizesOf M σ)) (λ s. own (leaf-sized (simple-leaf M s))) (own any-sized) (λ a b u v. own (seq-sized u v))
-      (λ g a b u v. own (branch-sized u v (branch-parts M g a b))) (λ g a u. own (loop-sized g u (loop-part M g a)))
+  has-sizes = by-shape (λ σ. Sized σ (sizesOf M σ)) (λ s. own (leaf-sized (leaf-made M s))) (own any-sized) (λ a b u v. own (seq-sized u v))
+      (λ g a b u v. own (branch-sized u v (branch-made M g a b))) (λ g a u. own (loop-sized g u (loop-made M g a)))
 
   pub row-sizes : (of : ℕ → Program) (r : Construct) → sizesOf M (programIn of r) ≡ sizesIn M (λ k. sizesOf M (of k)) r
-  row-sizes of (C.Leaf s) = sizes-are (leaf-sized (simple-leaf M s))
+  row-sizes of (C.Leaf s) = sizes-are (leaf-sized (leaf-made M s))
   row-sizes of C.Any = sizes-are any-sized
   row-sizes of (C.Seq a b) = sizes-are (seq-sized (has-sizes (of a)) (has-sizes (of b)))
-  row-sizes of (C.Branch g a b) = sizes-are (branch-sized (has-sizes (of a)) (has-sizes (of b)) (branch-parts M g (of a) (of b)))
-  row-sizes of (C.Loop g a) = sizes-are (loop-sized g (has-sizes (of a)) (loop-part M g (of a)))
+  row-sizes of (C.Branch g a b) = sizes-are (branch-sized (has-sizes (of a)) (has-sizes (of b)) (branch-made M g (of a) (of b)))
+  row-sizes of (C.Loop g a) = sizes-are (loop-sized g (has-sizes (of a)) (loop-made M g (of a)))
 
   -- the capped sizes of the rows before row i stand in two lists
   abbrev pub Listed : List Row → ℕ → List ℕ → List ℕ → Type 0
   Listed program i positions steps = (k : ℕ) → k < i → listed positions steps k ≡ cappedSizes (sizesOf M (rowProgram program k))
 
   -- sums of capped sizes, capped, are capped sums
-  capped-parts : (x y z x₁ y₁ : Sizes) → x₁ ≡ cappedSizes x → y₁ ≡ cappedSizes y → cappedSizes (sum x₁ y₁ z) ≡ cappedSizes (sum x y z)
+  capped-parts : (x y z x₁ y₁ : Sizes) → x₁ ≡ cappedSizes x → y₁ ≡ cappedSizes y → cappedSizes (sizesSum x₁ y₁ z) ≡ cappedSizes (sizesSum x y z)
   capped-parts x y z x₁ y₁ e f =
       let g : capped (capped (x .positions) + capped (y .positions) + z .positions) ≡ capped (x .positions + y .positions + z .positions) = omega arith in
       let h : capped (capped (x .steps) + capped (y .steps) + z .steps) ≡ capped (x .steps + y .steps + z .steps) = omega arith in

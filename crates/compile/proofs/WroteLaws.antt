@@ -17,7 +17,7 @@ use Rattle.compile.specs.declared.rows.Construct.the-variants.{Leaf, Any
 use Rattle.compile.specs.declared.steps.Cursor.{Cursor}
 use Rattle.compile.proofs.SizeLaws.{has-sizes}
 use Rattle.compile.proofs.LaidLaws.{laid-append}
-use Rattle.compile.proofs.Shapes.{simple-leaf, branch-parts, loop-part}
+use Rattle.compile.proofs.Shapes.{leaf-made, branch-made, loop-made}
 
 -- one position on
 abbrev pub next : Cursor → Cursor
@@ -41,8 +41,8 @@ module _ {M : ℕ} {of : ℕ → Program} {i : ℕ} {old new : List ℕ} {from t
       → Laid (flat (arc (labelOf s) (from .position) (from .position + 1) ∷ [])) old (from .at) new (to .at) × (to .position ≡ from .position + 1)
       → Wrote M (of i) old from new to
   wrote-leaf {s} e x = rw (e .is) (record {
-    laid = rw (simple-leaf M s .made (from .position), ← (add-one (from .position))) (x .0);
-    ends = x .1 ∙ add-one (from .position) ∙ sym (simple-leaf M s .ends (from .position));
+    laid = rw (leaf-made M s .made (from .position), ← (add-one (from .position))) (x .0);
+    ends = x .1 ∙ add-one (from .position) ∙ sym (leaf-made M s .ends (from .position));
   })
 
   pub wrote-any : Says of i Any
@@ -71,7 +71,7 @@ module _ {M : ℕ} {of : ℕ → Program} {i : ℕ} {g : Guard} {a : ℕ} {old l
   wrote-branch {b} {l₂} {y} e u w z =
       let n : ℕ = from .position in
       let n₁ : ℕ = end (of a) (suc n) in
-      let s = branch-parts M g (of a) (of b) in
+      let s = branch-made M g (of a) (of b) in
       let first = starts (suc n) (add-one n) u in
       let second = starts (suc n₁) (add-one (x .position) ∙ ap suc (first .1)) w in
       let own : Laid (flat (branchSteps (firstLabel g) (secondLabel g) n n₁ (end (of b) (suc n₁)))) l₂ (y .at) new (to .at) =
@@ -87,7 +87,7 @@ module _ {M : ℕ} {of : ℕ → Program} {i : ℕ} {g : Guard} {a : ℕ} {old l
       → Wrote M (of i) old from new to
   wrote-loop e u z =
       let n : ℕ = from .position in
-      let s = loop-part M g (of a) in
+      let s = loop-made M g (of a) in
       let first = starts (suc n) (add-one n) u in
       rw (e .is) (record {
         laid = rw (s .made n, flat-append (steps M (of a) (suc n)) (loopSteps g n (end (of a) (suc n))), ← first .1) (laid-append (first .0) (z .0));

@@ -25,7 +25,7 @@ labelOf Nil = noop
 labelOf (Move a) = make a
 labelOf (Test a) = holds a
 
--- two branches, and a part that is repeated
+-- two branches, of which a formula's value names the one that is taken, or either is; a part that is repeated
 abbrev pub branch : Guard → Program → Program → Program
 branch Free a b = choice a b
 branch (On f) a b = ifElse f a b
@@ -34,7 +34,7 @@ abbrev pub loop : Guard → Program → Program
 loop Free a = star a
 loop (On f) a = while f a
 
--- the labels of the first way and of the second
+-- the labels of the steps into the first branch or the part, and into the second branch or past the part
 abbrev pub firstLabel : Guard → Label
 firstLabel Free = noop
 firstLabel (On f) = holds f
@@ -43,7 +43,7 @@ abbrev pub secondLabel : Guard → Label
 secondLabel Free = noop
 secondLabel (On f) = fails f
 
--- the steps after the part of a loop
+-- the steps after the part that is repeated
 abbrev pub loopSteps : Guard → ℕ → ℕ → List Step
 loopSteps Free = starSteps
 loopSteps (On f) = whileSteps f
@@ -69,7 +69,7 @@ pub record Says (of : ℕ → Program) (i : ℕ) (r : Construct) : Type 0 where
   pub is : of i ≡ programIn of r
   pub earlier : Earlier i r
 
--- what a row says, by its kind: the compiling table's, of `kinds`
+-- what a row says, by its kind, in the order of the compiling table's `kinds`
 abbrev pub constructs : Row → List Construct
 constructs r =
     Leaf Nil

@@ -13,8 +13,8 @@ use Rattle.compile.specs.declared.steps.Cursor.{Cursor}
 use Rattle.compile.specs.declared.steps.Label.{Label}
 
 -- a label in the list
-abbrev pub numbersOf : L.Label → Label
-numbersOf l = record { kind = kindOf l; arg = argOf l }
+abbrev pub labelNumbers : L.Label → Label
+labelNumbers l = record { kind = kindOf l; arg = argOf l }
 
 -- v over the list from a place on; then comes the next place
 pub record Laid (v old : List ℕ) (at : ℕ) (new : List ℕ) (next : ℕ) : Type 0 where

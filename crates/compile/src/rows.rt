@@ -15,13 +15,13 @@ pub enum Simple {
     Test(u16),
 }
 
-// Which of two ways is taken: either one, or the one that a formula's value names.
+// Which of two ways is taken: either, or the first where a formula holds and the second where it fails.
 pub enum Guard {
     Free,
     On(u16),
 }
 
-// What a row says, by its shape, with the rows that it refers to.
+// The shape of a row, with the rows that it refers to.
 pub enum Construct {
     Leaf(Simple),
     Any,
@@ -30,6 +30,7 @@ pub enum Construct {
     Loop(Guard, u16),
 }
 
+// What a row says, by its kind.
 fn construct_of(row: ProgramRow) -> Construct
     ensures { λ r. ⌜ r ≡ constructOf (rowIn row) ⌝ }
 {
@@ -44,7 +45,7 @@ fn construct_of(row: ProgramRow) -> Construct
         6 => Construct::Branch(Guard::Free, row.a, row.b),
         7 => Construct::Loop(Guard::On(row.a), row.b),
         8 => Construct::Loop(Guard::Free, row.a),
-        _ => Construct::Leaf(Simple::Nil),
+        _ => Construct::Leaf(Simple::Nil), // no row is of another kind
     }
 }
 

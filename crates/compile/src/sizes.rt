@@ -5,7 +5,7 @@ ghost use lib.ListN.{getD};
 ghost use Rattle.job.specs.Store.{jobOf};
 ghost use Rattle.job.specs.Stored.{Stored};
 ghost use Rattle.compile.specs.CompiledJob.{positionCount, stepCount};
-ghost use Rattle.compile.specs.Size.{sum, sizesIn, capped as cap, cappedSizes, listed};
+ghost use Rattle.compile.specs.Size.{sizesSum, sizesIn, capped as cap, cappedSizes, listed};
 use crate::rows::Construct;
 use job::head::Head;
 use limits::PROGRAM;
@@ -22,6 +22,27 @@ pub struct Sizes {
     pub steps: u16,
 }
 
+const NOTHING: Sizes = Sizes {
+    positions: 0,
+    steps: 0,
+};
+
+// What a leaf has, and what a branch and a loop add to their parts.
+const LEAF: Sizes = Sizes {
+    positions: 1,
+    steps: 1,
+};
+
+const BRANCH: Sizes = Sizes {
+    positions: 3,
+    steps: 4,
+};
+
+const LOOP: Sizes = Sizes {
+    positions: 2,
+    steps: 3,
+};
+
 // A sum of three, capped.
 fn capped(x: u16, y: u16, z: u16) -> u16
     ensures { λ r. ⌜ r ≡ cap (x + y + z) ⌝ }
@@ -35,7 +56,7 @@ fn capped(x: u16, y: u16, z: u16) -> u16
 
 // The same of sizes.
 fn capped_sum(x: Sizes, y: Sizes, z: Sizes) -> Sizes
-    ensures { λ r. ⌜ r ≡ cappedSizes (sum x y z) ⌝ }
+    ensures { λ r. ⌜ r ≡ cappedSizes (sizesSum x y z) ⌝ }
 {
     Sizes {
         positions: capped(x.positions, y.positions, z.positions),
@@ -68,48 +89,25 @@ fn sizes_at(positions: &[u16], steps: &[u16], a: u16) -> Sizes
 fn construct_sizes(construct: Construct, positions: &[u16], steps: &[u16], moves: u16) -> Sizes
     ensures { λ r. ⌜ r ≡ cappedSizes (sizesIn moves (listed (now (positions .entry)) (now (steps .entry))) construct) ⌝ }
 {
-    let none = Sizes {
-        positions: 0,
-        steps: 0,
-    };
     match construct {
-        Construct::Leaf(_) => Sizes {
-            positions: 1,
-            steps: 1,
-        },
+        Construct::Leaf(_) => LEAF,
         Construct::Any => capped_sum(
             Sizes {
                 positions: 1,
                 steps: moves,
             },
-            none,
-            none,
+            NOTHING,
+            NOTHING,
         ),
         Construct::Seq(a, b) => {
-            capped_sum(
-                sizes_at(positions, steps, a),
-                sizes_at(positions, steps, b),
-                none,
-            )
+            let x = sizes_at(positions, steps, a);
+            capped_sum(x, sizes_at(positions, steps, b), NOTHING)
         }
-        Construct::Branch(_, a, b) => capped_sum(
-            sizes_at(positions, steps, a),
-            sizes_at(positions, steps, b),
-            Sizes {
-                positions: 3,
-                steps: 4,
-            },
-        ),
-        Construct::Loop(_, a) => {
-            capped_sum(
-                sizes_at(positions, steps, a),
-                none,
-                Sizes {
-                    positions: 2,
-                    steps: 3,
-                },
-            )
+        Construct::Branch(_, a, b) => {
+            let x = sizes_at(positions, steps, a);
+            capped_sum(x, sizes_at(positions, steps, b), BRANCH)
         }
+        Construct::Loop(_, a) => capped_sum(sizes_at(positions, steps, a), NOTHING, LOOP),
     }
 }
 

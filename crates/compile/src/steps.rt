@@ -5,7 +5,7 @@ ghost use Prim.Native.Nat.{_+_, _*_, _≤_, _<_};
 ghost use lib.ListN.{length};
 ghost use Rattle.semantics.specs.CompilingTable.{arc, flat, moveSteps, branchSteps, whileSteps, starSteps};
 ghost use Rattle.compile.specs.Construct.{labelOf, firstLabel, secondLabel, loopSteps};
-ghost use Rattle.compile.specs.Laid.{numbersOf, Laid};
+ghost use Rattle.compile.specs.Laid.{labelNumbers, Laid};
 use crate::rows::Guard;
 use crate::rows::Simple;
 
@@ -33,7 +33,7 @@ pub struct Label {
 }
 
 fn leaf_label(simple: Simple) -> Label
-    ensures { λ r. ⌜ r ≡ numbersOf (labelOf simple) ⌝ }
+    ensures { λ r. ⌜ r ≡ labelNumbers (labelOf simple) ⌝ }
 {
     match simple {
         Simple::Nil => Label { kind: 0, arg: 0 },
@@ -42,9 +42,9 @@ fn leaf_label(simple: Simple) -> Label
     }
 }
 
-// The labels of the first way and of the second.
+// The labels of the two ways.
 fn first_label(guard: Guard) -> Label
-    ensures { λ r. ⌜ r ≡ numbersOf (firstLabel guard) ⌝ }
+    ensures { λ r. ⌜ r ≡ labelNumbers (firstLabel guard) ⌝ }
 {
     match guard {
         Guard::Free => Label { kind: 0, arg: 0 },
@@ -53,7 +53,7 @@ fn first_label(guard: Guard) -> Label
 }
 
 fn second_label(guard: Guard) -> Label
-    ensures { λ r. ⌜ r ≡ numbersOf (secondLabel guard) ⌝ }
+    ensures { λ r. ⌜ r ≡ labelNumbers (secondLabel guard) ⌝ }
 {
     match guard {
         Guard::Free => Label { kind: 0, arg: 0 },
