@@ -57,7 +57,7 @@ module _ {h : Head} {l : List ℕ} {i t places : ℕ} {from : Cursor} (p : (i �
   leaf-ok {s} x = (omega (arith, room (Leaf s) x .1), next-ok)
 
   pub any-ok : Says (of h l) i Any → (from .at + h .counts .moves * 4 ≤ places) × (from .position < 65535)
-  any-ok x = (room Any x .1, next-ok)
+  any-ok x = (omega (arith, room Any x .1), next-ok)
 
   module _ {a b : ℕ} (s : Says (of h l) i (Seq a b)) where
     pub seq-first : (a < t) × Fit h l a from places

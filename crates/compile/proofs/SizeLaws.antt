@@ -13,7 +13,7 @@ use Rattle.semantics.specs.Program.{Program, any, seq}
 use Rattle.semantics.specs.CompilingTable.{Step, end, steps, moveSteps, branchSteps, whileSteps, starSteps}
 use Rattle.compile.specs.Program.{rowProgram, programOf}
 use Rattle.compile.specs.Construct.{loopSteps, programIn, Earlier, Says}
-use Rattle.compile.specs.Size.{sized, sizesOf, sizesSum, sizesIn, capped, cappedSizes, listed}
+use Rattle.compile.specs.Size.{sizesOf, sizesSum, nothing, sizesIn, capped, cappedSizes, listed}
 use Rattle.compile.specs.declared.rows.Guard.{Guard}
 use Rattle.compile.specs.declared.rows.Guard.the-variants.{Free, On}
 use Rattle.compile.specs.declared.rows.Construct.{Construct}
@@ -37,29 +37,29 @@ module _ (M : ℕ) where
     pub ends : (n : ℕ) → end σ n ≡ n + s .positions
     pub counts : (n : ℕ) → length (steps M σ n) ≡ s .steps
 
-  leaf-sized : {σ : Program} {l : Label} → Leaf M σ l → Sized σ (sized 1 1)
+  leaf-sized : {σ : Program} {l : Label} → Leaf M σ l → Sized σ (sizesSum nothing nothing 1 1)
   leaf-sized x = record { ends = λ n. omega (arith, x .ends n); counts = λ n. rw (x .made n) }
 
-  any-sized : Sized any (sized 1 M)
+  any-sized : Sized any (sizesSum nothing nothing 1 M)
   unfolding steps end
-  any-sized = record { ends = λ n. omega arith; counts = λ n. moves-count M 0 n }
+  any-sized = record { ends = λ n. omega arith; counts = λ n. omega (arith, moves-count M 0 n) }
 
   module _ {a b : Program} {x y : Sizes} (u : Sized a x) (v : Sized b y) where
-    seq-sized : Sized (seq a b) (sizesSum x y (sized 0 0))
+    seq-sized : Sized (seq a b) (sizesSum x y 0 0)
     unfolding steps end
     seq-sized = record {
       ends = λ n. omega (arith, v .ends (end a n), u .ends n);
       counts = λ n. length-append (steps M a n) (steps M b (end a n)) ∙ omega (arith, u .counts n, v .counts (end a n));
     }
 
-    branch-sized : {σ : Program} {k l : Label} → Branch M σ a b k l → Sized σ (sizesSum x y (sized 3 4))
+    branch-sized : {σ : Program} {k l : Label} → Branch M σ a b k l → Sized σ (sizesSum x y 3 4)
     unfolding branchSteps
     branch-sized {σ} z = record {
       ends = λ n. omega (arith, z .ends n, v .ends (suc (end a (suc n))), u .ends (suc n));
       counts = λ n. rw (z .made n) (simp length-append (omega (arith, u .counts (suc n), v .counts (suc (end a (suc n))))));
     }
 
-  loop-sized : {a σ : Program} {x : Sizes} (g : Guard) → Sized a x → Loop M σ a (loopSteps g) → Sized σ (sizesSum x (sized 0 0) (sized 2 3))
+  loop-sized : {a σ : Program} {x : Sizes} (g : Guard) → Sized a x → Loop M σ a (loopSteps g) → Sized σ (sizesSum x nothing 2 3)
   loop-sized {a} g u z = record {
     ends = λ n. omega (arith, z .ends n, u .ends (suc n));
     counts = λ n. rw (z .made n) (simp length-append (omega (arith, u .counts (suc n), glue-count g n (end a (suc n)))));
@@ -90,10 +90,10 @@ module _ (M : ℕ) where
   Listed program i positions steps = (k : ℕ) → k < i → listed positions steps k ≡ cappedSizes (sizesOf M (rowProgram program k))
 
   -- sums of capped sizes, capped, are capped sums
-  capped-parts : (x y z x₁ y₁ : Sizes) → x₁ ≡ cappedSizes x → y₁ ≡ cappedSizes y → cappedSizes (sizesSum x₁ y₁ z) ≡ cappedSizes (sizesSum x y z)
-  capped-parts x y z x₁ y₁ e f =
-      let g : capped (capped (x .positions) + capped (y .positions) + z .positions) ≡ capped (x .positions + y .positions + z .positions) = omega arith in
-      let h : capped (capped (x .steps) + capped (y .steps) + z .steps) ≡ capped (x .steps + y .steps + z .steps) = omega arith in
+  capped-parts : (x y x₁ y₁ : Sizes) (p q : ℕ) → x₁ ≡ cappedSizes x → y₁ ≡ cappedSizes y → cappedSizes (sizesSum x₁ y₁ p q) ≡ cappedSizes (sizesSum x y p q)
+  capped-parts x y x₁ y₁ p q e f =
+      let g : capped (capped (x .positions) + capped (y .positions) + p) ≡ capped (x .positions + y .positions + p) = omega arith in
+      let h : capped (capped (x .steps) + capped (y .steps) + q) ≡ capped (x .steps + y .steps + q) = omega arith in
       rw (e, f, g, h)
 
   module _ (program : List Row) (i : ℕ) (positions steps : List ℕ) (s : Listed program i positions steps) where
@@ -103,9 +103,9 @@ module _ (M : ℕ) where
     row-capped : (r : Construct) → Earlier i r → cappedSizes (sizesIn M (listed positions steps) r) ≡ cappedSizes (sizesIn M of r)
     row-capped (C.Leaf l) e = refl
     row-capped C.Any e = refl
-    row-capped (C.Seq a b) e = capped-parts (of a) (of b) (sized 0 0) _ _ (s a (e .0)) (s b (e .1))
-    row-capped (C.Branch g a b) e = capped-parts (of a) (of b) (sized 3 4) _ _ (s a (e .0)) (s b (e .1))
-    row-capped (C.Loop g a) e = capped-parts (of a) (sized 0 0) (sized 2 3) _ (sized 0 0) (s a e) refl
+    row-capped (C.Seq a b) e = capped-parts (of a) (of b) _ _ 0 0 (s a (e .0)) (s b (e .1))
+    row-capped (C.Branch g a b) e = capped-parts (of a) (of b) _ _ 3 4 (s a (e .0)) (s b (e .1))
+    row-capped (C.Loop g a) e = capped-parts (of a) nothing _ nothing 2 3 (s a e) refl
 
     -- one row more
     pub listed-more : (r : Construct) (v : Sizes) → Says (rowProgram program) i r

@@ -16,16 +16,20 @@ sized positions steps = record { positions = positions; steps = steps }
 abbrev pub sizesOf : ℕ → Program → Sizes
 sizesOf M σ = sized (end σ 0) (length (steps M σ 0))
 
-abbrev pub sizesSum : Sizes → Sizes → Sizes → Sizes
-sizesSum x y z = sized (x .positions + y .positions + z .positions) (x .steps + y .steps + z .steps)
+-- two parts, and so many more
+abbrev pub sizesSum : Sizes → Sizes → ℕ → ℕ → Sizes
+sizesSum x y positions steps = sized (x .positions + y .positions + positions) (x .steps + y .steps + steps)
 
--- the same of a row, by its shape, where `of` gives those of the rows that it refers to
+abbrev pub nothing : Sizes
+nothing = sized 0 0
+
+-- the sizes of a row, by its shape, where `of` gives those of the rows that it refers to
 abbrev pub sizesIn : ℕ → (ℕ → Sizes) → Construct → Sizes
-sizesIn M of (Leaf s) = sized 1 1
-sizesIn M of Any = sized 1 M
-sizesIn M of (Seq a b) = sizesSum (of a) (of b) (sized 0 0)
-sizesIn M of (Branch g a b) = sizesSum (of a) (of b) (sized 3 4)
-sizesIn M of (Loop g a) = sizesSum (of a) (sized 0 0) (sized 2 3)
+sizesIn M of (Leaf s) = sizesSum nothing nothing 1 1
+sizesIn M of Any = sizesSum nothing nothing 1 M
+sizesIn M of (Seq a b) = sizesSum (of a) (of b) 0 0
+sizesIn M of (Branch g a b) = sizesSum (of a) (of b) 3 4
+sizesIn M of (Loop g a) = sizesSum (of a) nothing 2 3
 
 -- sizes above the limits are all the same
 abbrev pub capped : ℕ → ℕ

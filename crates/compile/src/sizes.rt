@@ -27,22 +27,6 @@ const NOTHING: Sizes = Sizes {
     steps: 0,
 };
 
-// What a leaf has, and what a branch and a loop add to their parts.
-const LEAF: Sizes = Sizes {
-    positions: 1,
-    steps: 1,
-};
-
-const BRANCH: Sizes = Sizes {
-    positions: 3,
-    steps: 4,
-};
-
-const LOOP: Sizes = Sizes {
-    positions: 2,
-    steps: 3,
-};
-
 // A sum of three, capped.
 fn capped(x: u16, y: u16, z: u16) -> u16
     ensures { λ r. ⌜ r ≡ cap (x + y + z) ⌝ }
@@ -54,13 +38,13 @@ fn capped(x: u16, y: u16, z: u16) -> u16
     CAP as u16
 }
 
-// The same of sizes.
-fn capped_sum(x: Sizes, y: Sizes, z: Sizes) -> Sizes
-    ensures { λ r. ⌜ r ≡ cappedSizes (sizesSum x y z) ⌝ }
+// The sizes of two parts, and so many positions and steps more, capped.
+fn capped_sum(x: Sizes, y: Sizes, positions: u16, steps: u16) -> Sizes
+    ensures { λ r. ⌜ r ≡ cappedSizes (sizesSum x y positions steps) ⌝ }
 {
     Sizes {
-        positions: capped(x.positions, y.positions, z.positions),
-        steps: capped(x.steps, y.steps, z.steps),
+        positions: capped(x.positions, y.positions, positions),
+        steps: capped(x.steps, y.steps, steps),
     }
 }
 
@@ -90,24 +74,17 @@ fn construct_sizes(construct: Construct, positions: &[u16], steps: &[u16], moves
     ensures { λ r. ⌜ r ≡ cappedSizes (sizesIn moves (listed (now (positions .entry)) (now (steps .entry))) construct) ⌝ }
 {
     match construct {
-        Construct::Leaf(_) => LEAF,
-        Construct::Any => capped_sum(
-            Sizes {
-                positions: 1,
-                steps: moves,
-            },
-            NOTHING,
-            NOTHING,
-        ),
+        Construct::Leaf(_) => capped_sum(NOTHING, NOTHING, 1, 1),
+        Construct::Any => capped_sum(NOTHING, NOTHING, 1, moves),
         Construct::Seq(a, b) => {
             let x = sizes_at(positions, steps, a);
-            capped_sum(x, sizes_at(positions, steps, b), NOTHING)
+            capped_sum(x, sizes_at(positions, steps, b), 0, 0)
         }
         Construct::Branch(_, a, b) => {
             let x = sizes_at(positions, steps, a);
-            capped_sum(x, sizes_at(positions, steps, b), BRANCH)
+            capped_sum(x, sizes_at(positions, steps, b), 3, 4)
         }
-        Construct::Loop(_, a) => capped_sum(sizes_at(positions, steps, a), NOTHING, LOOP),
+        Construct::Loop(_, a) => capped_sum(sizes_at(positions, steps, a), NOTHING, 2, 3),
     }
 }
 
