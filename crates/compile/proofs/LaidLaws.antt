@@ -11,8 +11,12 @@ use Rattle.laws.proofs.Lists.{sets-append}
 use Rattle.semantics.specs.Label as L
 use Rattle.semantics.proofs.FlatLaws.{flat-append, flat-length}
 use Rattle.semantics.specs.CompilingTable.{Step, arc, flat, moveSteps, branchSteps, whileSteps, starSteps}
-use Rattle.compile.specs.Laid.{labelNumbers, Laid}
+use Rattle.compile.specs.Construct.{firstLabel, secondLabel}
+use Rattle.compile.specs.Laid.{labelNumbers, guardNumbers, Laid}
+use Rattle.compile.specs.declared.rows.Guard.{Guard}
+use Rattle.compile.specs.declared.rows.Guard.the-variants.{Free, On}
 use Rattle.compile.specs.declared.steps.Label.{Label}
+use Rattle.compile.specs.declared.steps.Labels.{Labels}
 use Rattle.compile.proofs.SizeLaws.{moves-count}
 
 pub laid-none : (l : List ℕ) (at : ℕ) → Laid [] l at l at
@@ -46,10 +50,12 @@ pub leaf-flat : (x : L.Label) (k : Label) → k ≡ labelNumbers x → (n : ℕ)
 unfolding flat
 leaf-flat x k e n = rw e
 
-pub branch-flat : (x y : L.Label) (k l : Label) → k ≡ labelNumbers x → l ≡ labelNumbers y → (n p q : ℕ)
-    → flat (branchSteps x y n p q) ≡ k .kind ∷ n ∷ (n + 1) ∷ k .arg ∷ l .kind ∷ n ∷ (p + 1) ∷ l .arg ∷ 0 ∷ p ∷ (q + 1) ∷ 0 ∷ 0 ∷ q ∷ (q + 1) ∷ 0 ∷ []
+pub branch-flat : (g : Guard) (k : Labels) → k ≡ guardNumbers g → (n p q : ℕ)
+    → flat (branchSteps (firstLabel g) (secondLabel g) n p q)
+    ≡ k .first ∷ n ∷ (n + 1) ∷ k .arg ∷ k .second ∷ n ∷ (p + 1) ∷ k .arg ∷ 0 ∷ p ∷ (q + 1) ∷ 0 ∷ 0 ∷ q ∷ (q + 1) ∷ 0 ∷ []
 unfolding flat branchSteps
-branch-flat x y k l e f n p q = rw (e, f, add-one n, add-one p, add-one q)
+branch-flat Free k e n p q = rw (e, add-one n, add-one p, add-one q)
+branch-flat (On f) k e n p q = rw (e, add-one n, add-one p, add-one q)
 
 pub while-flat : (a n p : ℕ) → flat (whileSteps a n p) ≡ 1 ∷ n ∷ (n + 1) ∷ a ∷ 2 ∷ n ∷ (p + 1) ∷ a ∷ 0 ∷ p ∷ n ∷ 0 ∷ []
 unfolding flat whileSteps

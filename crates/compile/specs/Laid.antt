@@ -8,13 +8,19 @@ use Rattle.limits.specs.Limits.{mostPositions}
 use Rattle.semantics.specs.Label as L
 use Rattle.semantics.specs.Program.{Program}
 use Rattle.semantics.specs.CompilingTable.{end, steps, flat, kindOf, argOf}
+use Rattle.compile.specs.Construct.{firstLabel, secondLabel}
 use Rattle.compile.specs.Size.{sizesOf}
+use Rattle.compile.specs.declared.rows.Guard.{Guard}
 use Rattle.compile.specs.declared.steps.Cursor.{Cursor}
 use Rattle.compile.specs.declared.steps.Label.{Label}
+use Rattle.compile.specs.declared.steps.Labels.{Labels}
 
--- a label in the list
+-- a label in the list, and those of two ways
 abbrev pub labelNumbers : L.Label → Label
 labelNumbers l = record { kind = kindOf l; arg = argOf l }
+
+abbrev pub guardNumbers : Guard → Labels
+guardNumbers g = record { first = kindOf (firstLabel g); second = kindOf (secondLabel g); arg = argOf (firstLabel g) }
 
 -- v over the list from a place on; then comes the next place
 pub record Laid (v old : List ℕ) (at : ℕ) (new : List ℕ) (next : ℕ) : Type 0 where

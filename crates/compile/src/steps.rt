@@ -5,7 +5,7 @@ ghost use Prim.Native.Nat.{_+_, _*_, _≤_, _<_};
 ghost use lib.ListN.{length};
 ghost use Rattle.semantics.specs.CompilingTable.{arc, flat, moveSteps, branchSteps, whileSteps, starSteps};
 ghost use Rattle.compile.specs.Construct.{labelOf, firstLabel, secondLabel, loopSteps};
-ghost use Rattle.compile.specs.Laid.{labelNumbers, Laid};
+ghost use Rattle.compile.specs.Laid.{labelNumbers, guardNumbers, Laid};
 use crate::rows::Guard;
 use crate::rows::Simple;
 
@@ -42,22 +42,27 @@ fn leaf_label(simple: Simple) -> Label
     }
 }
 
-// The labels of the two ways.
-fn first_label(guard: Guard) -> Label
-    ensures { λ r. ⌜ r ≡ labelNumbers (firstLabel guard) ⌝ }
-{
-    match guard {
-        Guard::Free => Label { kind: 0, arg: 0 },
-        Guard::On(a) => Label { kind: 1, arg: a },
-    }
+// The labels of the two ways: their kinds, and the argument of both.
+pub struct Labels {
+    pub first: u16,
+    pub second: u16,
+    pub arg: u16,
 }
 
-fn second_label(guard: Guard) -> Label
-    ensures { λ r. ⌜ r ≡ labelNumbers (secondLabel guard) ⌝ }
+fn guard_labels(guard: Guard) -> Labels
+    ensures { λ r. ⌜ r ≡ guardNumbers guard ⌝ }
 {
     match guard {
-        Guard::Free => Label { kind: 0, arg: 0 },
-        Guard::On(a) => Label { kind: 2, arg: a },
+        Guard::Free => Labels {
+            first: 0,
+            second: 0,
+            arg: 0,
+        },
+        Guard::On(a) => Labels {
+            first: 1,
+            second: 2,
+            arg: a,
+        },
     }
 }
 
@@ -98,10 +103,9 @@ pub fn branch_steps(list: &mut [u16], at: usize, n: u16, p: u16, q: u16, guard: 
     requires { ⌜ (at + 16 ≤ length (now list)) × (n < 65535) × (p < 65535) × (q < 65535) ⌝ }
     ensures { λ r. ⌜ Laid (flat (branchSteps (firstLabel guard) (secondLabel guard) n p q)) (now (list .entry)) at (now (list .exit)) (r .at) × (r .position ≡ q + 1) ⌝ }
 {
-    let x = first_label(guard);
-    let y = second_label(guard);
-    let at1 = put_step(list, at, x.kind, n, n + 1, x.arg);
-    let at2 = put_step(list, at1, y.kind, n, p + 1, y.arg);
+    let x = guard_labels(guard);
+    let at1 = put_step(list, at, x.first, n, n + 1, x.arg);
+    let at2 = put_step(list, at1, x.second, n, p + 1, x.arg);
     let at3 = put_step(list, at2, 0, p, q + 1, 0);
     let at4 = put_step(list, at3, 0, q, q + 1, 0);
     Cursor {
