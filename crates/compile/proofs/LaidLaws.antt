@@ -8,10 +8,15 @@ use native.Mathlib.Numerals.{add-one}
 use lib.ListN.{length, length-append}
 use lib.Seq.{sets}
 use Rattle.laws.proofs.Lists.{sets-append}
-use Rattle.semantics.specs.Label.{Label, make}
+use Rattle.semantics.specs.Label as L
 use Rattle.semantics.proofs.FlatLaws.{flat-append, flat-length}
-use Rattle.semantics.specs.CompilingTable.{Step, arc, flat, kindOf, argOf, moveSteps, branchSteps, whileSteps, starSteps}
-use Rattle.compile.specs.Laid.{Laid}
+use Rattle.semantics.specs.CompilingTable.{Step, arc, flat, moveSteps, branchSteps, whileSteps, starSteps}
+use Rattle.compile.specs.Construct.{firstLabel, secondLabel}
+use Rattle.compile.specs.Laid.{labelNumbers, guardNumbers, Laid}
+use Rattle.compile.specs.declared.rows.Guard.{Guard}
+use Rattle.compile.specs.declared.rows.Guard.the-variants.{Free, On}
+use Rattle.compile.specs.declared.steps.Label.{Label}
+use Rattle.compile.specs.declared.steps.Labels.{Labels}
 use Rattle.compile.proofs.SizeLaws.{moves-count}
 
 pub laid-none : (l : List ℕ) (at : ℕ) → Laid [] l at l at
@@ -23,12 +28,12 @@ laid-append {v} {w} {old} {mid} {new} {at} {at₁} {at₂} x y = record {
   place = omega (arith, x .place, y .place, length-append v w);
 }
 
-moves-snoc : (k a n : ℕ) → moveSteps (suc k) a n ≡ moveSteps k a n ++ (arc (make (a + k)) n (suc n) ∷ [])
+moves-snoc : (k a n : ℕ) → moveSteps (suc k) a n ≡ moveSteps k a n ++ (arc (L.make (a + k)) n (suc n) ∷ [])
 unfolding moveSteps
-moves-snoc zero a n = let e : a ≡ a + 0 = omega arith in ap (λ (b : ℕ). arc (make b) n (suc n) ∷ []) e
+moves-snoc zero a n = let e : a ≡ a + 0 = omega arith in ap (λ (b : ℕ). arc (L.make b) n (suc n) ∷ []) e
 moves-snoc (suc k) a n =
     let e : suc a + k ≡ a + suc k = omega arith in
-    ap (λ (r : List Step). arc (make a) n (suc n) ∷ r) (moves-snoc k (suc a) n ∙ ap (λ (b : ℕ). moveSteps k (suc a) n ++ (arc (make b) n (suc n) ∷ [])) e)
+    ap (λ (r : List Step). arc (L.make a) n (suc n) ∷ r) (moves-snoc k (suc a) n ∙ ap (λ (b : ℕ). moveSteps k (suc a) n ++ (arc (L.make b) n (suc n) ∷ [])) e)
 
 pub moves-length : (count a n : ℕ) → length (flat (moveSteps count a n)) ≡ count * 4
 moves-length count a n = omega (arith, flat-length (moveSteps count a n), moves-count count a n)
@@ -41,11 +46,16 @@ moves-more k n =
     rw (add-one k, add-one n) (ap flat (moves-snoc k 0 n) ∙ flat-append (moveSteps k 0 n) _ ∙ rw e)
 
 -- as the code writes them
-pub branch-flat : (x y : Label) (n p q : ℕ)
-    → flat (branchSteps x y n p q)
-    ≡ kindOf x ∷ n ∷ (n + 1) ∷ argOf x ∷ kindOf y ∷ n ∷ (p + 1) ∷ argOf y ∷ 0 ∷ p ∷ (q + 1) ∷ 0 ∷ 0 ∷ q ∷ (q + 1) ∷ 0 ∷ []
+pub leaf-flat : (x : L.Label) (k : Label) → k ≡ labelNumbers x → (n : ℕ) → flat (arc x n (n + 1) ∷ []) ≡ k .kind ∷ n ∷ (n + 1) ∷ k .arg ∷ []
+unfolding flat
+leaf-flat x k e n = rw e
+
+pub branch-flat : (g : Guard) (k : Labels) → k ≡ guardNumbers g → (n p q : ℕ)
+    → flat (branchSteps (firstLabel g) (secondLabel g) n p q)
+    ≡ k .first ∷ n ∷ (n + 1) ∷ k .arg ∷ k .second ∷ n ∷ (p + 1) ∷ k .arg ∷ 0 ∷ p ∷ (q + 1) ∷ 0 ∷ 0 ∷ q ∷ (q + 1) ∷ 0 ∷ []
 unfolding flat branchSteps
-branch-flat x y n p q = rw (add-one n, add-one p, add-one q)
+branch-flat Free k e n p q = rw (e, add-one n, add-one p, add-one q)
+branch-flat (On f) k e n p q = rw (e, add-one n, add-one p, add-one q)
 
 pub while-flat : (a n p : ℕ) → flat (whileSteps a n p) ≡ 1 ∷ n ∷ (n + 1) ∷ a ∷ 2 ∷ n ∷ (p + 1) ∷ a ∷ 0 ∷ p ∷ n ∷ 0 ∷ []
 unfolding flat whileSteps

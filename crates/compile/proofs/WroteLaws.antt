@@ -5,93 +5,91 @@ use mathlib.Core.Path.{_≡_, sym, _∙_, ap, subst}
 use mathlib.Core.List.{List, [], _∷_, _++_}
 use native.Mathlib.Omega.{arith}
 use native.Mathlib.Numerals.{add-one}
-use Rattle.semantics.specs.Label.{Label}
-use Rattle.semantics.specs.Program.{Program, any, seq}
-use Rattle.semantics.specs.CompilingTable.{Step, end, steps, flat, kindOf, argOf, moveSteps, branchSteps}
+use Rattle.semantics.specs.Program.{Program}
+use Rattle.semantics.specs.CompilingTable.{arc, end, steps, flat, moveSteps, branchSteps}
 use Rattle.semantics.proofs.FlatLaws.{flat-append, flat-length}
-use Rattle.compile.specs.Size.{size, positionWeights, stepWeights}
+use Rattle.compile.specs.Construct.{labelOf, firstLabel, secondLabel, loopSteps, Says}
+use Rattle.compile.specs.Size.{sizesOf}
 use Rattle.compile.specs.Laid.{Laid, Wrote}
+use Rattle.compile.specs.declared.rows.Simple.{Simple}
+use Rattle.compile.specs.declared.rows.Guard.{Guard}
+use Rattle.compile.specs.declared.rows.Construct.the-variants.{Leaf, Any, Seq, Branch, Loop}
 use Rattle.compile.specs.declared.steps.Cursor.{Cursor}
-use Rattle.compile.proofs.SizeLaws.{end-size, steps-size}
+use Rattle.compile.proofs.SizeLaws.{has-sizes}
 use Rattle.compile.proofs.LaidLaws.{laid-append}
-use Rattle.compile.proofs.Shapes.{Leaf, Branch, Loop}
+use Rattle.compile.proofs.Shapes.{leaf-made, branch-made, loop-made}
 
 -- one position on
 abbrev pub next : Cursor → Cursor
 next c = record { position = c .position + 1; at = c .at }
 
-pub from-next : {M : ℕ} {σ : Program} {old new : List ℕ} (from : Cursor) {f to : Cursor} → f ≡ next from → Wrote M σ old f new to → Wrote M σ old (next from) new to
-from-next {M} {σ} {old} {new} from {f} {to} e w = subst (λ (c : Cursor). Wrote M σ old c new to) e w
-
 -- where a program's positions and steps end
 pub wrote-end : {M : ℕ} {σ : Program} {old new : List ℕ} {from to : Cursor} → Wrote M σ old from new to
-    → (to .position ≡ from .position + size positionWeights σ) × (to .at ≡ from .at + size (stepWeights M) σ * 4)
+    → (to .position ≡ from .position + sizesOf M σ .positions) × (to .at ≡ from .at + sizesOf M σ .steps * 4)
 wrote-end {M} {σ} {old} {new} {from} {to} w =
-    (w .ends ∙ end-size σ (from .position), omega (arith, w .laid .place, flat-length (steps M σ (from .position)), steps-size M σ (from .position)))
+    let n = from .position in
+    (w .ends ∙ has-sizes M σ .ends n, omega (arith, w .laid .place, flat-length (steps M σ n), has-sizes M σ .counts n))
 
-module _ {M : ℕ} {old : List ℕ} {from : Cursor} where
-  pub wrote-leaf : {σ : Program} {l : Label} {new : List ℕ} {to : Cursor} → Leaf M σ l
-      → Laid (kindOf l ∷ from .position ∷ (from .position + 1) ∷ argOf l ∷ []) old (from .at) new (to .at) × (to .position ≡ from .position + 1)
-      → Wrote M σ old from new to
-  unfolding flat
-  wrote-leaf s x = record {
-    laid = rw (s .made (from .position), ← (add-one (from .position))) (x .0);
-    ends = x .1 ∙ add-one (from .position) ∙ sym (s .ends (from .position));
-  }
+-- a part that was written, by the position that it starts at
+starts : {M : ℕ} {σ : Program} {old new : List ℕ} {from to : Cursor} (k : ℕ) → from .position ≡ k → Wrote M σ old from new to
+    → Laid (flat (steps M σ k)) old (from .at) new (to .at) × (to .position ≡ end σ k)
+starts {M} {σ} {old} {new} {from} {to} k e w =
+    subst (λ (n : ℕ). Laid (flat (steps M σ n)) old (from .at) new (to .at) × (to .position ≡ end σ n)) e (w .laid, w .ends)
 
-  pub wrote-any : {σ : Program} {new : List ℕ} {to : Cursor} → σ ≡ any
+module _ {M : ℕ} {of : ℕ → Program} {i : ℕ} {old new : List ℕ} {from to : Cursor} where
+  pub wrote-leaf : {s : Simple} → Says of i (Leaf s)
+      → Laid (flat (arc (labelOf s) (from .position) (from .position + 1) ∷ [])) old (from .at) new (to .at) × (to .position ≡ from .position + 1)
+      → Wrote M (of i) old from new to
+  wrote-leaf {s} e x = rw (e .is) (record {
+    laid = rw (leaf-made M s .made (from .position), ← (add-one (from .position))) (x .0);
+    ends = x .1 ∙ add-one (from .position) ∙ sym (leaf-made M s .ends (from .position));
+  })
+
+  pub wrote-any : Says of i Any
       → Laid (flat (moveSteps M 0 (from .position))) old (from .at) new (to .at) × (to .position ≡ from .position + 1)
-      → Wrote M σ old from new to
+      → Wrote M (of i) old from new to
   unfolding steps end
-  wrote-any e x = rw e (record { laid = x .0; ends = x .1 ∙ add-one (from .position) })
+  wrote-any e x = rw (e .is) (record { laid = x .0; ends = x .1 ∙ add-one (from .position) })
 
-  pub wrote-seq : {σ a b : Program} {mid new : List ℕ} {x y : Cursor} → σ ≡ seq a b
-      → Wrote M a old from mid x → Wrote M b mid x new y → Wrote M σ old from new y
+  pub wrote-seq : {a b : ℕ} {mid : List ℕ} {x : Cursor} → Says of i (Seq a b)
+      → Wrote M (of a) old from mid x → Wrote M (of b) mid x new to → Wrote M (of i) old from new to
   unfolding steps end
-  wrote-seq {σ} {a} {b} {mid} {new} {x} {y} e u v =
-      let v′ : Laid (flat (steps M b (end a (from .position)))) mid (x .at) new (y .at) =
-      subst (λ (p : ℕ). Laid (flat (steps M b p)) mid (x .at) new (y .at)) (u .ends) (v .laid) in
-      rw e (record {
-        laid = rw (flat-append (steps M a (from .position)) (steps M b (end a (from .position)))) (laid-append (u .laid) v′);
-        ends = v .ends ∙ ap (end b) (u .ends);
+  wrote-seq {a} {b} e u w =
+      let n₁ : ℕ = end (of a) (from .position) in
+      let second = starts n₁ (u .ends) w in
+      rw (e .is) (record {
+        laid = rw (flat-append (steps M (of a) (from .position)) (steps M (of b) n₁)) (laid-append (u .laid) (second .0));
+        ends = second .1;
       })
 
--- the first part of a branch or of a loop
-module _ {M : ℕ} {old : List ℕ} (from : Cursor) {a : Program} {l₁ : List ℕ} {x : Cursor} (u : Wrote M a old (next from) l₁ x) where
-  abbrev n : ℕ
-  n = from .position
+module _ {M : ℕ} {of : ℕ → Program} {i : ℕ} {g : Guard} {a : ℕ} {old l₁ new : List ℕ} (from : Cursor) {x to : Cursor} where
+  pub wrote-branch : {b : ℕ} {l₂ : List ℕ} {y : Cursor} → Says of i (Branch g a b)
+      → Wrote M (of a) old (next from) l₁ x → Wrote M (of b) l₁ (next x) l₂ y
+      → Laid (flat (branchSteps (firstLabel g) (secondLabel g) (from .position) (x .position) (y .position))) l₂ (y .at) new (to .at)
+      × (to .position ≡ y .position + 1)
+      → Wrote M (of i) old from new to
+  wrote-branch {b} {l₂} {y} e u w z =
+      let n : ℕ = from .position in
+      let n₁ : ℕ = end (of a) (suc n) in
+      let s = branch-made M g (of a) (of b) in
+      let first = starts (suc n) (add-one n) u in
+      let second = starts (suc n₁) (add-one (x .position) ∙ ap suc (first .1)) w in
+      let own : Laid (flat (branchSteps (firstLabel g) (secondLabel g) n n₁ (end (of b) (suc n₁)))) l₂ (y .at) new (to .at) =
+      rw (← second .1, ← first .1) (z .0) in
+      rw (e .is) (record {
+        laid = rw (s .made n, flat-append (steps M (of a) (suc n) ++ steps M (of b) (suc n₁)) _, flat-append (steps M (of a) (suc n)) (steps M (of b) (suc n₁)))
+            (laid-append (laid-append (first .0) (second .0)) own);
+        ends = z .1 ∙ add-one (y .position) ∙ ap suc (second .1) ∙ sym (s .ends n);
+      })
 
-  abbrev n₁ : ℕ
-  n₁ = end a (suc n)
-
-  first-end : x .position ≡ n₁
-  first-end = u .ends ∙ ap (end a) (add-one n)
-
-  first-laid : Laid (flat (steps M a (suc n))) old (from .at) l₁ (x .at)
-  first-laid = subst (λ (k : ℕ). Laid (flat (steps M a k)) old (from .at) l₁ (x .at)) (add-one n) (u .laid)
-
-  pub wrote-branch : {σ b : Program} {y z : Label} {l₂ new : List ℕ} {v to : Cursor} → Branch M σ a b y z → Wrote M b l₁ (next x) l₂ v
-      → Laid (flat (branchSteps y z n (x .position) (v .position))) l₂ (v .at) new (to .at) × (to .position ≡ v .position + 1)
-      → Wrote M σ old from new to
-  wrote-branch {σ} {b} {y} {z} {l₂} {new} {v} {to} s w g =
-      let e : x .position + 1 ≡ suc n₁ = add-one (x .position) ∙ ap suc first-end in
-      let f : v .position ≡ end b (suc n₁) = w .ends ∙ ap (end b) e in
-      let w′ : Laid (flat (steps M b (suc n₁))) l₁ (x .at) l₂ (v .at) = subst (λ (k : ℕ). Laid (flat (steps M b k)) l₁ (x .at) l₂ (v .at)) e (w .laid) in
-      let g′ : Laid (flat (branchSteps y z n n₁ (end b (suc n₁)))) l₂ (v .at) new (to .at) =
-      subst (λ (k : ℕ). Laid (flat (branchSteps y z n n₁ k)) l₂ (v .at) new (to .at)) f
-      (subst (λ (k : ℕ). Laid (flat (branchSteps y z n k (v .position))) l₂ (v .at) new (to .at)) first-end (g .0)) in
-      record {
-        laid = rw (s .made n, flat-append (steps M a (suc n) ++ steps M b (suc n₁)) (branchSteps y z n n₁ (end b (suc n₁))), flat-append (steps M a (suc n)) (steps M b (suc n₁)))
-            (laid-append (laid-append first-laid w′) g′);
-        ends = g .1 ∙ add-one (v .position) ∙ ap suc f ∙ sym (s .ends n);
-      }
-
-  pub wrote-loop : {σ : Program} {glue : ℕ → ℕ → List Step} {new : List ℕ} {to : Cursor} → Loop M σ a glue
-      → Laid (flat (glue n (x .position))) l₁ (x .at) new (to .at) × (to .position ≡ x .position + 1)
-      → Wrote M σ old from new to
-  wrote-loop {σ} {glue} {new} {to} s g =
-      let g′ : Laid (flat (glue n n₁)) l₁ (x .at) new (to .at) = subst (λ (k : ℕ). Laid (flat (glue n k)) l₁ (x .at) new (to .at)) first-end (g .0) in
-      record {
-        laid = rw (s .made n, flat-append (steps M a (suc n)) (glue n n₁)) (laid-append first-laid g′);
-        ends = g .1 ∙ add-one (x .position) ∙ ap suc first-end ∙ sym (s .ends n);
-      }
+  pub wrote-loop : Says of i (Loop g a) → Wrote M (of a) old (next from) l₁ x
+      → Laid (flat (loopSteps g (from .position) (x .position))) l₁ (x .at) new (to .at) × (to .position ≡ x .position + 1)
+      → Wrote M (of i) old from new to
+  wrote-loop e u z =
+      let n : ℕ = from .position in
+      let s = loop-made M g (of a) in
+      let first = starts (suc n) (add-one n) u in
+      rw (e .is) (record {
+        laid = rw (s .made n, flat-append (steps M (of a) (suc n)) (loopSteps g n (end (of a) (suc n))), ← first .1) (laid-append (first .0) (z .0));
+        ends = z .1 ∙ add-one (x .position) ∙ ap suc (first .1) ∙ sym (s .ends n);
+      })

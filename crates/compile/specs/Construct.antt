@@ -1,29 +1,87 @@
--- What a program row says, for each case of the code's answer.
+-- What a program row says, by its shape, for each case of the code's answer.
 use Prim.Native.Nat.{ℕ, _<_}
+use mathlib.Core.Path.{_≡_}
+use mathlib.Core.List.{List, [], _∷_}
+use lib.ListN.{getD}
+use Rattle.job.specs.Job.{Row}
+use Rattle.semantics.specs.Label.{Label, noop, holds, fails, make}
 use Rattle.semantics.specs.Program.{Program, nil, move, any, test, seq, ifElse, choice, while, star}
+use Rattle.semantics.specs.CompilingTable.{Step, whileSteps, starSteps}
+use Rattle.compile.specs.declared.rows.Simple.{Simple}
+use Rattle.compile.specs.declared.rows.Simple.the-variants.{Nil, Move, Test}
+use Rattle.compile.specs.declared.rows.Guard.{Guard}
+use Rattle.compile.specs.declared.rows.Guard.the-variants.{Free, On}
 use Rattle.compile.specs.declared.rows.Construct.{Construct}
-use Rattle.compile.specs.declared.rows.Construct.the-variants.{Nil, Move, Any, Test, Seq, IfElse, Choice, While, Star}
+use Rattle.compile.specs.declared.rows.Construct.the-variants.{Leaf, Any, Seq, Branch, Loop}
+
+-- a program of one step, and the step's label
+abbrev pub simple : Simple → Program
+simple Nil = nil
+simple (Move a) = move a
+simple (Test a) = test a
+
+abbrev pub labelOf : Simple → Label
+labelOf Nil = noop
+labelOf (Move a) = make a
+labelOf (Test a) = holds a
+
+-- two branches, of which a formula's value names the one that is taken, or either is; a part that is repeated
+abbrev pub branch : Guard → Program → Program → Program
+branch Free a b = choice a b
+branch (On f) a b = ifElse f a b
+
+abbrev pub loop : Guard → Program → Program
+loop Free a = star a
+loop (On f) a = while f a
+
+-- the labels of the steps into the first branch or the part, and into the second branch or past the part
+abbrev pub firstLabel : Guard → Label
+firstLabel Free = noop
+firstLabel (On f) = holds f
+
+abbrev pub secondLabel : Guard → Label
+secondLabel Free = noop
+secondLabel (On f) = fails f
+
+-- the steps after the part that is repeated
+abbrev pub loopSteps : Guard → ℕ → ℕ → List Step
+loopSteps Free = starSteps
+loopSteps (On f) = whileSteps f
 
 -- the program of the row, where `of` gives the programs of the rows that it refers to
 abbrev pub programIn : (ℕ → Program) → Construct → Program
-programIn of Nil = nil
-programIn of (Move a) = move a
+programIn of (Leaf s) = simple s
 programIn of Any = any
-programIn of (Test a) = test a
 programIn of (Seq a b) = seq (of a) (of b)
-programIn of (IfElse a b c) = ifElse a (of b) (of c)
-programIn of (Choice a b) = choice (of a) (of b)
-programIn of (While a b) = while a (of b)
-programIn of (Star a) = star (of a)
+programIn of (Branch g a b) = branch g (of a) (of b)
+programIn of (Loop g a) = loop g (of a)
 
 -- it refers to rows before row i alone
 abbrev pub Earlier : ℕ → Construct → Type 0
-Earlier i Nil = Unit {0}
-Earlier i (Move a) = Unit {0}
+Earlier i (Leaf s) = Unit {0}
 Earlier i Any = Unit {0}
-Earlier i (Test a) = Unit {0}
 Earlier i (Seq a b) = (a < i) × (b < i)
-Earlier i (IfElse a b c) = (b < i) × (c < i)
-Earlier i (Choice a b) = (a < i) × (b < i)
-Earlier i (While a b) = b < i
-Earlier i (Star a) = a < i
+Earlier i (Branch g a b) = (a < i) × (b < i)
+Earlier i (Loop g a) = a < i
+
+-- row i says this, where `of` gives the programs of the rows
+pub record Says (of : ℕ → Program) (i : ℕ) (r : Construct) : Type 0 where
+  pub is : of i ≡ programIn of r
+  pub earlier : Earlier i r
+
+-- what a row says, by its kind, in the order of the compiling table's `kinds`
+abbrev pub constructs : Row → List Construct
+constructs r =
+    Leaf Nil
+    ∷ Leaf (Move (r .a))
+    ∷ Any
+    ∷ Leaf (Test (r .a))
+    ∷ Seq (r .a) (r .b)
+    ∷ Branch (On (r .a)) (r .b) (r .c)
+    ∷ Branch Free (r .a) (r .b)
+    ∷ Loop (On (r .a)) (r .b)
+    ∷ Loop Free (r .a)
+    ∷ []
+
+abbrev pub constructOf : Row → Construct
+constructOf r = getD (constructs r) (r .kind) (Leaf Nil)

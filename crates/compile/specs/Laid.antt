@@ -5,10 +5,22 @@ use mathlib.Core.List.{List}
 use lib.ListN.{length}
 use lib.Seq.{sets}
 use Rattle.limits.specs.Limits.{mostPositions}
+use Rattle.semantics.specs.Label as L
 use Rattle.semantics.specs.Program.{Program}
-use Rattle.semantics.specs.CompilingTable.{end, steps, flat}
-use Rattle.compile.specs.Size.{size, positionWeights, stepWeights}
+use Rattle.semantics.specs.CompilingTable.{end, steps, flat, kindOf, argOf}
+use Rattle.compile.specs.Construct.{firstLabel, secondLabel}
+use Rattle.compile.specs.Size.{sizesOf}
+use Rattle.compile.specs.declared.rows.Guard.{Guard}
 use Rattle.compile.specs.declared.steps.Cursor.{Cursor}
+use Rattle.compile.specs.declared.steps.Label.{Label}
+use Rattle.compile.specs.declared.steps.Labels.{Labels}
+
+-- a label in the list, and those of two ways
+abbrev pub labelNumbers : L.Label → Label
+labelNumbers l = record { kind = kindOf l; arg = argOf l }
+
+abbrev pub guardNumbers : Guard → Labels
+guardNumbers g = record { first = kindOf (firstLabel g); second = kindOf (secondLabel g); arg = argOf (firstLabel g) }
 
 -- v over the list from a place on; then comes the next place
 pub record Laid (v old : List ℕ) (at : ℕ) (new : List ℕ) (next : ℕ) : Type 0 where
@@ -22,5 +34,5 @@ pub record Wrote (moves : ℕ) (σ : Program) (old : List ℕ) (from : Cursor) (
 
 -- there are positions and places left for all of them
 pub record Enough (moves : ℕ) (σ : Program) (from : Cursor) (places : ℕ) : Type 0 where
-  pub positions : from .position + size positionWeights σ < mostPositions
-  pub room : from .at + size (stepWeights moves) σ * 4 ≤ places
+  pub positions : from .position + sizesOf moves σ .positions < mostPositions
+  pub room : from .at + sizesOf moves σ .steps * 4 ≤ places

@@ -1,24 +1,27 @@
 -- The program of a job's rows, row by row: "A row refers only to earlier rows of its own sort; one row may be used several times."
 use Prim.Native.Nat.{ℕ, _-_}
-use mathlib.Core.Bool.{cond}
 use mathlib.Core.List.{List, [], _∷_, _++_, foldl}
-use lib.Dec.{eqb}
 use lib.ListN.{length, getD}
 use Rattle.job.specs.Job.{Job, Row}
 use Rattle.semantics.specs.Program.{Program, nil, move, any, test, seq, ifElse, choice, while, star}
 
--- a row over the programs of the rows before it, by its kind as in the compiling table
+-- a row by its kind as in the compiling table, where `of` gives the programs of the rows that it refers to
+abbrev pub kinds : (ℕ → Program) → Row → List Program
+kinds of r =
+    nil  -- 0
+    ∷ move (r .a)  -- 1
+    ∷ any  -- 2
+    ∷ test (r .a)  -- 3
+    ∷ seq (of (r .a)) (of (r .b))  -- 4
+    ∷ ifElse (r .a) (of (r .b)) (of (r .c))  -- 5
+    ∷ choice (of (r .a)) (of (r .b))  -- 6
+    ∷ while (r .a) (of (r .b))  -- 7
+    ∷ star (of (r .a))  -- 8
+    ∷ []
+
+-- a row over the programs of the rows before it
 unfoldable pub build : List Program → Row → Program
-build ps r =
-    cond (eqb (r .kind) 0) nil
-    (cond (eqb (r .kind) 1) (move (r .a))
-    (cond (eqb (r .kind) 2) any
-    (cond (eqb (r .kind) 3) (test (r .a))
-    (cond (eqb (r .kind) 4) (seq (getD ps (r .a) nil) (getD ps (r .b) nil))
-    (cond (eqb (r .kind) 5) (ifElse (r .a) (getD ps (r .b) nil) (getD ps (r .c) nil))
-    (cond (eqb (r .kind) 6) (choice (getD ps (r .a) nil) (getD ps (r .b) nil))
-    (cond (eqb (r .kind) 7) (while (r .a) (getD ps (r .b) nil))
-    (star (getD ps (r .a) nil)))))))))
+build ps r = getD (kinds (λ i. getD ps i nil) r) (r .kind) nil
 
 unfoldable pub programs : List Row → List Program
 programs program = foldl (λ ps r. ps ++ (build ps r ∷ [])) [] program

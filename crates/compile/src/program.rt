@@ -14,17 +14,6 @@ use crate::rows::Construct;
 use crate::steps::Cursor;
 use job::head::Head;
 
-// A cursor at the position after another's.
-fn behind(from: Cursor) -> Cursor
-    requires { ⌜ from .position < 65535 ⌝ }
-    ensures { λ r. ⌜ r ≡ record { position = from .position + 1; at = from .at } ⌝ }
-{
-    Cursor {
-        position: from.position + 1,
-        at: from.at,
-    }
-}
-
 // Writes the steps of row i, compiled from the cursor's position, at its place in the list.
 fn compile_row(head: Head, rows: &[u16], i: u16, list: &mut [u16], from: Cursor) -> Cursor
     requires { ⌜ Stored head (now rows) ⌝ }
@@ -34,33 +23,30 @@ fn compile_row(head: Head, rows: &[u16], i: u16, list: &mut [u16], from: Cursor)
 {
     let construct = crate::rows::construct_at(head, rows, i);
     let n = from.position;
-    let inner = behind(from);
+    let inner = Cursor {
+        position: n + 1,
+        at: from.at,
+    };
     match construct {
-        Construct::Nil => crate::steps::leaf_step(list, from, 0, 0),
-        Construct::Move(a) => crate::steps::leaf_step(list, from, 3, a),
+        Construct::Leaf(simple) => crate::steps::leaf_step(list, from, simple),
         Construct::Any => crate::steps::any_steps(list, from, head.counts.moves),
-        Construct::Test(a) => crate::steps::leaf_step(list, from, 1, a),
         Construct::Seq(a, b) => {
             let x = compile_row(head, rows, a, list, from);
             compile_row(head, rows, b, list, x)
         }
-        Construct::IfElse(a, b, c) => {
-            let x = compile_row(head, rows, b, list, inner);
-            let y = compile_row(head, rows, c, list, behind(x));
-            crate::steps::if_steps(list, y.at, n, x.position, y.position, a)
-        }
-        Construct::Choice(a, b) => {
+        Construct::Branch(guard, a, b) => {
             let x = compile_row(head, rows, a, list, inner);
-            let y = compile_row(head, rows, b, list, behind(x));
-            crate::steps::choice_steps(list, y.at, n, x.position, y.position)
+            let p = x.position;
+            let second = Cursor {
+                position: p + 1,
+                at: x.at,
+            };
+            let y = compile_row(head, rows, b, list, second);
+            crate::steps::branch_steps(list, y.at, n, p, y.position, guard)
         }
-        Construct::While(a, b) => {
-            let body = compile_row(head, rows, b, list, inner);
-            crate::steps::while_steps(list, body.at, n, body.position, a)
-        }
-        Construct::Star(a) => {
-            let body = compile_row(head, rows, a, list, inner);
-            crate::steps::star_steps(list, body.at, n, body.position)
+        Construct::Loop(guard, a) => {
+            let x = compile_row(head, rows, a, list, inner);
+            crate::steps::loop_steps(list, x.at, n, x.position, guard)
         }
     }
 }

@@ -1,42 +1,59 @@
 // Program rows of a job.
 ghost use mathlib.Core.Path.{_≡_};
 ghost use Prim.Native.Nat.{_<_};
-ghost use Rattle.job.specs.Store.{jobOf};
+ghost use Rattle.job.specs.Store.{jobOf, rowIn};
 ghost use Rattle.job.specs.Stored.{Stored};
 ghost use Rattle.compile.specs.Program.{rowProgram};
-ghost use Rattle.compile.specs.Construct.{programIn, Earlier};
+ghost use Rattle.compile.specs.Construct.{constructOf, Says};
 use job::head::Head;
+use job::stored::ProgramRow;
 
-// What a row says, with the moves, formulas and rows that it refers to.
-pub enum Construct {
+// A row of one step.
+pub enum Simple {
     Nil,
     Move(u16),
-    Any,
     Test(u16),
+}
+
+// Which of two ways is taken: either, or the first where a formula holds and the second where it fails.
+pub enum Guard {
+    Free,
+    On(u16),
+}
+
+// The shape of a row, with the rows that it refers to.
+pub enum Construct {
+    Leaf(Simple),
+    Any,
     Seq(u16, u16),
-    IfElse(u16, u16, u16),
-    Choice(u16, u16),
-    While(u16, u16),
-    Star(u16),
+    Branch(Guard, u16, u16),
+    Loop(Guard, u16),
+}
+
+// What a row says, by its kind.
+fn construct_of(row: ProgramRow) -> Construct
+    ensures { λ r. ⌜ r ≡ constructOf (rowIn row) ⌝ }
+{
+    let kind = row.kind;
+    match kind {
+        0 => Construct::Leaf(Simple::Nil),
+        1 => Construct::Leaf(Simple::Move(row.a)),
+        2 => Construct::Any,
+        3 => Construct::Leaf(Simple::Test(row.a)),
+        4 => Construct::Seq(row.a, row.b),
+        5 => Construct::Branch(Guard::On(row.a), row.b, row.c),
+        6 => Construct::Branch(Guard::Free, row.a, row.b),
+        7 => Construct::Loop(Guard::On(row.a), row.b),
+        8 => Construct::Loop(Guard::Free, row.a),
+        _ => Construct::Leaf(Simple::Nil), // no row is of another kind
+    }
 }
 
 // Row i of the job's program.
 pub fn construct_at(head: Head, rows: &[u16], i: u16) -> Construct
     requires { ⌜ Stored head (now rows) ⌝ }
     requires { ⌜ i < head .counts .program ⌝ }
-    ensures { λ r. ⌜ (rowProgram (jobOf head (now (rows .entry)) .program) i ≡ programIn (rowProgram (jobOf head (now (rows .entry)) .program)) r) × Earlier i r ⌝ }
+    ensures { λ r. ⌜ Says (rowProgram (jobOf head (now (rows .entry)) .program)) i r ⌝ }
 {
-    let row = job::stored::program_row_at(head, rows, i);
-    let kind = row.kind;
-    match kind {
-        0 => Construct::Nil,
-        1 => Construct::Move(row.a),
-        2 => Construct::Any,
-        3 => Construct::Test(row.a),
-        4 => Construct::Seq(row.a, row.b),
-        5 => Construct::IfElse(row.a, row.b, row.c),
-        6 => Construct::Choice(row.a, row.b),
-        7 => Construct::While(row.a, row.b),
-        _ => Construct::Star(row.a),
-    }
+    construct_of(job::stored::program_row_at(head, rows, i))
 }

@@ -4,9 +4,8 @@ ghost use Prim.Native.Nat.{_+_, _-_, _<_};
 ghost use lib.ListN.{getD};
 ghost use Rattle.job.specs.Store.{jobOf};
 ghost use Rattle.job.specs.Stored.{Stored};
-ghost use Rattle.compile.specs.Program.{programOf};
 ghost use Rattle.compile.specs.CompiledJob.{positionCount, stepCount};
-ghost use Rattle.compile.specs.Size.{size, capped as cap, sizeIn};
+ghost use Rattle.compile.specs.Size.{sizesSum, sizesIn, capped as cap, cappedSizes, listed};
 use crate::rows::Construct;
 use job::head::Head;
 use limits::PROGRAM;
@@ -17,12 +16,16 @@ const CAP: usize = STEPS + 1;
 
 const PROGRAM_ROWS: usize = PROGRAM as usize;
 
-// What an `any` row counts, and what a row of two branches and one that repeats its part add.
-pub struct Weights {
-    pub any: u16,
-    pub branch: u16,
-    pub repeat: u16,
+// How many positions and steps a job's program has, or one of its rows adds.
+pub struct Sizes {
+    pub positions: u16,
+    pub steps: u16,
 }
+
+const NOTHING: Sizes = Sizes {
+    positions: 0,
+    steps: 0,
+};
 
 // A sum of three, capped.
 fn capped(x: u16, y: u16, z: u16) -> u16
@@ -33,6 +36,16 @@ fn capped(x: u16, y: u16, z: u16) -> u16
         return s as u16;
     }
     CAP as u16
+}
+
+// The sizes of two parts, and so many positions and steps more, capped.
+fn capped_sum(x: Sizes, y: Sizes, positions: u16, steps: u16) -> Sizes
+    ensures { λ r. ⌜ r ≡ cappedSizes (sizesSum x y positions steps) ⌝ }
+{
+    Sizes {
+        positions: capped(x.positions, y.positions, positions),
+        steps: capped(x.steps, y.steps, steps),
+    }
 }
 
 // The entry at an index; 0 where there is none.
@@ -46,64 +59,56 @@ fn entry(sizes: &[u16], a: u16) -> u16
     0
 }
 
-// The size of a row, from those of the rows that it refers to.
-fn construct_size(construct: Construct, sizes: &[u16], w: Weights) -> u16
-    ensures { λ r. ⌜ r ≡ sizeIn w (now (sizes .entry)) construct ⌝ }
+// The sizes of row a.
+fn sizes_at(positions: &[u16], steps: &[u16], a: u16) -> Sizes
+    ensures { λ r. ⌜ r ≡ listed (now (positions .entry)) (now (steps .entry)) a ⌝ }
+{
+    Sizes {
+        positions: entry(positions, a),
+        steps: entry(steps, a),
+    }
+}
+
+// The sizes of a row, from those of the rows that it refers to.
+fn construct_sizes(construct: Construct, positions: &[u16], steps: &[u16], moves: u16) -> Sizes
+    ensures { λ r. ⌜ r ≡ cappedSizes (sizesIn moves (listed (now (positions .entry)) (now (steps .entry))) construct) ⌝ }
 {
     match construct {
-        Construct::Nil => 1,
-        Construct::Move(_) => 1,
-        Construct::Any => capped(w.any, 0, 0),
-        Construct::Test(_) => 1,
-        Construct::Seq(a, b) => capped(entry(sizes, a), entry(sizes, b), 0),
-        Construct::IfElse(_, b, c) => capped(entry(sizes, b), entry(sizes, c), w.branch),
-        Construct::Choice(a, b) => capped(entry(sizes, a), entry(sizes, b), w.branch),
-        Construct::While(_, b) => capped(entry(sizes, b), 0, w.repeat),
-        Construct::Star(a) => capped(entry(sizes, a), 0, w.repeat),
+        Construct::Leaf(_) => capped_sum(NOTHING, NOTHING, 1, 1),
+        Construct::Any => capped_sum(NOTHING, NOTHING, 1, moves),
+        Construct::Seq(a, b) => {
+            let x = sizes_at(positions, steps, a);
+            capped_sum(x, sizes_at(positions, steps, b), 0, 0)
+        }
+        Construct::Branch(_, a, b) => {
+            let x = sizes_at(positions, steps, a);
+            capped_sum(x, sizes_at(positions, steps, b), 3, 4)
+        }
+        Construct::Loop(_, a) => capped_sum(sizes_at(positions, steps, a), NOTHING, 2, 3),
     }
 }
 
-// The size of the job's program, which is its last row.
-fn program_size(head: Head, rows: &[u16], w: Weights) -> u16
-    requires { ⌜ Stored head (now rows) ⌝ }
-    ensures { λ r. ⌜ r ≡ cap (size w (programOf (jobOf head (now (rows .entry))))) ⌝ }
-{
-    let n = head.counts.program;
-    let mut sizes = [0u16; PROGRAM_ROWS];
-    let mut i: u16 = 0;
-    while i < n {
-        let construct = crate::rows::construct_at(head, rows, i);
-        let s = construct_size(construct, &sizes, w);
-        let k = i as usize;
-        sizes[k] = s;
-        i += 1;
-    }
-    entry(&sizes, n - 1)
-}
-
-// How many positions and steps a job's program has.
-pub struct Sizes {
-    pub positions: u16,
-    pub steps: u16,
-}
-
-// The sizes of the compiled job, capped.
+// The sizes of the compiled job, capped: its program is the last row, and has one position more than it adds.
 pub fn measure(head: Head, rows: &[u16]) -> Sizes
     requires { ⌜ Stored head (now rows) ⌝ }
     ensures { λ r. ⌜ (r .positions ≡ cap (positionCount (jobOf head (now (rows .entry))))) × (r .steps ≡ cap (stepCount (jobOf head (now (rows .entry))))) ⌝ }
 {
-    let positions = Weights {
-        any: 1,
-        branch: 3,
-        repeat: 2,
-    };
-    let steps = Weights {
-        any: head.counts.moves,
-        branch: 4,
-        repeat: 3,
-    };
+    let n = head.counts.program;
+    let moves = head.counts.moves;
+    let mut positions = [0u16; PROGRAM_ROWS];
+    let mut steps = [0u16; PROGRAM_ROWS];
+    let mut i: u16 = 0;
+    while i < n {
+        let construct = crate::rows::construct_at(head, rows, i);
+        let s = construct_sizes(construct, &positions, &steps, moves);
+        let k = i as usize;
+        positions[k] = s.positions;
+        steps[k] = s.steps;
+        i += 1;
+    }
+    let last = n - 1;
     Sizes {
-        positions: capped(program_size(head, rows, positions), 1, 0),
-        steps: program_size(head, rows, steps),
+        positions: capped(entry(&positions, last), 1, 0),
+        steps: entry(&steps, last),
     }
 }

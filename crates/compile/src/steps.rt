@@ -3,9 +3,11 @@ ghost use mathlib.Core.Path.{_≡_};
 ghost use mathlib.Core.List.{[], _∷_};
 ghost use Prim.Native.Nat.{_+_, _*_, _≤_, _<_};
 ghost use lib.ListN.{length};
-ghost use Rattle.semantics.specs.Label.{noop, holds, fails};
-ghost use Rattle.semantics.specs.CompilingTable.{flat, moveSteps, branchSteps, whileSteps, starSteps};
-ghost use Rattle.compile.specs.Laid.{Laid};
+ghost use Rattle.semantics.specs.CompilingTable.{arc, flat, moveSteps, branchSteps, whileSteps, starSteps};
+ghost use Rattle.compile.specs.Construct.{labelOf, firstLabel, secondLabel, loopSteps};
+ghost use Rattle.compile.specs.Laid.{labelNumbers, guardNumbers, Laid};
+use crate::rows::Guard;
+use crate::rows::Simple;
 
 // From which position the next part is compiled, and where in the list its steps begin.
 pub struct Cursor {
@@ -24,13 +26,54 @@ fn put_step(list: &mut [u16], at: usize, kind: u16, from: u16, to: u16, arg: u16
     at + 4
 }
 
+// What a step is taken under: its kind and argument.
+pub struct Label {
+    pub kind: u16,
+    pub arg: u16,
+}
+
+fn leaf_label(simple: Simple) -> Label
+    ensures { λ r. ⌜ r ≡ labelNumbers (labelOf simple) ⌝ }
+{
+    match simple {
+        Simple::Nil => Label { kind: 0, arg: 0 },
+        Simple::Move(a) => Label { kind: 3, arg: a },
+        Simple::Test(a) => Label { kind: 1, arg: a },
+    }
+}
+
+// The labels of the two ways: their kinds, and the argument of both.
+pub struct Labels {
+    pub first: u16,
+    pub second: u16,
+    pub arg: u16,
+}
+
+fn guard_labels(guard: Guard) -> Labels
+    ensures { λ r. ⌜ r ≡ guardNumbers guard ⌝ }
+{
+    match guard {
+        Guard::Free => Labels {
+            first: 0,
+            second: 0,
+            arg: 0,
+        },
+        Guard::On(a) => Labels {
+            first: 1,
+            second: 2,
+            arg: a,
+        },
+    }
+}
+
 // One step to the next position.
-pub fn leaf_step(list: &mut [u16], from: Cursor, kind: u16, arg: u16) -> Cursor
+pub fn leaf_step(list: &mut [u16], from: Cursor, simple: Simple) -> Cursor
     requires { ⌜ (from .at + 4 ≤ length (now list)) × (from .position < 65535) ⌝ }
-    ensures { λ r. ⌜ Laid (kind ∷ from .position ∷ (from .position + 1) ∷ arg ∷ []) (now (list .entry)) (from .at) (now (list .exit)) (r .at) × (r .position ≡ from .position + 1) ⌝ }
+    ensures { λ r. ⌜ Laid (flat (arc (labelOf simple) (from .position) (from .position + 1) ∷ [])) (now (list .entry)) (from .at) (now (list .exit)) (r .at) × (r .position ≡ from .position + 1) ⌝ }
 {
     let n = from.position;
-    let next = put_step(list, from.at, kind, n, n + 1, arg);
+    let x = leaf_label(simple);
+    let next = put_step(list, from.at, x.kind, n, n + 1, x.arg);
     Cursor {
         position: n + 1,
         at: next,
@@ -55,22 +98,14 @@ pub fn any_steps(list: &mut [u16], from: Cursor, moves: u16) -> Cursor
     }
 }
 
-// The steps after two branches, which end at p and at q: entered by steps of kinds x and y with an argument.
-fn branch_steps(
-    list: &mut [u16],
-    at: usize,
-    n: u16,
-    p: u16,
-    q: u16,
-    x: u16,
-    y: u16,
-    arg: u16,
-) -> Cursor
+// The steps after two branches, which end at p and at q.
+pub fn branch_steps(list: &mut [u16], at: usize, n: u16, p: u16, q: u16, guard: Guard) -> Cursor
     requires { ⌜ (at + 16 ≤ length (now list)) × (n < 65535) × (p < 65535) × (q < 65535) ⌝ }
-    ensures { λ r. ⌜ Laid (x ∷ n ∷ (n + 1) ∷ arg ∷ y ∷ n ∷ (p + 1) ∷ arg ∷ 0 ∷ p ∷ (q + 1) ∷ 0 ∷ 0 ∷ q ∷ (q + 1) ∷ 0 ∷ []) (now (list .entry)) at (now (list .exit)) (r .at) × (r .position ≡ q + 1) ⌝ }
+    ensures { λ r. ⌜ Laid (flat (branchSteps (firstLabel guard) (secondLabel guard) n p q)) (now (list .entry)) at (now (list .exit)) (r .at) × (r .position ≡ q + 1) ⌝ }
 {
-    let at1 = put_step(list, at, x, n, n + 1, arg);
-    let at2 = put_step(list, at1, y, n, p + 1, arg);
+    let x = guard_labels(guard);
+    let at1 = put_step(list, at, x.first, n, n + 1, x.arg);
+    let at2 = put_step(list, at1, x.second, n, p + 1, x.arg);
     let at3 = put_step(list, at2, 0, p, q + 1, 0);
     let at4 = put_step(list, at3, 0, q, q + 1, 0);
     Cursor {
@@ -79,24 +114,8 @@ fn branch_steps(
     }
 }
 
-// The steps of an if after its branches.
-pub fn if_steps(list: &mut [u16], at: usize, n: u16, p: u16, q: u16, a: u16) -> Cursor
-    requires { ⌜ (at + 16 ≤ length (now list)) × (n < 65535) × (p < 65535) × (q < 65535) ⌝ }
-    ensures { λ r. ⌜ Laid (flat (branchSteps (holds a) (fails a) n p q)) (now (list .entry)) at (now (list .exit)) (r .at) × (r .position ≡ q + 1) ⌝ }
-{
-    branch_steps(list, at, n, p, q, 1, 2, a)
-}
-
-// The steps of a choice after its branches.
-pub fn choice_steps(list: &mut [u16], at: usize, n: u16, p: u16, q: u16) -> Cursor
-    requires { ⌜ (at + 16 ≤ length (now list)) × (n < 65535) × (p < 65535) × (q < 65535) ⌝ }
-    ensures { λ r. ⌜ Laid (flat (branchSteps noop noop n p q)) (now (list .entry)) at (now (list .exit)) (r .at) × (r .position ≡ q + 1) ⌝ }
-{
-    branch_steps(list, at, n, p, q, 0, 0, 0)
-}
-
 // The steps of a while after its body, which ends at p.
-pub fn while_steps(list: &mut [u16], at: usize, n: u16, p: u16, a: u16) -> Cursor
+fn while_steps(list: &mut [u16], at: usize, n: u16, p: u16, a: u16) -> Cursor
     requires { ⌜ (at + 12 ≤ length (now list)) × (n < 65535) × (p < 65535) ⌝ }
     ensures { λ r. ⌜ Laid (flat (whileSteps a n p)) (now (list .entry)) at (now (list .exit)) (r .at) × (r .position ≡ p + 1) ⌝ }
 {
@@ -110,7 +129,7 @@ pub fn while_steps(list: &mut [u16], at: usize, n: u16, p: u16, a: u16) -> Curso
 }
 
 // The steps of a star after its body, which ends at p.
-pub fn star_steps(list: &mut [u16], at: usize, n: u16, p: u16) -> Cursor
+fn star_steps(list: &mut [u16], at: usize, n: u16, p: u16) -> Cursor
     requires { ⌜ (at + 12 ≤ length (now list)) × (n < 65535) × (p < 65535) ⌝ }
     ensures { λ r. ⌜ Laid (flat (starSteps n p)) (now (list .entry)) at (now (list .exit)) (r .at) × (r .position ≡ p + 1) ⌝ }
 {
@@ -120,5 +139,16 @@ pub fn star_steps(list: &mut [u16], at: usize, n: u16, p: u16) -> Cursor
     Cursor {
         position: p + 1,
         at: at3,
+    }
+}
+
+// The steps of a loop after its part, which ends at p.
+pub fn loop_steps(list: &mut [u16], at: usize, n: u16, p: u16, guard: Guard) -> Cursor
+    requires { ⌜ (at + 12 ≤ length (now list)) × (n < 65535) × (p < 65535) ⌝ }
+    ensures { λ r. ⌜ Laid (flat (loopSteps guard n p)) (now (list .entry)) at (now (list .exit)) (r .at) × (r .position ≡ p + 1) ⌝ }
+{
+    match guard {
+        Guard::Free => star_steps(list, at, n, p),
+        Guard::On(a) => while_steps(list, at, n, p, a),
     }
 }

@@ -1,20 +1,22 @@
 -- Laws of right rows: their fields, and the effects of a move.
 -- Assumes nothing.
 use Prim.Native.Nat.{ℕ, zero, suc, _+_, _≤_, _<_}
-use mathlib.Core.Path.{_≡_}
-use mathlib.Core.Bool.{true}
-use mathlib.Core.List.{List, [], _∷_}
+use mathlib.Core.Path.{_≡_, refl}
+use mathlib.Core.Bool.{true, _&&_, and-true}
+use mathlib.Core.List.{List, [], _∷_, _++_, map}
 use native.Mathlib.Omega.{arith}
 use native.Mathlib.Decide.{decLt}
 use lib.Dec.{ltb}
 use lib.ListN.{length, getD, List·getD-eq-default}
 use borrow.Author.Tests.{ltb-true}
 use Rattle.laws.proofs.Tests.{never, and-left, and-right}
+use Rattle.laws.proofs.Tables.{pair-at}
 use Rattle.job.specs.Job as J
-use Rattle.job.specs.Fields.{bound, within, Within}
+use Rattle.job.specs.Fields.{bound, formulaFields, within, Within}
 use Rattle.job.specs.WellFormed.{Tiled}
 use Rattle.job.specs.declared.head.Counts.{Counts}
 use Rattle.job.specs.declared.fields.Field.{Field}
+use Rattle.job.specs.declared.fields.Field.the-variants.{Unused}
 
 -- the test of fields is their statement
 pub within-true : (c : Counts) (fs : List Field) (xs : List ℕ) → within c fs xs ≡ true → Within c fs xs
@@ -23,6 +25,25 @@ within-true c [] (x ∷ xs) e = never e
 within-true c (f ∷ fs) [] e = never e
 within-true c (f ∷ fs) (x ∷ xs) e =
     (ltb-true x (bound c f) (and-left (ltb x (bound c f)) (within c fs xs) e), within-true c fs xs (and-right (ltb x (bound c f)) (within c fs xs) e))
+
+-- three fields, one after another
+pub three-fields : (c : Counts) (fs : List Field) (x y z : ℕ) → length fs ≡ 3
+    → within c fs (x ∷ y ∷ z ∷ [])
+    ≡ (ltb x (bound c (getD fs 0 Unused)) && (ltb y (bound c (getD fs 1 Unused)) && ltb z (bound c (getD fs 2 Unused))))
+three-fields c [] x y z e = absurd (omega arith)
+three-fields c (f ∷ []) x y z e = absurd (omega arith)
+three-fields c (f ∷ g ∷ []) x y z e = absurd (omega arith)
+three-fields c (f ∷ g ∷ h ∷ []) x y z e = rw and-true
+three-fields c (f ∷ g ∷ h ∷ i ∷ fs) x y z e = absurd (omega arith)
+
+-- a formula has no third field
+abbrev threeFields : List (List Field)
+threeFields = map (λ fs. fs ++ (Unused ∷ [])) formulaFields
+
+pub third-unused : (c : Counts) (x y k : ℕ) → k < length formulaFields
+    → within c (getD threeFields k []) (x ∷ y ∷ 0 ∷ []) ≡ within c (getD formulaFields k []) (x ∷ y ∷ [])
+third-unused c x y = pair-at (λ fs gs. within c fs (x ∷ y ∷ 0 ∷ []) ≡ within c gs (x ∷ y ∷ [])) [] [] threeFields formulaFields
+    (refl, (refl, (refl, (refl, (refl, (refl, tt))))))
 
 -- a kind whose fields hold something is in the table
 pub kind-listed : (c : Counts) (kinds : List (List Field)) (kind x : ℕ) (xs : List ℕ) → Within c (getD kinds kind []) (x ∷ xs) → kind < length kinds

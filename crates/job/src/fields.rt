@@ -16,11 +16,28 @@ pub enum Field {
     Row,
 }
 
-pub struct Fields {
-    pub a: Field,
-    pub b: Field,
-    pub c: Field,
-}
+// a, b and c of a formula, by its kind; it has no c.
+const FORMULA_FIELDS: [[Field; 3]; 6] = [
+    [Field::Unused, Field::Unused, Field::Unused], // false
+    [Field::Unused, Field::Unused, Field::Unused], // true
+    [Field::Fact, Field::Unused, Field::Unused], // fact a
+    [Field::Formula, Field::Unused, Field::Unused], // not formula a
+    [Field::Formula, Field::Formula, Field::Unused], // formulas a and b
+    [Field::Formula, Field::Formula, Field::Unused], // a or b
+];
+
+// a, b and c of a program row, by its kind.
+const ROW_FIELDS: [[Field; 3]; 9] = [
+    [Field::Unused, Field::Unused, Field::Unused], // nil
+    [Field::Move, Field::Unused, Field::Unused], // move a
+    [Field::Unused, Field::Unused, Field::Unused], // any
+    [Field::Formula, Field::Unused, Field::Unused], // test a
+    [Field::Row, Field::Row, Field::Unused], // a then b
+    [Field::Formula, Field::Row, Field::Row], // if a then b else c
+    [Field::Row, Field::Row, Field::Unused], // a or b
+    [Field::Formula, Field::Row, Field::Unused], // while a do b
+    [Field::Row, Field::Unused, Field::Unused], // star of a
+];
 
 // A field is below this number.
 fn bound(f: Field, counts: Counts) -> u16
@@ -35,58 +52,26 @@ fn bound(f: Field, counts: Counts) -> u16
     }
 }
 
-// The fields of a formula of this kind; it has no c.
-fn formula_fields(kind: u16) -> Fields
-    requires { ⌜ kind < 6 ⌝ }
-    ensures { λ r. ⌜ getD formulaFields kind [] ≡ r .a ∷ r .b ∷ [] ⌝ }
+// Whether three numbers are below the bounds of their fields.
+fn right(fields: [Field; 3], a: u16, b: u16, c: u16, counts: Counts) -> bool
+    ensures { λ r. ⌜ r ≡ within counts fields (a ∷ b ∷ c ∷ []) ⌝ }
 {
-    match kind {
-        0 => listed(Field::Unused, Field::Unused, Field::Unused), // false
-        1 => listed(Field::Unused, Field::Unused, Field::Unused), // true
-        2 => listed(Field::Fact, Field::Unused, Field::Unused), // fact a
-        3 => listed(Field::Formula, Field::Unused, Field::Unused), // not formula a
-        4 => listed(Field::Formula, Field::Formula, Field::Unused), // formulas a and b
-        _ => listed(Field::Formula, Field::Formula, Field::Unused), // a or b
-    }
-}
-
-// The fields of a program row of this kind.
-fn row_fields(kind: u16) -> Fields
-    requires { ⌜ kind < 9 ⌝ }
-    ensures { λ r. ⌜ getD rowFields kind [] ≡ r .a ∷ r .b ∷ r .c ∷ [] ⌝ }
-{
-    match kind {
-        0 => listed(Field::Unused, Field::Unused, Field::Unused), // nil
-        1 => listed(Field::Move, Field::Unused, Field::Unused), // move a
-        2 => listed(Field::Unused, Field::Unused, Field::Unused), // any
-        3 => listed(Field::Formula, Field::Unused, Field::Unused), // test a
-        4 => listed(Field::Row, Field::Row, Field::Unused), // a then b
-        5 => listed(Field::Formula, Field::Row, Field::Row), // if a then b else c
-        6 => listed(Field::Row, Field::Row, Field::Unused), // a or b
-        7 => listed(Field::Formula, Field::Row, Field::Unused), // while a do b
-        _ => listed(Field::Row, Field::Unused, Field::Unused), // star of a
-    }
-}
-
-fn listed(a: Field, b: Field, c: Field) -> Fields
-    ensures { λ r. ⌜ (r .a ≡ a) × (r .b ≡ b) × (r .c ≡ c) ⌝ }
-{
-    Fields { a: a, b: b, c: c }
+    let fa = fields[0];
+    let fb = fields[1];
+    let fc = fields[2];
+    let right_a = a < bound(fa, counts);
+    let right_b = b < bound(fb, counts);
+    let right_c = c < bound(fc, counts);
+    right_a & (right_b & right_c)
 }
 
 // Whether a formula refers to facts and earlier formulas alone: its numbers are kind, a and b.
 pub fn formula_right(numbers: [u16; WIDTH], counts: Counts) -> bool
     ensures { λ r. ⌜ r ≡ within counts (getD formulaFields (getD numbers 0 0) []) (getD numbers 1 0 ∷ getD numbers 2 0 ∷ []) ⌝ }
 {
-    let kind = numbers[0];
-    if 5 < kind {
-        return false;
-    }
-    let f = formula_fields(kind);
-    let fa = f.a;
-    let fb = f.b;
-    if numbers[1] < bound(fa, counts) {
-        return numbers[2] < bound(fb, counts);
+    let kind = numbers[0] as usize;
+    if kind < FORMULA_FIELDS.len() {
+        return right(FORMULA_FIELDS[kind], numbers[1], numbers[2], 0, counts);
     }
     false
 }
@@ -95,19 +80,9 @@ pub fn formula_right(numbers: [u16; WIDTH], counts: Counts) -> bool
 pub fn row_right(numbers: [u16; WIDTH], counts: Counts) -> bool
     ensures { λ r. ⌜ r ≡ within counts (getD rowFields (getD numbers 0 0) []) (getD numbers 1 0 ∷ getD numbers 2 0 ∷ getD numbers 3 0 ∷ []) ⌝ }
 {
-    let kind = numbers[0];
-    if 8 < kind {
-        return false;
-    }
-    let f = row_fields(kind);
-    let fa = f.a;
-    let fb = f.b;
-    let fc = f.c;
-    if numbers[1] < bound(fa, counts) {
-        if numbers[2] < bound(fb, counts) {
-            return numbers[3] < bound(fc, counts);
-        }
-        return false;
+    let kind = numbers[0] as usize;
+    if kind < ROW_FIELDS.len() {
+        return right(ROW_FIELDS[kind], numbers[1], numbers[2], numbers[3], counts);
     }
     false
 }

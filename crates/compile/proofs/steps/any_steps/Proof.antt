@@ -27,12 +27,13 @@ put-step-requires c κs =
     omega (arith, at2 .loop .inv, at2 .loop .inv .2 .place, moves-length (at2 .loop .m) 0 (at4 .args .from .position), at4 .pre)
 
 loop-again : tie.Need-loop-again Inv-loop μ-loop
-loop-again c = (
-  omega arith,
-  c .before .before .put-step .kept .0 ∙ c .before .before .before .before .before .loop .inv .1,
-  rw (moves-more (c .before .before .before .before .before .loop .m) (c .before .before .before .before .before .before .before .args .from .position))
-      (laid-append (c .before .before .before .before .before .loop .inv .2) (c .before .before .put-step .ensures)),
-)
+loop-again c =
+    let at5 = c .before .before .before .before .before in
+    let o = at5 .before .before in (
+      omega arith,
+      c .before .before .put-step .kept .0 ∙ at5 .loop .inv .1,
+      rw (moves-more (at5 .loop .m) (o .args .from .position)) (laid-append (at5 .loop .inv .2) (c .before .before .put-step .ensures)),
+    )
 
 returns : tie.Need-returns Inv-loop μ-loop
 returns c =

@@ -5,14 +5,14 @@ use Rattle.compile.proofs.steps.while_steps.Statement.{statement}
 use Rattle.compile.proofs.steps.while_steps.Tie as tie
 
 returns : tie.Need-returns
-returns c = (
-  rw (while-flat (c .before .before .before .before .before .before .before .before .before .before .before .before .before .args .a)
-      (c .before .before .before .before .before .before .before .before .before .before .before .before .before .args .n)
-      (c .before .before .before .before .before .before .before .before .before .before .before .before .before .args .p))
-      (laid-append (laid-append (c .before .before .before .before .before .before .before .before .before .before .put-step .ensures)
-      (c .before .before .before .before .before .before .put-step2 .ensures)) (c .before .before .put-step3 .ensures)),
-  refl,
-)
+returns c =
+    let at6 = c .before .before .before .before .before .before in
+    let at10 = at6 .before .before .before .before in
+    let o = at10 .before .before .before in (
+      rw (while-flat (o .args .a) (o .args .n) (o .args .p))
+          (laid-append (laid-append (at10 .put-step .ensures) (at6 .put-step2 .ensures)) (c .before .before .put-step3 .ensures)),
+      refl,
+    )
 
 pub while-steps-spec : {M : Type 1} → statement M
 while-steps-spec =
