@@ -10,7 +10,7 @@ use Rattle.job.specs.Stored.{Stored}
 use Rattle.job.specs.declared.head.Head.{Head}
 use Rattle.semantics.specs.Program.{Program}
 use Rattle.compile.specs.Program.{rowProgram}
-use Rattle.compile.specs.Construct.{Says}
+use Rattle.compile.specs.Construct.{RowSays}
 use Rattle.compile.specs.Size.{sizesOf, sizesIn}
 use Rattle.compile.specs.Laid.{Wrote, Enough}
 use Rattle.compile.specs.declared.rows.Simple.{Simple}
@@ -33,12 +33,12 @@ module _ (h : Head) (l : List ℕ) where
   abbrev pub Fit : ℕ → Cursor → ℕ → Type 0
   Fit i from places = Stored h l × ((i < h .counts .program) × Enough (h .counts .moves) (of i) from places)
 
-pub told : {f : ℕ → Program} {i : ℕ} {r k : Construct} → r ≡ k → Says f i r → Says f i k
-told {f} {i} {r} {k} e s = subst (λ (x : Construct). Says f i x) e s
+pub told : {f : ℕ → Program} {i : ℕ} {r k : Construct} → r ≡ k → RowSays f i r → RowSays f i k
+told {f} {i} {r} {k} e s = subst (λ (x : Construct). RowSays f i x) e s
 
 module _ {h : Head} {l : List ℕ} {i t places : ℕ} {from : Cursor} (p : (i ≡ t) × Fit h l i from places) where
   -- the room that a row has, by what it says
-  room : (r : Construct) → Says (of h l) i r
+  room : (r : Construct) → RowSays (of h l) i r
       → (from .position + sizesIn (h .counts .moves) (sizes h l) r .positions < mostPositions)
       × (from .at + sizesIn (h .counts .moves) (sizes h l) r .steps * 4 ≤ places)
   room r s =
@@ -53,13 +53,13 @@ module _ {h : Head} {l : List ℕ} {i t places : ℕ} {from : Cursor} (p : (i �
   pub next-ok : from .position < 65535
   next-ok = omega (arith, p .1 .1 .1 .positions)
 
-  pub leaf-ok : {s : Simple} → Says (of h l) i (Leaf s) → (from .at + 4 ≤ places) × (from .position < 65535)
+  pub leaf-ok : {s : Simple} → RowSays (of h l) i (Leaf s) → (from .at + 4 ≤ places) × (from .position < 65535)
   leaf-ok {s} x = (omega (arith, room (Leaf s) x .1), next-ok)
 
-  pub any-ok : Says (of h l) i Any → (from .at + h .counts .moves * 4 ≤ places) × (from .position < 65535)
+  pub any-ok : RowSays (of h l) i Any → (from .at + h .counts .moves * 4 ≤ places) × (from .position < 65535)
   any-ok x = (omega (arith, room Any x .1), next-ok)
 
-  module _ {a b : ℕ} (s : Says (of h l) i (Seq a b)) where
+  module _ {a b : ℕ} (s : RowSays (of h l) i (Seq a b)) where
     pub seq-first : (a < t) × Fit h l a from places
     seq-first = let q = room (Seq a b) s in call (s .earlier .0) refl (record { positions = omega (arith, q .0); room = omega (arith, q .1) })
 
@@ -69,7 +69,7 @@ module _ {h : Head} {l : List ℕ} {i t places : ℕ} {from : Cursor} (p : (i �
         let v = wrote-end w in
         call (s .earlier .1) e (record { positions = omega (arith, q .0, v .0); room = omega (arith, q .1, v .1) })
 
-  module _ {g : Guard} {a b : ℕ} (s : Says (of h l) i (Branch g a b)) where
+  module _ {g : Guard} {a b : ℕ} (s : RowSays (of h l) i (Branch g a b)) where
     pub branch-first : (a < t) × Fit h l a (next from) places
     branch-first = let q = room (Branch g a b) s in call (s .earlier .0) refl (record { positions = omega (arith, q .0); room = omega (arith, q .1) })
 
@@ -91,7 +91,7 @@ module _ {h : Head} {l : List ℕ} {i t places : ℕ} {from : Cursor} (p : (i �
           let k = wrote-end u in
           (omega (arith, e, q .1, v .1, k .1), next-ok, branch-next, omega (arith, q .0, v .0, k .0))
 
-  module _ {g : Guard} {a : ℕ} (s : Says (of h l) i (Loop g a)) where
+  module _ {g : Guard} {a : ℕ} (s : RowSays (of h l) i (Loop g a)) where
     pub loop-first : (a < t) × Fit h l a (next from) places
     loop-first = let q = room (Loop g a) s in call (s .earlier) refl (record { positions = omega (arith, q .0); room = omega (arith, q .1) })
 

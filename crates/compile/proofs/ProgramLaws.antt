@@ -19,7 +19,7 @@ use Rattle.job.proofs.RowLaws.{kind-listed}
 use Rattle.job.proofs.StoredLaws.{row-count, row-within}
 use Rattle.semantics.specs.Program.{Program, nil}
 use Rattle.compile.specs.Program.{kinds, build, programs, rowProgram}
-use Rattle.compile.specs.Construct.{constructs, constructOf, programIn, Earlier, Says}
+use Rattle.compile.specs.Construct.{constructs, constructOf, programIn, Earlier, RowSays}
 use Rattle.compile.specs.declared.rows.Simple.the-variants.{Nil}
 use Rattle.compile.specs.declared.rows.Construct.{Construct}
 use Rattle.compile.specs.declared.rows.Construct.the-variants.{Leaf, Any, Seq, Branch, Loop}
@@ -65,7 +65,7 @@ same-program f g i e (Loop x a) h = rw (e a h)
 
 -- row i of a job, as the code reads it
 pub row-says : {h : Head} {l : List ℕ} → Stored h l → (i : ℕ) → i < h .counts .program → (r : Row) → r ≡ programRowAt (jobOf h l) i
-    → Says (rowProgram (jobOf h l .program)) i (constructOf r)
+    → RowSays (rowProgram (jobOf h l .program)) i (constructOf r)
 row-says {h} {l} s i within r row =
     let program : List Row = jobOf h l .program in
     let low : i < length program = omega (arith, within, row-count h l) in

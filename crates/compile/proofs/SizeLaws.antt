@@ -12,7 +12,7 @@ use Rattle.semantics.specs.Label.{Label}
 use Rattle.semantics.specs.Program.{Program, any, seq}
 use Rattle.semantics.specs.CompilingTable.{Step, end, steps, moveSteps, branchSteps, whileSteps, starSteps}
 use Rattle.compile.specs.Program.{rowProgram, programOf}
-use Rattle.compile.specs.Construct.{loopSteps, programIn, Earlier, Says}
+use Rattle.compile.specs.Construct.{loopSteps, programIn, Earlier, RowSays}
 use Rattle.compile.specs.Size.{sizesOf, sizesSum, nothing, sizesIn, capped, cappedSizes, listed}
 use Rattle.compile.specs.declared.rows.Guard.{Guard}
 use Rattle.compile.specs.declared.rows.Guard.the-variants.{Free, On}
@@ -108,7 +108,7 @@ module _ (M : ℕ) where
     row-capped (C.Loop g a) e = capped-parts (of a) nothing _ nothing 2 3 (s a e) refl
 
     -- one row more
-    pub listed-more : (r : Construct) (v : Sizes) → Says (rowProgram program) i r
+    pub listed-more : (r : Construct) (v : Sizes) → RowSays (rowProgram program) i r
         → v ≡ cappedSizes (sizesIn M (listed positions steps) r) → i < length positions → i < length steps
         → Listed program (i + 1) (set positions i (v .positions)) (set steps i (v .steps))
     listed-more r v e q h g k l = elim (decLt k i) [

@@ -8,7 +8,7 @@ use native.Mathlib.Numerals.{add-one}
 use Rattle.semantics.specs.Program.{Program}
 use Rattle.semantics.specs.CompilingTable.{arc, end, steps, flat, moveSteps, branchSteps}
 use Rattle.semantics.proofs.FlatLaws.{flat-append, flat-length}
-use Rattle.compile.specs.Construct.{labelOf, firstLabel, secondLabel, loopSteps, Says}
+use Rattle.compile.specs.Construct.{labelOf, firstLabel, secondLabel, loopSteps, RowSays}
 use Rattle.compile.specs.Size.{sizesOf}
 use Rattle.compile.specs.Laid.{Laid, Wrote}
 use Rattle.compile.specs.declared.rows.Simple.{Simple}
@@ -37,7 +37,7 @@ starts {M} {σ} {old} {new} {from} {to} k e w =
     subst (λ (n : ℕ). Laid (flat (steps M σ n)) old (from .at) new (to .at) × (to .position ≡ end σ n)) e (w .laid, w .ends)
 
 module _ {M : ℕ} {of : ℕ → Program} {i : ℕ} {old new : List ℕ} {from to : Cursor} where
-  pub wrote-leaf : {s : Simple} → Says of i (Leaf s)
+  pub wrote-leaf : {s : Simple} → RowSays of i (Leaf s)
       → Laid (flat (arc (labelOf s) (from .position) (from .position + 1) ∷ [])) old (from .at) new (to .at) × (to .position ≡ from .position + 1)
       → Wrote M (of i) old from new to
   wrote-leaf {s} e x = rw (e .is) (record {
@@ -45,13 +45,13 @@ module _ {M : ℕ} {of : ℕ → Program} {i : ℕ} {old new : List ℕ} {from t
     ends = x .1 ∙ add-one (from .position) ∙ sym (leaf-made M s .ends (from .position));
   })
 
-  pub wrote-any : Says of i Any
+  pub wrote-any : RowSays of i Any
       → Laid (flat (moveSteps M 0 (from .position))) old (from .at) new (to .at) × (to .position ≡ from .position + 1)
       → Wrote M (of i) old from new to
   unfolding steps end
   wrote-any e x = rw (e .is) (record { laid = x .0; ends = x .1 ∙ add-one (from .position) })
 
-  pub wrote-seq : {a b : ℕ} {mid : List ℕ} {x : Cursor} → Says of i (Seq a b)
+  pub wrote-seq : {a b : ℕ} {mid : List ℕ} {x : Cursor} → RowSays of i (Seq a b)
       → Wrote M (of a) old from mid x → Wrote M (of b) mid x new to → Wrote M (of i) old from new to
   unfolding steps end
   wrote-seq {a} {b} e u w =
@@ -63,7 +63,7 @@ module _ {M : ℕ} {of : ℕ → Program} {i : ℕ} {old new : List ℕ} {from t
       })
 
 module _ {M : ℕ} {of : ℕ → Program} {i : ℕ} {g : Guard} {a : ℕ} {old l₁ new : List ℕ} (from : Cursor) {x to : Cursor} where
-  pub wrote-branch : {b : ℕ} {l₂ : List ℕ} {y : Cursor} → Says of i (Branch g a b)
+  pub wrote-branch : {b : ℕ} {l₂ : List ℕ} {y : Cursor} → RowSays of i (Branch g a b)
       → Wrote M (of a) old (next from) l₁ x → Wrote M (of b) l₁ (next x) l₂ y
       → Laid (flat (branchSteps (firstLabel g) (secondLabel g) (from .position) (x .position) (y .position))) l₂ (y .at) new (to .at)
       × (to .position ≡ y .position + 1)
@@ -82,7 +82,7 @@ module _ {M : ℕ} {of : ℕ → Program} {i : ℕ} {g : Guard} {a : ℕ} {old l
         ends = z .1 ∙ add-one (y .position) ∙ ap suc (second .1) ∙ sym (s .ends n);
       })
 
-  pub wrote-loop : Says of i (Loop g a) → Wrote M (of a) old (next from) l₁ x
+  pub wrote-loop : RowSays of i (Loop g a) → Wrote M (of a) old (next from) l₁ x
       → Laid (flat (loopSteps g (from .position) (x .position))) l₁ (x .at) new (to .at) × (to .position ≡ x .position + 1)
       → Wrote M (of i) old from new to
   wrote-loop e u z =

@@ -65,7 +65,7 @@ Earlier i (Branch g a b) = (a < i) × (b < i)
 Earlier i (Loop g a) = a < i
 
 -- row i says this, where `of` gives the programs of the rows
-pub record Says (of : ℕ → Program) (i : ℕ) (r : Construct) : Type 0 where
+pub record RowSays (of : ℕ → Program) (i : ℕ) (r : Construct) : Type 0 where
   pub is : of i ≡ programIn of r
   pub earlier : Earlier i r
 

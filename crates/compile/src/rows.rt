@@ -4,7 +4,7 @@ ghost use Prim.Native.Nat.{_<_};
 ghost use Rattle.job.specs.Store.{jobOf, rowIn};
 ghost use Rattle.job.specs.Stored.{Stored};
 ghost use Rattle.compile.specs.Program.{rowProgram};
-ghost use Rattle.compile.specs.Construct.{constructOf, Says};
+ghost use Rattle.compile.specs.Construct.{constructOf, RowSays};
 use job::head::Head;
 use job::stored::ProgramRow;
 
@@ -53,7 +53,7 @@ fn construct_of(row: ProgramRow) -> Construct
 pub fn construct_at(head: Head, rows: &[u16], i: u16) -> Construct
     requires { ⌜ Stored head (now rows) ⌝ }
     requires { ⌜ i < head .counts .program ⌝ }
-    ensures { λ r. ⌜ Says (rowProgram (jobOf head (now (rows .entry)) .program)) i r ⌝ }
+    ensures { λ r. ⌜ RowSays (rowProgram (jobOf head (now (rows .entry)) .program)) i r ⌝ }
 {
     construct_of(job::stored::program_row_at(head, rows, i))
 }

@@ -23,7 +23,7 @@ use Rattle.load.specs.declared.loaded.Loaded.{Loaded}
 use Rattle.load.proofs.LoadingLaws.{loading-iff, texts-taken}
 use Rattle.load.proofs.PlanLaws.{plan-taken}
 use Rattle.jesmovit.specs.Answers.{Answers}
-use Rattle.jesmovit.specs.Compiling.{sizesOf}
+use Rattle.jesmovit.specs.Compiling.{viewSizes}
 use Rattle.jesmovit.proofs.AnswerLaws.{answer-refused}
 use Rattle.jesmovit.proofs.FrontLaws.{part-front}
 
@@ -74,5 +74,5 @@ module _ {h : Handed} {rows entries : List ℕ} {a : Loaded} (e : Loads h a rows
 
 -- the sizes of the compiled job are those of its view
 pub sizes-of : {l : Load} {rows : List ℕ} → Sized l rows
-    → record { positions = l .sizes .positions; steps = l .sizes .steps } ≡ sizesOf (viewOf (record { job = jobOf (l .head) rows; entries = [] }))
+    → record { positions = l .sizes .positions; steps = l .sizes .steps } ≡ viewSizes (viewOf (record { job = jobOf (l .head) rows; entries = [] }))
 sizes-of {l} s = rw (s .positions, s .steps) refl

@@ -24,12 +24,12 @@ abbrev pub listAfter : View → List ℕ → List ℕ
 listAfter v list = sets list 0 (flat (viewSteps v))
 
 -- how many positions and steps the compiled job has
-abbrev pub sizesOf : View → Sizes
-sizesOf v = record { positions = positionsOf v; steps = length (viewSteps v) }
+abbrev pub viewSizes : View → Sizes
+viewSizes v = record { positions = positionsOf v; steps = length (viewSteps v) }
 
 -- the sizes are answered, and the list holds the steps
 pub record CompileDone (v : View) (sizes : Sizes) (old new : List ℕ) : Type 0 where
-  pub sized : sizes ≡ sizesOf v
+  pub sized : sizes ≡ viewSizes v
   pub list : new ≡ listAfter v old
 
 abbrev pub Compiles : List ℕ → List ℕ → CompileAnswer → List ℕ → Type 0

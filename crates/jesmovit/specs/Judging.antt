@@ -14,7 +14,7 @@ use Rattle.load.specs.View.{View, viewSteps, positionsOf, viewIn}
 use Rattle.load.specs.declared.request.Sort.the-variants.{Moves}
 use Rattle.jesmovit.specs.Outcomes.{leastOutcome, SizedJudgement, judgeOutcome}
 use Rattle.jesmovit.specs.Answers.{Answers}
-use Rattle.jesmovit.specs.Compiling.{listAfter, sizesOf}
+use Rattle.jesmovit.specs.Compiling.{listAfter, viewSizes}
 use Rattle.jesmovit.specs.declared.judging.Judgement as Said
 use Rattle.jesmovit.specs.declared.judging.LeastAnswer.{LeastAnswer}
 use Rattle.jesmovit.specs.declared.judging.JudgeAnswer.{JudgeAnswer}
@@ -70,7 +70,7 @@ pub record Found (v : View) (g : Judgement) (old new : List ℕ) : Type 0 where
   pub table : TableFor v g old new
 
 pub record JudgeDone (v : View) (judged : SizedJudgement) (old new : Lent) : Type 0 where
-  pub sized : judged .sizes ≡ sizesOf v
+  pub sized : judged .sizes ≡ viewSizes v
   pub list : new .list ≡ listAfter v (old .list)
   pub found : Found v (judged .judgement) (old .table) (new .table)
 

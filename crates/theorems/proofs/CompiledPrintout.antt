@@ -13,7 +13,7 @@ use Rattle.load.specs.Refusals.{Checked, passed, Offer, loading}
 use Rattle.load.specs.View.{View, viewOf, viewSteps, positionsOf, viewIn}
 use Rattle.load.proofs.LoadingLaws.{loading-iff}
 use Rattle.jesmovit.specs.Outcomes.{compileOutcome}
-use Rattle.jesmovit.specs.Compiling.{compiling, listAfter, sizesOf, Compiles}
+use Rattle.jesmovit.specs.Compiling.{compiling, listAfter, viewSizes, Compiles}
 use Rattle.jesmovit.specs.declared.compiling.CompileAnswer.{CompileAnswer}
 use Rattle.jesmovit.proofs.AnswerLaws.{answered, view-of}
 use Rattle.report.specs.Printout.{line, stepLine, stepLines, compiledLines, printout, compilePrintout}

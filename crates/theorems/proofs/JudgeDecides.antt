@@ -18,7 +18,7 @@ use Rattle.load.specs.View.{View, viewOf, viewIn}
 use Rattle.load.specs.declared.request.Sort.the-variants.{Moves}
 use Rattle.jesmovit.specs.Outcomes.{SizedJudgement, judgeOutcome}
 use Rattle.jesmovit.specs.Answers.{Answers}
-use Rattle.jesmovit.specs.Compiling.{sizesOf}
+use Rattle.jesmovit.specs.Compiling.{viewSizes}
 use Rattle.jesmovit.specs.Checking.{checking, CheckDone}
 use Rattle.jesmovit.specs.Judging.{judging, JudgeDone, Judges}
 use Rattle.jesmovit.specs.declared.judging.JudgeAnswer.{JudgeAnswer}
@@ -39,7 +39,7 @@ plan-allowed D σ ms (is-plan run reached) = record { last = _; run = run; reach
 
 same-judgement : (v : View) {g h : Judgement} → judgedAs v g ≡ judgedAs v h → g ≡ h
 same-judgement v {g} {h} e =
-    let f : _≡_ {A = SizedJudgement} (record { sizes = sizesOf v; judgement = g }) (record { sizes = sizesOf v; judgement = h }) = cc in
+    let f : _≡_ {A = SizedJudgement} (record { sizes = viewSizes v; judgement = g }) (record { sizes = viewSizes v; judgement = h }) = cc in
     ap (λ (x : SizedJudgement). x .judgement) f
 
 module _ (v : View) where

@@ -20,10 +20,10 @@ use Rattle.load.specs.declared.request.Sort.the-variants.{Moves}
 use Rattle.jesmovit.specs.Checking.{checking}
 use Rattle.jesmovit.specs.Judging.{costing, judging}
 use Rattle.theorems.specs.MarkedCases.{sample}
-use Rattle.jesmovit.specs.Compiling.{compiling, listAfter, sizesOf}
+use Rattle.jesmovit.specs.Compiling.{compiling, listAfter, viewSizes}
 
 -- "`positions=3` `steps=2` `s=3,0,1,0` `s=3,1,2,1`"
-compiles-sample : next (viewIn (compiling sample 9)) (λ v. passed (sizesOf v)) ≡ passed (record { positions = 3; steps = 2 })
+compiles-sample : next (viewIn (compiling sample 9)) (λ v. passed (viewSizes v)) ≡ passed (record { positions = 3; steps = 2 })
 unfolding bytes lines hasKey valueOf byteRead numbers lineNumbers fault taken ended readFrom readJob end steps build programs fits jobIn textsIn loading
 compiles-sample = refl
 

@@ -9,11 +9,11 @@ use Rattle.semantics.specs.Judgement.{Judgement, least, dearer, other}
 use Rattle.load.specs.Refusals.{Checked, passed}
 use Rattle.load.specs.View.{View}
 use Rattle.jesmovit.specs.Outcomes.{SizedJudgement}
-use Rattle.jesmovit.specs.Compiling.{sizesOf}
+use Rattle.jesmovit.specs.Compiling.{viewSizes}
 
 -- the outcome that has this judgement, beside the sizes of the compiled job
 abbrev pub judgedAs : View → Judgement → Checked SizedJudgement
-judgedAs v g = passed (record { sizes = sizesOf v; judgement = g })
+judgedAs v g = passed (record { sizes = viewSizes v; judgement = g })
 
 pub record Decided (v : View) (outcome : Checked SizedJudgement) : Type 0 where
   pub own : ℕ
