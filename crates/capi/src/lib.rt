@@ -83,7 +83,9 @@ pub extern "C" fn jesmovit_judge(
     table: &mut [u32],
     answer: &mut [u64; 5],
 ) -> u32
-    ensures { λ r. ⌜ Gives judgeNumbers (λ a. Judges (now (text .entry)) (now (plan .entry)) (now (list .entry)) (now (table .entry)) a (now (list .exit)) (now (table .exit))) r (now (answer .exit)) ⌝ }
+    ensures { λ r. ⌜ Gives judgeNumbers
+        (λ a. Judges (now (text .entry)) (now (plan .entry)) (now (list .entry)) (now (table .entry)) a (now (list .exit)) (now (table .exit)))
+        r (now (answer .exit)) ⌝ }
 {
     let a = jesmovit::judge(text, plan, list, table);
     let n = numbers::of_judge(a);

@@ -6,15 +6,17 @@ use mathlib.Core.Bool.{true}
 use mathlib.Core.List.{List, []}
 use native.Mathlib.Omega.{arith}
 use lib.ListN.{length, take}
+use lib.Seq.{sets}
 use Rattle.limits.specs.Limits.{mostEntries}
 use Rattle.job.specs.Store.{jobOf}
 use Rattle.job.specs.Stored.{Stored}
 use Rattle.job.specs.declared.head.Refusal.{Refusal}
+use Rattle.semantics.specs.CompilingTable.{flat}
 use Rattle.domain.specs.Domain.{domainIn}
-use Rattle.compile.specs.CompiledJob.{stepCount, fits}
+use Rattle.compile.specs.CompiledJob.{stepsOf, stepCount, fits}
 use Rattle.compile.specs.declared.sizes.Sizes.{Sizes}
 use Rattle.plans.proofs.PlanTold.{plan-told}
-use Rattle.validate.specs.Ready.{EntriesBelow}
+use Rattle.validate.specs.Ready.{Ready, EntriesBelow}
 use Rattle.load.specs.Refusals.{Handed, Checked, passed, refused, Offer, keyFor, boundFor, textsIn, listNeed, tableNeed, loading}
 use Rattle.load.specs.Loaded.{loadedAs, Sized, Fitting, Loads, loadRefusal}
 use Rattle.load.specs.View.{View, viewOf, viewIn}
@@ -25,7 +27,7 @@ use Rattle.load.proofs.PlanLaws.{plan-taken}
 use Rattle.jesmovit.specs.Answers.{Answers}
 use Rattle.jesmovit.specs.Compiling.{viewSizes}
 use Rattle.jesmovit.proofs.AnswerLaws.{answer-refused}
-use Rattle.jesmovit.proofs.FrontLaws.{part-front}
+use Rattle.jesmovit.proofs.FrontLaws.{part-front, front-fits, front-ready}
 
 module _ {h : Handed} {rows entries : List ℕ} {a : Loaded} (e : Loads h a rows entries) where
   pub load-refused : {B C : Type 0} {Does : View → B → C → C → Type 0} {old : C} {q r : Refusal} → a ≡ Loaded.Refused q → r ≡ loadRefusal a
@@ -59,6 +61,15 @@ module _ {h : Handed} {rows entries : List ℕ} {a : Loaded} (e : Loads h a rows
     -- the list has room for the steps
     pub load-listed : Stored (l .head) rows × ((fits (jobOf (l .head) rows) ≡ true) × (stepCount (jobOf (l .head) rows) * 4 ≤ h .request .places))
     load-listed = (fitting .0 .stored, (fitting .0 .fit, long .1))
+
+    module _ (list : List ℕ) (p : h .request .places ≡ length list) {need : ℕ} (n : need ≡ l .sizes .steps * 4) where
+      -- its front, and what that holds once it is filled
+      pub load-front : need ≤ length list
+      load-front = front-fits load-sized list (rw p at (long .1)) n
+
+      pub load-ready : {after : List ℕ} → after ≡ sets list 0 (flat (stepsOf (jobOf (l .head) rows)))
+          → Ready (l .head) rows (take (need - 0) after) (l .sizes .positions)
+      load-ready f = front-ready load-sized list (rw p at (long .1)) n f
 
     -- and the table for the cells
     pub load-cells : h .request .table ≡ true → domainIn (l .head) rows .states * l .sizes .positions ≤ h .request .cells

@@ -1,42 +1,55 @@
 use mathlib.Core.Path.{refl}
 use native.Mathlib.Omega.{arith}
 use Rattle.jesmovit.proofs.AnswerLaws.{answer-done}
-use Rattle.jesmovit.proofs.LoadedLaws.{load-refused, load-passed, load-sized, load-few, load-listed, load-entries}
-use Rattle.jesmovit.proofs.FrontLaws.{front-fits, front-ready}
+use Rattle.jesmovit.proofs.LoadedLaws.{load-refused, load-front, load-ready, load-passed, load-sized, load-few, load-listed, load-entries}
 use borrow.Author.Needs.{needs}
 use Rattle.jesmovit.proofs.checking.check.Statement.{statement}
 use Rattle.jesmovit.proofs.checking.check.Tie as tie
 
 returns : tie.Need-returns
-returns c = load-refused (c .before .before .before .before .before .load .ensures) (c .before .enum-told .given .1) (c .refusal .ensures)
+returns c =
+    let at5 = c .before .before .before .before .before in
+    load-refused (at5 .load .ensures) (c .before .enum-told .given .1) (c .refusal .ensures)
 
 compile-requires : tie.Need-compile-requires
-compile-requires c κs = load-listed (c .before .before .before .before .before .before .before .before .before .load .ensures) (c .before .before .before .before .before .loaded .given .1)
+compile-requires c κs =
+    let at5 = c .before .before .before .before .before in
+    let at9 = at5 .before .before .before .before in
+    load-listed (at9 .load .ensures) (at5 .loaded .given .1)
 
 part-verdict-end : tie.Need-part-verdict-end
 part-verdict-end c =
-    omega (
-      arith,
-      front-fits (load-sized (c .before .before .before .before .before .before .before .before .before .before .before .before .before .before .load .ensures) (c .before .before .before .before .before .before .before .before .before .before .loaded .given .1)) (c .before .before .before .before .before .before .before .before .before .before .before .before .before .before .before .before .before .before .before .before .args .list .now)
-          (load-listed (c .before .before .before .before .before .before .before .before .before .before .before .before .before .before .load .ensures) (c .before .before .before .before .before .before .before .before .before .before .loaded .given .1) .1 .1) (c .before .before .before .before .before .before .before .list-need .ensures),
-      c .before .before .before .before .compile .kept .1 .1 .0,
-    )
+    let at4 = c .before .before .before .before in
+    let at7 = at4 .before .before .before in
+    let at10 = at7 .before .before .before in
+    let at14 = at10 .before .before .before .before in
+    let at20 = at14 .before .before .before .before .before .before in
+    omega (arith, load-front (at14 .load .ensures) (at10 .loaded .given .1) (at20 .args .list .now) refl (at7 .list-need .ensures), at4 .compile .kept .1 .1 .0)
 
 part-verdict-end-2 : tie.Need-part-verdict-end-2
 part-verdict-end-2 c =
-    omega (arith, load-few (c .before .before .before .before .before .before .before .before .before .before .before .before .before .before .before .before .load .ensures) (c .before .before .before .before .before .before .before .before .before .before .before .before .loaded .given .1), c .before .before .before .before .before .before .before .before .before .before .before .before .before .before .before .before .load .kept .1 .1 .1 .1 .0)
+    let at12 = c .before .before .before .before .before .before .before .before .before .before .before .before in
+    let at16 = at12 .before .before .before .before in
+    omega (arith, load-few (at16 .load .ensures) (at12 .loaded .given .1), at16 .load .kept .1 .1 .1 .1 .0)
 
 verdict-requires : tie.Need-verdict-requires
-verdict-requires c κs = (
-  front-ready (load-sized (c .before .before .before .before .before .before .before .before .before .before .before .before .before .before .before .before .before .load .ensures) (c .before .before .before .before .before .before .before .before .before .before .before .before .before .loaded .given .1)) (c .before .before .before .before .before .before .before .before .before .before .before .before .before .before .before .before .before .before .before .before .before .before .before .args .list .now) (load-listed (c .before .before .before .before .before .before .before .before .before .before .before .before .before .before .before .before .before .load .ensures) (c .before .before .before .before .before .before .before .before .before .before .before .before .before .loaded .given .1) .1 .1)
-      (c .before .before .before .before .before .before .before .before .before .before .list-need .ensures) (c .before .before .before .before .before .before .before .compile .ensures),
-  load-entries (c .before .before .before .before .before .before .before .before .before .before .before .before .before .before .before .before .before .load .ensures) (c .before .before .before .before .before .before .before .before .before .before .before .before .before .loaded .given .1) refl,
-)
+verdict-requires c κs =
+    let at7 = c .before .before .before .before .before .before .before in
+    let at10 = at7 .before .before .before in
+    let at13 = at10 .before .before .before in
+    let at17 = at13 .before .before .before .before in
+    let at23 = at17 .before .before .before .before .before .before in (
+      load-ready (at17 .load .ensures) (at13 .loaded .given .1) (at23 .args .list .now) refl (at10 .list-need .ensures) (at7 .compile .ensures),
+      load-entries (at17 .load .ensures) (at13 .loaded .given .1) refl,
+    )
 
 returns-2 : tie.Need-returns-2
 returns-2 c =
-    answer-done _ (load-passed (c .before .before .before .before .before .before .before .before .before .before .before .before .before .before .before .before .before .before .load .ensures) (c .before .before .before .before .before .before .before .before .before .before .before .before .before .before .loaded .given .1))
-    (record { says = c .verdict .ensures; list = c .before .before .before .before .before .before .before .before .compile .ensures })
+    let at8 = c .before .before .before .before .before .before .before .before in
+    let at14 = at8 .before .before .before .before .before .before in
+    let at18 = at14 .before .before .before .before in
+    answer-done _ (load-passed (at18 .load .ensures) (at14 .loaded .given .1))
+    (record { says = c .verdict .ensures; list = at8 .compile .ensures })
 
 pub check-spec : {M : Type 1} → statement M
 check-spec =

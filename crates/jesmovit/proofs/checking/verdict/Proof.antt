@@ -5,17 +5,23 @@ use Rattle.jesmovit.proofs.checking.verdict.Tie as tie
 
 check-moves-requires : tie.Need-check-moves-requires
 check-moves-requires c κs =
-    (c .before .before .before .before .before .pre .0, move-entries _ _ _ (c .enum-told .given .1) (c .before .before .before .before .before .pre .1))
+    let at5 = c .before .before .before .before .before in
+    (at5 .pre .0, move-entries _ _ _ (c .enum-told .given .1) (at5 .pre .1))
 
 check-steps-requires : tie.Need-check-steps-requires
 check-steps-requires c κs =
-    (c .before .before .before .before .before .pre .0, step-entries _ _ _ (c .enum-told2 .given .1) (c .before .before .before .before .before .pre .1))
+    let at5 = c .before .before .before .before .before in
+    (at5 .pre .0, step-entries _ _ _ (c .enum-told2 .given .1) (at5 .pre .1))
 
 returns : tie.Need-returns
-returns c = says-moves _ _ _ (c .before .enum-told .given .1) (c .before .before .before .before .before .before .pre .0) (c .check-moves .ensures)
+returns c =
+    let at6 = c .before .before .before .before .before .before in
+    says-moves _ _ _ (c .before .enum-told .given .1) (at6 .pre .0) (c .check-moves .ensures)
 
 returns-2 : tie.Need-returns-2
-returns-2 c = says-steps _ _ _ (c .before .enum-told2 .given .1) (c .before .before .before .before .before .before .pre .0) (c .check-steps .ensures)
+returns-2 c =
+    let at6 = c .before .before .before .before .before .before in
+    says-steps _ _ _ (c .before .enum-told2 .given .1) (at6 .pre .0) (c .check-steps .ensures)
 
 pub verdict-spec : {M : Type 1} → statement M
 verdict-spec =

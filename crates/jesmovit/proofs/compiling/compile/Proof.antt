@@ -9,15 +9,22 @@ load-requires : tie.Need-load-requires
 load-requires c κs = (search needs, λ e. never (cc))
 
 returns : tie.Need-returns
-returns c = load-refused (c .before .before .before .before .before .load .ensures) (c .before .enum-told .given .1) (c .refusal .ensures)
+returns c =
+    let at5 = c .before .before .before .before .before in
+    load-refused (at5 .load .ensures) (c .before .enum-told .given .1) (c .refusal .ensures)
 
 compile-requires : tie.Need-compile-requires
-compile-requires c κs = load-listed (c .before .before .before .before .before .before .before .before .load .ensures) (c .before .before .before .before .loaded .given .1)
+compile-requires c κs =
+    let at4 = c .before .before .before .before in
+    let at8 = at4 .before .before .before .before in
+    load-listed (at8 .load .ensures) (at4 .loaded .given .1)
 
 returns-2 : tie.Need-returns-2
 returns-2 c =
-    answer-done _ (load-passed (c .before .before .before .before .before .before .before .before .before .before .before .load .ensures) (c .before .before .before .before .before .before .before .loaded .given .1))
-    (record { sized = sizes-of (load-sized (c .before .before .before .before .before .before .before .before .before .before .before .load .ensures) (c .before .before .before .before .before .before .before .loaded .given .1)); list = c .before .before .compile .ensures })
+    let at7 = c .before .before .before .before .before .before .before in
+    let at11 = at7 .before .before .before .before in
+    answer-done _ (load-passed (at11 .load .ensures) (at7 .loaded .given .1))
+    (record { sized = sizes-of (load-sized (at11 .load .ensures) (at7 .loaded .given .1)); list = c .before .before .compile .ensures })
 
 pub compile-spec : {M : Type 1} → statement M
 compile-spec =

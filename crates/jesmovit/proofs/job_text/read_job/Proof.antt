@@ -9,16 +9,18 @@ use Rattle.jesmovit.proofs.job_text.read_job.Tie as tie
 
 returns : tie.Need-returns
 returns c =
+    let at4 = c .before .before .before .before in
     let g = c .before .enum-told .given .1 in
-    let t = c .before .before .before .before .read-job .last .1 .0 in
+    let t = at4 .read-job .last .1 .0 in
     ap (λ r. refused (r .number) (r .place)) (c .refusal .ensures ∙ ap readRefusal g) ∙ sym (ap (λ a. countsIn (outcomeOf a t)) g)
-    ∙ ap countsIn (c .before .before .before .before .read-job .ensures)
+    ∙ ap countsIn (at4 .read-job .ensures)
 
 returns-2 : tie.Need-returns-2
 returns-2 c =
+    let at5 = c .before .before .before .before .before in
     let g = c .before .before .answer .given .1 in
-    let t = c .before .before .before .before .before .read-job .last .1 .0 in
-    ap passed (sym (counts-of (c .before .before .answer .given .0 .1 .0) t)) ∙ sym (ap (λ a. countsIn (outcomeOf a t)) g) ∙ ap countsIn (c .before .before .before .before .before .read-job .ensures)
+    let t = at5 .read-job .last .1 .0 in
+    ap passed (sym (counts-of (c .before .before .answer .given .0 .1 .0) t)) ∙ sym (ap (λ a. countsIn (outcomeOf a t)) g) ∙ ap countsIn (at5 .read-job .ensures)
 
 pub read-job-spec : {M : Type 1} → statement M
 read-job-spec =

@@ -7,14 +7,18 @@ use Rattle.jesmovit.proofs.judging.judge_entries.Tie as tie
 
 returns : tie.Need-returns
 returns c =
-    judged-other _ (c .before .before .before .before .before .before .args .costs .now) (c .before .check-moves .result)
-    (says-moves (c .before .before .before .before .before .before .args .head) (c .before .before .before .before .before .before .args .rows .now) (c .before .before .before .before .before .before .args .plan .now) refl (c .before .before .before .before .before .before .pre .0 .0) (c .before .check-moves .ensures)) (c .match .keys2)
+    let at6 = c .before .before .before .before .before .before in
+    judged-other _ (at6 .args .costs .now) (c .before .check-moves .result)
+    (says-moves (at6 .args .head) (at6 .args .rows .now) (at6 .args .plan .now) refl (at6 .pre .0 .0) (c .before .check-moves .ensures)) (c .match .keys2)
 
 returns-2 : tie.Need-returns-2
 returns-2 c =
-    judged-plan _ (c .before .before .before .before .before .before .before .before .before .before .before .before .before .args .costs .now) (c .before .before .before .before .before .before .before .before .check-moves .result)
-    (says-moves (c .before .before .before .before .before .before .before .before .before .before .before .before .before .args .head) (c .before .before .before .before .before .before .before .before .before .before .before .before .before .args .rows .now) (c .before .before .before .before .before .before .before .before .before .before .before .before .before .args .plan .now) refl (c .before .before .before .before .before .before .before .before .before .before .before .before .before .pre .0 .0) (c .before .before .before .before .before .before .before .before .check-moves .ensures))
-    (c .before .before .before .before .before .before .verdict .given .1) (c .before .before .before .before .before .before .before .before .before .before .before .before .before .pre .0 .0 .positions) (c .before .before .before .least-cost .ensures) (c .compare .ensures)
+    let at6 = c .before .before .before .before .before .before in
+    let at8 = at6 .before .before in
+    let at13 = at8 .before .before .before .before .before in
+    judged-plan _ (at13 .args .costs .now) (at8 .check-moves .result)
+    (says-moves (at13 .args .head) (at13 .args .rows .now) (at13 .args .plan .now) refl (at13 .pre .0 .0) (at8 .check-moves .ensures))
+    (at6 .verdict .given .1) (at13 .pre .0 .0 .positions) (c .before .before .before .least-cost .ensures) (c .compare .ensures)
 
 pub judge-entries-spec : {M : Type 1} → statement M
 judge-entries-spec =

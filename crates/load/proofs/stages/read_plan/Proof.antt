@@ -5,11 +5,15 @@ use Rattle.load.proofs.stages.read_plan.Tie as tie
 
 returns : tie.Need-returns
 unfolding bytes
-returns c = rw (c .before .before .before .before .before .enum-told .given .1) (c .before .before .read-plan .ensures)
+returns c =
+    let at5 = c .before .before .before .before .before in
+    rw (at5 .enum-told .given .1) (c .before .before .read-plan .ensures)
 
 returns-2 : tie.Need-returns-2
 unfolding bytes
-returns-2 c = rw (c .before .before .before .before .before .enum-told2 .given .1) (c .before .before .read-plan2 .ensures)
+returns-2 c =
+    let at5 = c .before .before .before .before .before in
+    rw (at5 .enum-told2 .given .1) (c .before .before .read-plan2 .ensures)
 
 pub read-plan-spec : {M : Type 1} → statement M
 read-plan-spec =
