@@ -14,8 +14,8 @@ use Rattle.semantics.specs.Path.{StepAt}
 use Rattle.semantics.specs.PositionSets.{Marked, closure, spread}
 use Rattle.semantics.proofs.Marks.{none-marked, count-le, count-none, marked-below}
 use Rattle.semantics.proofs.SetLaws.{close-keeps, closure-closed, closure-is, spread-is}
-use Rattle.semantics.proofs.FlatLaws.{steps-only}
-use Rattle.validate.specs.Adjacency.{stepsOn, Listed}
+use Rattle.compiled.specs.Adjacency.{stepsOn, Listed}
+use Rattle.compiled.proofs.WalkLaws.{step-inside}
 use Rattle.validate.specs.Positions.{Counted, old, new, Followed}
 use Rattle.validate.proofs.MarkLaws.{mark-new}
 
@@ -43,20 +43,16 @@ module _ (on : Label → Bool) (list : List ℕ) where
   abbrev L : List Step
   L = stepsOn list
 
-  -- the steps lead to positions that have a mark
-  below : Listed list → {k p q : ℕ} {l : Label} → StepAt L k p l q → q < mostPositions
-  below sound s = let z = steps-only (length list / 4) list s in omega (arith, z .to, sound .to _ (z .below))
-
   -- the steps from member i lead to marks
   abbrev Done : List ℕ → List Bool → ℕ → Type 0
   Done ms T i = (k q : ℕ) (l : Label) → StepAt L k (getD ms i 0) l q → on l ≡ true → Marked T q
 
   -- one member more
   done-also : (ms : List ℕ) (at : ℕ) {T U : List Bool} {ts us : List ℕ} {m u : ℕ} → ((i : ℕ) → i < at → Done ms T i)
-      → Followed on L (getD ms at 0) 0 T ts m U us u → (i : ℕ) → i < at + 1 → Done ms U i
+      → Followed on L (getD ms at 0) T ts m U us u → (i : ℕ) → i < at + 1 → Done ms U i
   done-also ms at f y i a k q l s o = elim (decLt i at) [
-    | yes b ↦ y .grown q (f i b k q l s o)
-    | no b ↦ (let e : i ≡ at = omega arith in y .ends k q l (omega arith) (subst (λ j. StepAt L k (getD ms j 0) l q) e s) o)
+    | yes b ↦ y .added .grown q (f i b k q l s o)
+    | no b ↦ (let e : i ≡ at = omega arith in y .ends k q l (subst (λ j. StepAt L k (getD ms j 0) l q) e s) o)
   ]
 
   -- closing S: the steps from the first `at` members are followed
@@ -77,21 +73,21 @@ module _ (on : Label → Bool) (list : List ℕ) where
       done = λ i h. absurd (omega arith);
     }
 
-    module _ (sound : Listed list) (wide : length S ≡ mostPositions) {T U : List Bool} {ms us : List ℕ} {n u at : ℕ} (x : Closing T ms n at) (h : at < n) (y : Followed on (stepsOn list) (getD ms at 0) 0 T ms n U us u) where
+    module _ (sound : Listed list) (wide : length S ≡ mostPositions) {T U : List Bool} {ms us : List ℕ} {n u at : ℕ} (x : Closing T ms n at) (h : at < n) (y : Followed on (stepsOn list) (getD ms at 0) T ms n U us u) where
       reached-more : (q : ℕ) → Marked U q → Marked (closure on L S) q
-      reached-more q m = elim (y .only q m) [
+      reached-more q m = elim (y .added .only q m) [
         | old a ↦ x .reached q a
-        | new s o ↦ closure-closed on L S s o (omega (arith, below sound s, wide)) (x .reached (getD ms at 0) (x .counted .marked at h))
+        | new s o ↦ closure-closed on L S s o (omega (arith, step-inside sound s .1, wide)) (x .reached (getD ms at 0) (x .counted .marked at h))
       ]
 
       done-more : (i : ℕ) → i < at + 1 → Done us U i
-      done-more i a k q l s o = done-also ms at (x .done) y i a k q l (subst (λ p. StepAt L k p l q) (y .kept i (omega arith)) s) o
+      done-more i a k q l s o = done-also ms at (x .done) y i a k q l (subst (λ p. StepAt L k p l q) (y .added .kept i (omega arith)) s) o
 
       pub closing-more : Closing U us u (at + 1)
       closing-more = record {
-        counted = y .counted;
-        within = omega (arith, y .more);
-        grown = λ q m. y .grown q (x .grown q m);
+        counted = y .added .counted;
+        within = omega (arith, y .added .more);
+        grown = λ q m. y .added .grown q (x .grown q m);
         reached = reached-more;
         done = done-more;
       }
@@ -127,15 +123,15 @@ module _ (on : Label → Bool) (list : List ℕ) where
       done = λ i h. absurd (omega arith);
     }
 
-    module _ {T U : List Bool} {ts us : List ℕ} {m u at : ℕ} (x : Advancing T ts m at) (h : at < n) (y : Followed on (stepsOn list) (getD ms at 0) 0 T ts m U us u) where
+    module _ {T U : List Bool} {ts us : List ℕ} {m u at : ℕ} (x : Advancing T ts m at) (h : at < n) (y : Followed on (stepsOn list) (getD ms at 0) T ts m U us u) where
       came-more : (q : ℕ) → Marked U q → Came q
-      came-more q a = elim (y .only q a) [
+      came-more q a = elim (y .added .only q a) [
         | old b ↦ x .came q b
         | new {k} {l} s o ↦ record { member = at; listed = h; number = k; label = l; step = s; passes = o }
       ]
 
       pub advancing-more : Advancing U us u (at + 1)
-      advancing-more = record { counted = y .counted; within = omega arith; came = came-more; done = done-also ms at (x .done) y }
+      advancing-more = record { counted = y .added .counted; within = omega arith; came = came-more; done = done-also ms at (x .done) y }
 
     pub advancing-end : {S T : List Bool} {ts : List ℕ} {m at : ℕ} → Counted S ms n → Advancing T ts m at → n ≤ at → T ≡ spread on (stepsOn list) S (replicate mostPositions false)
     advancing-end {S} {T} {ts} {m} {at} from x h =
