@@ -18,7 +18,8 @@ use Rattle.job.specs.declared.head.Refusal.{Refusal}
 use Rattle.semantics.specs.CompilingTable.{flat}
 use Rattle.compile.specs.CompiledJob.{stepsOf, positionCount, stepCount, fits}
 use Rattle.compile.specs.declared.sizes.Sizes.{Sizes}
-use Rattle.validate.specs.Ready.{Ready, EntriesBelow}
+use Rattle.compiled.specs.Ready.{Ready}
+use Rattle.validate.specs.Entries.{EntriesBelow}
 use Rattle.validate.specs.Verdict.{verdictOf}
 use Rattle.validate.specs.declared.verdict.Verdict.{Verdict}
 use Rattle.plans.proofs.PlanTold.{plan-told}

@@ -17,7 +17,7 @@ use Rattle.job.specs.declared.head.Refusal.{Refusal}
 use Rattle.semantics.specs.CompilingTable.{flat}
 use Rattle.compile.specs.CompiledJob.{stepsOf, positionCount, stepCount, fits}
 use Rattle.compile.specs.declared.sizes.Sizes.{Sizes}
-use Rattle.validate.specs.Ready.{Ready}
+use Rattle.compiled.specs.Ready.{Ready}
 use Rattle.offers.specs.Refusals.{Checked, passed, refused, next, jobIn, listNeed, listLong}
 use Rattle.offers.specs.Load.{checkedOf, Sized, Measured, loadRefusal}
 use Rattle.offers.specs.declared.load.Loaded.{Loaded}

@@ -15,8 +15,8 @@ use Rattle.semantics.specs.CompilingTable.{Step, flat}
 use Rattle.semantics.proofs.FlatLaws.{flat-length, flat-steps}
 use Rattle.compile.specs.CompiledJob.{stepsOf, stepCount, fits}
 use Rattle.compile.specs.declared.sizes.Sizes.{Sizes}
-use Rattle.validate.specs.Adjacency.{stepsOn}
-use Rattle.validate.specs.Ready.{Ready}
+use Rattle.compiled.specs.Adjacency.{stepsOn}
+use Rattle.compiled.specs.Ready.{Ready}
 use Rattle.offers.specs.Load.{Sized}
 
 -- a part from place 0 on

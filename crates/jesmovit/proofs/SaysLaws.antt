@@ -16,8 +16,9 @@ use Rattle.semantics.proofs.StepVerdictLaws.{step-verdict-judged}
 use Rattle.domain.specs.Domain.{domainIn}
 use Rattle.compile.specs.Program.{programOf}
 use Rattle.compile.specs.CompiledJob.{stepsOf, positionCount}
-use Rattle.validate.specs.Ready.{Ready, EntriesBelow}
-use Rattle.validate.proofs.ReadyLaws.{final-below}
+use Rattle.compiled.specs.Ready.{Ready}
+use Rattle.validate.specs.Entries.{EntriesBelow}
+use Rattle.compiled.proofs.ReadyLaws.{final-below}
 use Rattle.offers.specs.Refusals.{boundFor}
 use Rattle.offers.specs.declared.offer.Sort.{Sort}
 use Rattle.offers.specs.declared.offer.Sort.the-variants.{Moves, Steps}
