@@ -221,8 +221,12 @@ module _ {origin : Origin} {rows list adjacency : List ℕ} {values : List Bool}
         }
 
         room-at : v < length T
-        room-at = omega (arith, cell-room (origin .grid .positions) (target .state) (target .position) (origin .grid .states) (omega (arith, edge-within inside edge .state, swept .states))
-            (edge-within inside edge .end) (swept .room .cells), runs-length (X .progress .runs))
+        room-at = omega (
+          arith,
+          cell-room (origin .grid .positions) (target .state) (target .position) (origin .grid .states) (omega (arith, edge-within inside edge .state, swept .states))
+              (edge-within inside edge .end) (swept .room .cells),
+          runs-length (X .progress .runs),
+        )
 
         -- the step lowers nothing below its own cost
         spent-at : (W : List ℕ) → getD W v 0 ≤ x + c → Spent G w x W (labelOf step) (step .to)
@@ -269,14 +273,17 @@ module _ {origin : Origin} {rows list adjacency : List ℕ} {values : List Bool}
             (target .state) to (x + c) (X .relaxed) room-at (edge-within inside edge .end) (omega arith)
             (λ i s m z l _ claim. (
               claim .0,
-              λ y. let other = claim .1 y in (other .0, elim (other .1) [
-                | below a ↦ below a
-                | passed a f ↦ passed (omega arith) f
-                | marked a ↦ elim (ℕ-discrete m to) [
-                  | yes o ↦ never (sym unmarked ∙ ap (λ (u : ℕ). getD (set marks to false) u false) (sym o) ∙ a)
-                  | no o ↦ marked (sym (getD-set-other marks to m false false o) ∙ a)
-                ]
-              ]),
+              λ y. let other = claim .1 y in (
+                other .0,
+                elim (other .1) [
+                  | below a ↦ below a
+                  | passed a f ↦ passed (omega arith) f
+                  | marked a ↦ elim (ℕ-discrete m to) [
+                    | yes o ↦ never (sym unmarked ∙ ap (λ (u : ℕ). getD (set marks to false) u false) (sym o) ∙ a)
+                    | no o ↦ marked (sym (getD-set-other marks to m false false o) ∙ a)
+                  ]
+                ],
+              ),
             ))
             (λ i l claim. elim (claim .1 own .1) [ below a ↦ omega (arith, X .due) | passed a f ↦ omega arith | marked a ↦ never (sym unmarked ∙ a) ]))
         relaxed-to (lowered {queue′} lower key) =

@@ -11,11 +11,11 @@ ghost use Rattle.compiled.specs.Ready.{Ready};
 ghost use Rattle.compiled.specs.Successors.{Cached};
 ghost use Rattle.search.specs.Sweeps.{Only, Processed, graphIn, domainAt};
 ghost use Rattle.search.specs.Relaxation.{Room, Sweep, Relaxing, Stepped, Scanned};
+use crate::Front;
+use crate::Origin;
 use compiled::arrival::Arrival;
 use compiled::arrival::Target;
 use compiled::steps::Step;
-use crate::Front;
-use crate::Origin;
 use limits::POSITIONS;
 
 // Lowers the target's cell to x and the step's cost, where that is less. In the origin's own state the steps from the target's position are then to
