@@ -1,6 +1,6 @@
 -- The verdicts that the checks compute are those of "Verdicts".
 -- Assumes nothing.
-use Prim.Native.Nat.{ℕ, _-_}
+use Prim.Native.Nat.{ℕ}
 use mathlib.Core.Path.{_≡_, ap, subst}
 use mathlib.Core.List.{List}
 use lib.ListN.{length}
@@ -8,6 +8,7 @@ use Rattle.limits.specs.Limits.{mostPositions}
 use Rattle.job.specs.Job.{Job}
 use Rattle.job.specs.Store.{jobOf}
 use Rattle.job.specs.declared.head.Head.{Head}
+use Rattle.semantics.specs.CompilingTable.{end}
 use Rattle.semantics.specs.Verdict.{Verdict}
 use Rattle.semantics.specs.PositionSets.{verdictBy}
 use Rattle.semantics.specs.StepVerdict.{stepVerdict}
@@ -15,7 +16,7 @@ use Rattle.semantics.proofs.CheckLaws.{verdict-by-judged}
 use Rattle.semantics.proofs.StepVerdictLaws.{step-verdict-judged}
 use Rattle.domain.specs.Domain.{domainIn}
 use Rattle.compile.specs.Program.{programOf}
-use Rattle.compile.specs.CompiledJob.{stepsOf, positionCount}
+use Rattle.compile.specs.CompiledJob.{stepsOf}
 use Rattle.compiled.specs.Ready.{Ready}
 use Rattle.validate.specs.Entries.{EntriesBelow}
 use Rattle.compiled.proofs.ReadyLaws.{final-below}
@@ -40,6 +41,6 @@ module _ (h : Head) (rows plan : List ℕ) where
     pub step-entries : EntriesBelow plan (boundFor sort (jobOf h rows)) → EntriesBelow plan (length (stepsOf (jobOf h rows)))
     step-entries x = subst (λ (b : ℕ). EntriesBelow plan b) (ap (λ (s : Sort). boundFor s j) e) x
 
-    pub says-steps : {list : List ℕ} {positions : ℕ} → Ready h rows list positions → {v : Verdict} → v ≡ stepVerdict (domainIn h rows) (stepsOf (jobOf h rows)) (positions - 1) plan
+    pub says-steps : {v : Verdict} → v ≡ stepVerdict (domainIn h rows) (stepsOf (jobOf h rows)) (end (programOf (jobOf h rows)) 0) plan
         → Says sort (record { job = jobOf h rows; entries = plan }) v
-    says-steps r f = rw (e, f, r .positions) (step-verdict-judged (domainIn h rows) (stepsOf j) (positionCount j - 1) plan)
+    says-steps f = rw (e, f) (step-verdict-judged (domainIn h rows) (stepsOf j) (end (programOf j) 0) plan)

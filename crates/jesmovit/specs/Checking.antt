@@ -1,12 +1,13 @@
 -- What checking a plan text against a job text answers.
-use Prim.Native.Nat.{ℕ, _-_}
+use Prim.Native.Nat.{ℕ}
 use mathlib.Core.Path.{_≡_}
 use mathlib.Core.List.{List}
 use lib.ListN.{length}
 use Rattle.semantics.specs.Verdict.{Verdict, Judged, byRuns, bySteps}
+use Rattle.semantics.specs.CompilingTable.{end}
 use Rattle.domain.specs.Domain.{domainOf}
 use Rattle.compile.specs.Program.{programOf}
-use Rattle.compile.specs.CompiledJob.{stepsOf, positionCount}
+use Rattle.compile.specs.CompiledJob.{stepsOf}
 use Rattle.validate.specs.Verdict.{verdictOf}
 use Rattle.validate.specs.declared.verdict.Verdict as A
 use Rattle.offers.specs.Refusals as C
@@ -24,7 +25,7 @@ checking sort text plan places = next (offerIn sort text plan) (λ o. listLong p
 -- a verdict of "Verdicts": on moves by the runs of the program itself, on steps by the paths of the compiled job
 abbrev pub Says : Sort → Offer → Verdict → Type 0
 Says Moves o v = Judged (domainOf (o .job)) (byRuns (domainOf (o .job)) (programOf (o .job))) (o .entries) v
-Says Steps o v = Judged (domainOf (o .job)) (bySteps (domainOf (o .job)) (stepsOf (o .job)) (positionCount (o .job) - 1)) (o .entries) v
+Says Steps o v = Judged (domainOf (o .job)) (bySteps (domainOf (o .job)) (stepsOf (o .job)) (end (programOf (o .job)) 0)) (o .entries) v
 
 -- the answer: "A refusal comes before every verdict"
 pub data Answers (sort : Sort) : Checked Offer → CheckAnswer → Type 0 where

@@ -1,11 +1,12 @@
 -- At most one answer, list and cost table meet the contract of an operation.
 -- Assumes nothing.
-use Prim.Native.Nat.{ℕ, _-_}
+use Prim.Native.Nat.{ℕ}
 use mathlib.Core.Path.{_≡_, refl, sym, _∙_, ap}
 use mathlib.Core.List.{List}
 use lib.ListN.{length}
 use Rattle.laws.proofs.Tests.{never}
 use Rattle.job.specs.Job.{Job}
+use Rattle.semantics.specs.CompilingTable.{end}
 use Rattle.semantics.specs.Verdict.{Verdict}
 use Rattle.semantics.specs.Judgement as J
 use Rattle.semantics.proofs.CostLaws.{least-unique}
@@ -34,7 +35,7 @@ use Rattle.jesmovit.specs.declared.judging.JudgeAnswer.the-variants.{Judged}
 
 one-says : (sort : Sort) (o : Offer) (v w : Verdict) → Says sort o v → Says sort o w → v ≡ w
 one-says Moves o v w x y = one-move-verdict (domainOf (o .job)) (programOf (o .job)) (o .entries) v w x y
-one-says Steps o v w x y = one-step-verdict (domainOf (o .job)) (stepsOf (o .job)) (positionCount (o .job) - 1) (o .entries) v w x y
+one-says Steps o v w x y = one-step-verdict (domainOf (o .job)) (stepsOf (o .job)) (end (programOf (o .job)) 0) (o .entries) v w x y
 
 same-answer : (sort : Sort) (c : Checked Offer) (a b : CheckAnswer) → Answers sort c a → Answers sort c b → a ≡ b
 same-answer sort c a b (says {o} {v} x) (says {v = w} y) = ap Said (verdict-injective v w (one-says sort o (verdictOf v) (verdictOf w) x y))
