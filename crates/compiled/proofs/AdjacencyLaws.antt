@@ -1,6 +1,6 @@
 -- The last step from a position, and the links to it as they are made.
 -- Assumes nothing.
-use Prim.Native.Nat.{ℕ, zero, suc, _+_, _*_, _≤_, _<_}
+use Prim.Native.Nat.{ℕ, zero, suc, _+_, _≤_, _<_}
 use mathlib.Core.Path.{_≡_, refl, sym, _∙_, ap}
 use mathlib.Core.Bool.{Bool, true, false, cond}
 use mathlib.Core.List.{List}
@@ -14,34 +14,31 @@ use borrow.Author.Tests.{eqb-true, eqb-false}
 use Rattle.limits.specs.Limits.{mostPositions, mostSteps}
 use Rattle.laws.proofs.Tests.{cond-has}
 use Rattle.laws.proofs.Lists.{replicate-default}
-use Rattle.compiled.specs.Adjacency.{lastFrom, Adjacency, adjacencySize}
+use Rattle.compiled.specs.Adjacency.{startIn, lastFrom, Adjacency, adjacencySize}
 
 module _ (list : List ℕ) (p : ℕ) where
-  abbrev from : ℕ → ℕ
-  from k = getD list (k * 4 + 1) 0
-
   pub last-within : (n : ℕ) → lastFrom list p n ≤ n
   unfolding lastFrom
   last-within zero = omega arith
-  last-within (suc k) = cond-has (λ x. x ≤ suc k) (eqb (from k) p) (suc k) (lastFrom list p k) (λ e. omega arith) (λ e. omega (arith, last-within k))
+  last-within (suc k) = cond-has (λ x. x ≤ suc k) (eqb (startIn list k) p) (suc k) (lastFrom list p k) (λ e. omega arith) (λ e. omega (arith, last-within k))
 
-  pub last-starts : (n k : ℕ) → lastFrom list p n ≡ suc k → getD list (k * 4 + 1) 0 ≡ p
+  pub last-starts : (n k : ℕ) → lastFrom list p n ≡ suc k → startIn list k ≡ p
   unfolding lastFrom
   last-starts zero k e = absurd (omega arith)
   last-starts (suc n) k e =
-      cond-has (λ x. x ≡ suc k → from k ≡ p) (eqb (from n) p) (suc n) (lastFrom list p n)
-      (λ h x. let y : n ≡ k = omega arith in rw (← y) (eqb-true (from n) p h)) (λ h x. last-starts n k x) e
+      cond-has (λ x. x ≡ suc k → startIn list k ≡ p) (eqb (startIn list n) p) (suc n) (lastFrom list p n)
+      (λ h x. let y : n ≡ k = omega arith in rw (← y) (eqb-true (startIn list n) p h)) (λ h x. last-starts n k x) e
 
   -- no later step starts there
-  pub last-alone : (n k : ℕ) → lastFrom list p n ≤ k → k < n → getD list (k * 4 + 1) 0 ≡ p → ⊥
+  pub last-alone : (n k : ℕ) → lastFrom list p n ≤ k → k < n → startIn list k ≡ p → ⊥
   unfolding lastFrom
   last-alone zero k l h e = omega arith
   last-alone (suc n) k l h e =
-      cond-has (λ x. x ≤ k → ⊥) (eqb (from n) p) (suc n) (lastFrom list p n) (λ t x. omega arith)
-      (λ t x. elim (decLt k n) [ yes y ↦ last-alone n k x y e | no y ↦ (let z : n ≡ k = omega arith in eqb-false (from n) p t (ap from z ∙ e)) ]) l
+      cond-has (λ x. x ≤ k → ⊥) (eqb (startIn list n) p) (suc n) (lastFrom list p n) (λ t x. omega arith)
+      (λ t x. elim (decLt k n) [ yes y ↦ last-alone n k x y e | no y ↦ (let z : n ≡ k = omega arith in eqb-false (startIn list n) p t (ap (startIn list) z ∙ e)) ]) l
 
 -- one step more
-module _ (list adjacency : List ℕ) (k q : ℕ) (x : Adjacency list k adjacency) (room : k < mostSteps) (starts : q ≡ getD list (k * 4 + 1) 0) (inside : q < mostPositions) where
+module _ (list adjacency : List ℕ) (k q : ℕ) (x : Adjacency list k adjacency) (room : k < mostSteps) (starts : q ≡ startIn list k) (inside : q < mostPositions) where
   abbrev old : List ℕ
   old = set adjacency (mostPositions + k) (getD adjacency q 0)
 
@@ -59,7 +56,7 @@ module _ (list adjacency : List ℕ) (k q : ℕ) (x : Adjacency list k adjacency
   last-by p h true e = let y : p ≡ q = sym (eqb-true q p e) in ap (λ i. getD all i 0) y ∙ getD-set-same old q (k + 1) 0 (rw old-size (omega arith))
   last-by p h false e = kept p (λ y. eqb-false q p e (sym y)) (λ y. omega arith) ∙ x .last p h
 
-  before-by : (i : ℕ) → i < k + 1 → (b : Bool) → eqb i k ≡ b → getD all (mostPositions + i) 0 ≡ lastFrom list (getD list (i * 4 + 1) 0) i
+  before-by : (i : ℕ) → i < k + 1 → (b : Bool) → eqb i k ≡ b → getD all (mostPositions + i) 0 ≡ lastFrom list (startIn list i) i
   before-by i h true e =
       let y : i ≡ k = eqb-true i k e in
       rw y (getD-set-other old q (mostPositions + k) (k + 1) 0 (λ z. omega arith) ∙ getD-set-same adjacency (mostPositions + k) (getD adjacency q 0) 0 (rw (x .size) (omega arith)) ∙ x .last q inside ∙ ap (λ p. lastFrom list p k) starts)

@@ -1,6 +1,6 @@
 -- The steps from a position, walked link by link.
 -- Assumes nothing.
-use Prim.Native.Nat.{ℕ, suc, _+_, _-_, _*_, _/_, _≤_, _<_}
+use Prim.Native.Nat.{ℕ, suc, _+_, _-_, _/_, _≤_, _<_}
 use mathlib.Core.Path.{_≡_, sym, _∙_, ap, subst}
 use mathlib.Core.List.{List}
 use native.Mathlib.Omega.{arith}
@@ -10,7 +10,7 @@ use Rattle.limits.specs.Limits.{mostPositions}
 use Rattle.semantics.specs.Label.{Label}
 use Rattle.semantics.specs.Path.{StepAt}
 use Rattle.semantics.proofs.FlatLaws.{Located, steps-only}
-use Rattle.compiled.specs.Adjacency.{stepsOn, Listed, lastFrom, Indexed}
+use Rattle.compiled.specs.Adjacency.{stepsOn, startIn, Listed, lastFrom, Indexed}
 use Rattle.compiled.proofs.AdjacencyLaws.{last-within, last-starts, last-alone}
 
 -- a list's steps lead from and to positions
@@ -22,7 +22,7 @@ step-inside {list} x s =
 -- step h, counted from 1, is the next one from p, none where h is 0; P holds of the label and the end of all from p that come after it
 pub record Walked (list : List ℕ) (p : ℕ) (P : Label → ℕ → Type 0) (h : ℕ) : Type 0 where
   pub within : h ≤ length list / 4
-  pub starts : (k : ℕ) → h ≡ suc k → getD list (k * 4 + 1) 0 ≡ p
+  pub starts : (k : ℕ) → h ≡ suc k → startIn list k ≡ p
   pub holds : (i q : ℕ) (l : Label) → h ≤ i → StepAt (stepsOn list) i p l q → P l q
 
 module _ {list adjacency : List ℕ} (x : Indexed list adjacency) where
@@ -57,7 +57,7 @@ module _ {list adjacency : List ℕ} (x : Indexed list adjacency) where
       pub next-link-inside : mostPositions + (h - 1) < length adjacency
       next-link-inside = omega (arith, x .by-start .size, x .listed .few, walk-inside)
 
-      at-p : getD list (k * 4 + 1) 0 ≡ p
+      at-p : startIn list k ≡ p
       at-p = w .starts k (omega arith)
 
       module _ {from to : ℕ} {label : Label} (is : StepAt (stepsOn list) (h - 1) from label to) where

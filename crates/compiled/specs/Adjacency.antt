@@ -12,16 +12,20 @@ use Rattle.semantics.specs.CompilingTable.{Step, stepsIn}
 abbrev pub stepsOn : List ℕ → List Step
 stepsOn list = stepsIn (length list / 4) list
 
+-- where step k starts
+abbrev pub startIn : List ℕ → ℕ → ℕ
+startIn list k = getD list (k * 4 + 1) 0
+
 -- at most so many of them, between so many positions
 pub record Listed (list : List ℕ) : Type 0 where
   pub few : length list ≤ mostSteps * 4
-  pub from : (k : ℕ) → k < length list / 4 → getD list (k * 4 + 1) 0 < mostPositions
+  pub from : (k : ℕ) → k < length list / 4 → startIn list k < mostPositions
   pub to : (k : ℕ) → k < length list / 4 → getD list (k * 4 + 2) 0 < mostPositions
 
 -- the last of the first n steps that starts from position p, counted from 1; 0 for none
 unfoldable pub lastFrom : List ℕ → ℕ → ℕ → ℕ
 lastFrom list p zero = 0
-lastFrom list p (suc k) = cond (eqb (getD list (k * 4 + 1) 0) p) (suc k) (lastFrom list p k)
+lastFrom list p (suc k) = cond (eqb (startIn list k) p) (suc k) (lastFrom list p k)
 
 -- how many links there are: one for each position, then one for each step
 abbrev pub adjacencySize : ℕ
@@ -31,7 +35,7 @@ adjacencySize = mostPositions + mostSteps
 pub record Adjacency (list : List ℕ) (n : ℕ) (adjacency : List ℕ) : Type 0 where
   pub size : length adjacency ≡ adjacencySize
   pub last : (p : ℕ) → p < mostPositions → getD adjacency p 0 ≡ lastFrom list p n
-  pub before : (k : ℕ) → k < n → getD adjacency (mostPositions + k) 0 ≡ lastFrom list (getD list (k * 4 + 1) 0) k
+  pub before : (k : ℕ) → k < n → getD adjacency (mostPositions + k) 0 ≡ lastFrom list (startIn list k) k
 
 -- a list's steps, indexed by where they start
 pub record Indexed (list adjacency : List ℕ) : Type 0 where

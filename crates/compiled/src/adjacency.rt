@@ -19,7 +19,7 @@ pub fn adjacency_of(list: &[u16]) -> [u16; ADJACENCY]
     let mut adjacency = [0u16; ADJACENCY];
     let mut k: usize = 0;
     while k < steps {
-        let from = list[k * 4 + 1] as usize;
+        let from = crate::steps::start_at(list, k) as usize;
         adjacency[POSITIONS + k] = adjacency[from];
         k += 1;
         adjacency[from] = k as u16;

@@ -8,7 +8,7 @@ ghost use Rattle.domain.specs.Domain.{domainIn};
 ghost use Rattle.compiled.specs.Steps.{labelOf};
 ghost use Rattle.compiled.specs.Successors.{Standing};
 ghost use Rattle.compiled.specs.Arrival.{arrivalOf, Arrives};
-use crate::steps::Step;
+use crate::steps::OutStep;
 use domain::Successor;
 use job::head::Head;
 
@@ -46,7 +46,7 @@ fn by_move(
     values: &[bool],
     cache: &mut [u16],
     state: u16,
-    step: Step,
+    step: OutStep,
 ) -> Arrival
     requires { ⌜ Standing head (now rows) (now values) state (now cache) ⌝ }
     ensures { λ r. ⌜ Arrives (domainIn head (now (rows .entry))) (make (step .arg)) state (step .to) r (now (cache .exit)) ⌝ }
@@ -74,7 +74,7 @@ pub fn arrive(
     values: &[bool],
     cache: &mut [u16],
     state: u16,
-    step: Step,
+    step: OutStep,
 ) -> Arrival
     requires { ⌜ Standing head (now rows) (now values) state (now cache) ⌝ }
     ensures { λ r. ⌜ Arrives (domainIn head (now (rows .entry))) (labelOf step) state (step .to) r (now (cache .exit)) ⌝ }

@@ -28,7 +28,7 @@ use Rattle.compiled.specs.Steps.{labelOf, IsStep}
 use Rattle.compiled.specs.Ready.{Ready}
 use Rattle.compiled.specs.Successors.{Cached}
 use Rattle.compiled.specs.Arrival.{targetOf}
-use Rattle.compiled.specs.declared.steps.Step.{Step}
+use Rattle.compiled.specs.declared.steps.OutStep.{OutStep}
 use Rattle.compiled.specs.declared.arrival.Target.{Target}
 use Rattle.compiled.proofs.WalkLaws.{Walked, walk-start, walk-step, walk-more, walk-end}
 use Rattle.compiled.proofs.ArrivalLaws.{Led, arrives-led, arrives-alone, arrives-never}
@@ -46,7 +46,7 @@ cell-room positions t q states a b h = omega (arith, cell-below positions t q st
 
 module _ {origin : Origin} {rows : List ℕ} {values : List Bool} {T queue cache : List ℕ} (x : Sweep origin rows values T queue cache) where
   -- where a step leads there is a cell
-  pub target-inside : (step : Step) (target : Target) → some (targetOf target) ≡ arrives (domainAt origin rows) (labelOf step) (origin .state) (step .to)
+  pub target-inside : (step : OutStep) (target : Target) → some (targetOf target) ≡ arrives (domainAt origin rows) (labelOf step) (origin .state) (step .to)
       → step .to < origin .grid .positions → (target .state < origin .grid .states) × (target .position < origin .grid .positions)
   target-inside step target e h =
       let y = arrives-led (domainAt origin rows) (labelOf step) (origin .state) (step .to) e in
@@ -187,7 +187,7 @@ module _ {origin : Origin} {rows list adjacency : List ℕ} {values : List Bool}
       ];
     }
 
-    module _ (on : 0 < h) (step : Step) (is : IsStep list (h - 1) step) {g : ℕ} (next-link : g ≡ getD adjacency (mostPositions + (h - 1)) 0) where
+    module _ (on : 0 < h) (step : OutStep) (is : IsStep list (h - 1) step) {g : ℕ} (next-link : g ≡ getD adjacency (mostPositions + (h - 1)) 0) where
       -- nothing was lowered
       unmoved : Spent G w x T (labelOf step) (step .to) → Scanning G list w k x p T₀ queue₀ T queue marks next g
       unmoved spent = record {

@@ -15,7 +15,7 @@ use crate::Front;
 use crate::Origin;
 use compiled::arrival::Arrival;
 use compiled::arrival::Target;
-use compiled::steps::Step;
+use compiled::steps::OutStep;
 use limits::POSITIONS;
 
 // Lowers the target's cell to x and the step's cost, where that is less. In the origin's own state the steps from the target's position are then to
@@ -68,7 +68,7 @@ fn follow(
     values: &[bool],
     origin: Origin,
     x: u32,
-    step: Step,
+    step: OutStep,
     next: usize,
 ) -> usize
     requires { ⌜ Sweep origin (now rows) (now values) (now costs) (now queue) (now cache) ⌝ }

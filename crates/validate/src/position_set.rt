@@ -8,7 +8,7 @@ ghost use Rattle.semantics.specs.PositionSets.{closure, spread, isMove};
 ghost use Rattle.compiled.specs.Adjacency.{stepsOn, Indexed};
 ghost use Rattle.compiled.specs.Steps.{labelOf, silentBy};
 ghost use Rattle.validate.specs.Positions.{Counted, CountedSet, wantedBy, Followed, Marking};
-use compiled::steps::Step;
+use compiled::steps::OutStep;
 use limits::POSITIONS;
 
 // One mark a position, how many are set, and the marked positions in the order in which they were marked.
@@ -24,7 +24,7 @@ pub enum Wanted {
     Move(u16),
 }
 
-fn is_wanted(wanted: Wanted, values: &[bool], step: Step) -> bool
+fn is_wanted(wanted: Wanted, values: &[bool], step: OutStep) -> bool
     ensures { λ r. ⌜ r ≡ wantedBy wanted (now (values .entry)) (labelOf step) ⌝ }
 {
     match wanted {

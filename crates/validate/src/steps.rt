@@ -25,8 +25,9 @@ fn make_step(head: Head, rows: &[u16], list: &[u16], i: u16, state: u16, positio
     requires { ⌜ (i < length (now list) / 4) × (state < domainIn head (now rows) .states) ⌝ }
     ensures { λ r. ⌜ arrivalOf r ≡ made (domainIn head (now (rows .entry))) (stepsOn (now (list .entry))) i state position ⌝ }
 {
-    let step = compiled::steps::step_at(list, i as usize);
-    if step.from == position {
+    let k = i as usize;
+    let step = compiled::steps::step_at(list, k);
+    if compiled::steps::start_at(list, k) == position {
         let values = domain::formulas::formula_values(head, rows, state);
         let mut cache = [0u16; CACHE];
         return compiled::arrival::arrive(head, rows, &values, &mut cache, state, step);

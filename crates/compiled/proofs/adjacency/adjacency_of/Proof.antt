@@ -1,5 +1,5 @@
-use Prim.Native.Nat.{_*_, _+_, _/_, _-_, _≤_}
-use mathlib.Core.Path.{refl, _≡_}
+use Prim.Native.Nat.{_/_, _-_, _≤_}
+use mathlib.Core.Path.{_≡_}
 use native.Mathlib.Omega.{arith}
 use lib.ListN.{length}
 use Rattle.compiled.specs.Adjacency.{Adjacency}
@@ -18,32 +18,31 @@ loop-holds : tie.Need-loop-holds Inv-loop μ-loop
 loop-holds c = (adjacency-none _, omega arith)
 
 cast-from : tie.Need-cast-from Inv-loop μ-loop
-cast-from c = record { fits = omega (arith, c .shared-slice-known .given (c .before .before .loop .k * 4 + 1)) }
+cast-from c = record { fits = omega (arith, c .start-at .ensures, c .before .before .before .before .pre .from _ (c .before .loop-test .taken)) }
 
 mul-adjacency : tie.Need-mul-adjacency Inv-loop μ-loop
-mul-adjacency c = omega (arith, c .before .before .before .pre .from _ (c .before .loop-test .taken))
+mul-adjacency c = omega (arith, c .start-at .ensures, c .before .before .before .before .pre .from _ (c .before .loop-test .taken))
 
 array-read-adjacency : tie.Need-array-read-adjacency Inv-loop μ-loop
-array-read-adjacency c = omega (arith, c .before .before .before .pre .from _ (c .before .loop-test .taken))
+array-read-adjacency c = omega (arith, c .start-at .ensures, c .before .before .before .before .pre .from _ (c .before .loop-test .taken))
 
 mul-adjacency-3 : tie.Need-mul-adjacency-3 Inv-loop μ-loop
-mul-adjacency-3 c = omega (arith, c .before .before .before .pre .from _ (c .before .loop-test .taken))
+mul-adjacency-3 c = omega (arith, c .start-at .ensures, c .before .before .before .before .pre .from _ (c .before .loop-test .taken))
 
 array-write-adjacency-2 : tie.Need-array-write-adjacency-2 Inv-loop μ-loop
-array-write-adjacency-2 c = omega (arith, c .before .before .before .pre .from _ (c .before .loop-test .taken))
+array-write-adjacency-2 c = omega (arith, c .start-at .ensures, c .before .before .before .before .pre .from _ (c .before .loop-test .taken))
 
 loop-again : tie.Need-loop-again Inv-loop μ-loop
 loop-again c =
-    let at3 = c .before .before .before in (
-      adjacency-more _ _ _ _ (c .before .before .loop .inv .0) (omega (arith, c .before .loop-test .taken, at3 .pre .few))
-          refl (at3 .pre .from _ (c .before .loop-test .taken)),
+    let s = c .start-at .ensures in (
+      adjacency-more _ _ _ _ (c .before .before .loop .inv .0) (omega (arith, c .before .loop-test .taken, c .before .before .before .before .pre .few)) s (omega (arith, s, c .before .before .before .before .pre .from _ (c .before .loop-test .taken))),
       omega (arith, c .before .loop-test .taken),
     )
 
 returns : tie.Need-returns Inv-loop μ-loop
 returns c =
-    let e : c .before .loop .k ≡ length (c .before .before .args .list .now) / 4 = omega (arith, c .before .loop .inv .1, c .loop-test .left) in
-    record { listed = c .before .before .pre; by-start = rw (← e) (c .before .loop .inv .0) }
+    let e : c .before .loop .k ≡ length (c .before .before .before .args .list .now) / 4 = omega (arith, c .before .loop .inv .1, c .loop-test .left) in
+    record { listed = c .before .before .before .pre; by-start = rw (← e) (c .before .loop .inv .0) }
 
 pub adjacency-of-spec : {M : Type 1} → statement M
 adjacency-of-spec =
@@ -52,10 +51,7 @@ adjacency-of-spec =
     Inv-loop
     μ-loop
     loop-holds
-    (λ c. search needs)
-    (λ c. search needs)
-    (λ c. search needs)
-    (λ c. search needs)
+    (λ c κs. search needs)
     cast-from
     mul-adjacency
     array-read-adjacency

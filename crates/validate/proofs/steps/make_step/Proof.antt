@@ -1,3 +1,4 @@
+use mathlib.Core.Path.{sym, _∙_}
 use Rattle.compiled.proofs.SuccessorLaws.{cached-none}
 use Rattle.validate.proofs.StepLaws.{made-here, made-nowhere}
 use borrow.Author.Needs.{needs}
@@ -8,15 +9,16 @@ arrive-requires : tie.Need-arrive-requires
 arrive-requires c κs = record { stored = c .before .before .before .before .before .before .before .before .pre .0; told = c .before .before .formula-values .ensures; inside = c .before .before .before .before .before .before .before .before .pre .1 .1; successors = cached-none _ _ }
 
 returns : tie.Need-returns
-returns c = made-here _ _ _ (c .before .before .before .before .before .before .before .step-at .ensures) (c .before .before .before .before .before .if1 .taken) (c .before .arrive .ensures .leads)
+returns c = made-here _ _ _ (c .before .before .before .before .before .before .before .step-at .ensures) (sym (c .before .before .before .before .before .before .start-at .ensures) ∙ c .before .before .before .before .before .if1 .taken) (c .before .arrive .ensures .leads)
 
 returns-2 : tie.Need-returns-2
-returns-2 c = made-nowhere _ _ _ (c .before .before .step-at .ensures) (c .if1 .left)
+returns-2 c = made-nowhere _ _ _ (c .before .before .step-at .ensures) (λ e. c .if1 .left (c .before .start-at .ensures ∙ e))
 
 pub make-step-spec : {M : Type 1} → statement M
 make-step-spec =
     tie.close
     (tie.spec
+    (λ c κs. search needs)
     (λ c κs. search needs)
     (λ c κs. search needs)
     (λ c. search needs)
