@@ -35,10 +35,14 @@ module _ (list : List ℕ) (p : ℕ) where
   last-alone zero k l h e = omega arith
   last-alone (suc n) k l h e =
       cond-has (λ x. x ≤ k → ⊥) (eqb (startIn list n) p) (suc n) (lastFrom list p n) (λ t x. omega arith)
-      (λ t x. elim (decLt k n) [ yes y ↦ last-alone n k x y e | no y ↦ (let z : n ≡ k = omega arith in eqb-false (startIn list n) p t (ap (startIn list) z ∙ e)) ]) l
+      (λ t x. elim (decLt k n) [
+        | yes y ↦ last-alone n k x y e
+        | no y ↦ (let z : n ≡ k = omega arith in eqb-false (startIn list n) p t (ap (startIn list) z ∙ e))
+      ]) l
 
 -- one step more
-module _ (list adjacency : List ℕ) (k q : ℕ) (x : Adjacency list k adjacency) (room : k < mostSteps) (starts : q ≡ startIn list k) (inside : q < mostPositions) where
+module _ (list adjacency : List ℕ) (k q : ℕ) (x : Adjacency list k adjacency) (room : k < mostSteps) (starts : q ≡ startIn list k)
+    (inside : q < mostPositions) where
   abbrev old : List ℕ
   old = set adjacency (mostPositions + k) (getD adjacency q 0)
 
@@ -59,7 +63,8 @@ module _ (list adjacency : List ℕ) (k q : ℕ) (x : Adjacency list k adjacency
   before-by : (i : ℕ) → i < k + 1 → (b : Bool) → eqb i k ≡ b → getD all (mostPositions + i) 0 ≡ lastFrom list (startIn list i) i
   before-by i h true e =
       let y : i ≡ k = eqb-true i k e in
-      rw y (getD-set-other old q (mostPositions + k) (k + 1) 0 (λ z. omega arith) ∙ getD-set-same adjacency (mostPositions + k) (getD adjacency q 0) 0 (rw (x .size) (omega arith)) ∙ x .last q inside ∙ ap (λ p. lastFrom list p k) starts)
+      rw y (getD-set-other old q (mostPositions + k) (k + 1) 0 (λ z. omega arith)
+      ∙ getD-set-same adjacency (mostPositions + k) (getD adjacency q 0) 0 (rw (x .size) (omega arith)) ∙ x .last q inside ∙ ap (λ p. lastFrom list p k) starts)
   before-by i h false e = let y : i < k = omega (arith, eqb-false i k e) in kept (mostPositions + i) (λ z. omega arith) (λ z. omega arith) ∙ x .before i y
 
   last-more : (p : ℕ) → lastFrom list p (k + 1) ≡ cond (eqb q p) (k + 1) (lastFrom list p k)

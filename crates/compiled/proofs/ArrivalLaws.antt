@@ -67,4 +67,5 @@ module _ (D : Domain) (l : Label) (s q : ℕ) where
       (ap (λ (b : Arrival). b .state) g, ap (λ (b : Arrival). b .cost) g)
 
   pub arrives-never : none ≡ arrives D l s q → (u : ℕ) (ks : List ℕ) → Does D l s ks u → ⊥
-  arrives-never e u ks d = let f : _≡_ {A = Option Arrival} none (some (record { state = u; position = q; cost = cost D s ks })) = e ∙ does-arrives D q d in never (cc)
+  arrives-never e u ks d =
+      let f : _≡_ {A = Option Arrival} none (some (record { state = u; position = q; cost = cost D s ks })) = e ∙ does-arrives D q d in never (cc)

@@ -19,7 +19,7 @@ use Rattle.domain.specs.Domain.{domainOf, domainIn}
 use Rattle.domain.proofs.DomainLaws.{stored-bounded}
 use Rattle.compile.specs.Program.{programOf}
 use Rattle.compile.proofs.FitLaws.{few-positions, few-steps}
-use Rattle.compiled.specs.Adjacency.{Listed}
+use Rattle.compiled.specs.Adjacency.{startIn, Listed}
 use Rattle.compiled.specs.Ready.{Ready}
 
 module _ {head : Head} {rows list : List ℕ} {positions : ℕ} (r : Ready head rows list positions) where
@@ -35,13 +35,16 @@ module _ {head : Head} {rows list : List ℕ} {positions : ℕ} (r : Ready head 
   pub final-below : end (programOf (jobOf head rows)) 0 < mostPositions
   final-below = omega (arith, few-positions j (r .fit))
 
+  pub positions-few : positions ≤ mostPositions
+  positions-few = omega (arith, r .positions, few-positions j (r .fit))
+
   pub some-position : 1 ≤ positions
   some-position = omega (arith, r .positions)
 
   list-short : length list ≤ mostSteps * 4
   list-short = omega (arith, r .whole, few-steps j (r .fit))
 
-  step-range : (k : ℕ) → k < length list / 4 → Range 0 (end (programOf j) 0) (getD list (k * 4 + 1) 0) (getD list (k * 4 + 2) 0)
+  step-range : (k : ℕ) → k < length list / 4 → Range 0 (end (programOf j) 0) (startIn list k) (getD list (k * 4 + 2) 0)
   step-range k h = compiled (domainOf j) (programOf j) 0 .range (rw (r .steps) at (steps-at (length list / 4) list k h))
 
   pub ready-listed : Listed list

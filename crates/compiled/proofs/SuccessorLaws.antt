@@ -57,6 +57,7 @@ module _ {head : Head} {rows : List ℕ} (s : Stored head rows) where
   pub few-moves : {m : ℕ} → m < domainIn head rows .moves → m < mostMoves
   few-moves h = omega (arith, h, move-count head rows, limited s .moves)
 
-  pub noted-small : (m state : ℕ) (after : Successor) → state < domainIn head rows .states → successorIn after ≡ domainIn head rows .successor m state → noted after < 65536
+  pub noted-small : (m state : ℕ) (after : Successor) → state < domainIn head rows .states
+      → successorIn after ≡ domainIn head rows .successor m state → noted after < 65536
   noted-small m state (To t) h e = omega (arith, stored-bounded s .successors m state t h (sym e), states-few s)
   noted-small m state Inapplicable h e = omega arith

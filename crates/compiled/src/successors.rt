@@ -31,7 +31,8 @@ pub fn successor(
     state: u16,
 ) -> Successor
     requires { ⌜ Standing head (now rows) (now values) state (now cache) × (m < domainIn head (now rows) .moves) ⌝ }
-    ensures { λ r. ⌜ (successorIn r ≡ domainIn head (now (rows .entry)) .successor m state) × Cached (domainIn head (now (rows .entry))) state (now (cache .exit)) ⌝ }
+    ensures { λ r. ⌜ (successorIn r ≡ domainIn head (now (rows .entry)) .successor m state)
+        × Cached (domainIn head (now (rows .entry))) state (now (cache .exit)) ⌝ }
 {
     let i = m as usize;
     let x = cache[i];

@@ -23,7 +23,7 @@ use Rattle.domain.proofs.DomainLaws.{states-few}
 use Rattle.compile.specs.CompiledJob.{stepsOf}
 use Rattle.compiled.specs.Adjacency.{Indexed}
 use Rattle.compiled.specs.Ready.{Ready}
-use Rattle.compiled.proofs.ReadyLaws.{job-bounded, some-position}
+use Rattle.compiled.proofs.ReadyLaws.{job-bounded, some-position, positions-few}
 use Rattle.search.specs.Cells.{Cleared}
 use Rattle.search.specs.declared.Grid.{Grid}
 use Rattle.queue.specs.Queue.{Queue, queueSize, SameKeys, Lowered, Chosen}
@@ -31,7 +31,8 @@ use Rattle.compiled.specs.Successors.{Cached}
 use Rattle.search.specs.Sweeps.{graphOf, Keyed, potential}
 use Rattle.search.specs.Relaxation.{Sweep, Better}
 use Rattle.search.specs.Filling.{Search, Exhausted}
-use Rattle.search.proofs.GraphLaws.{graph-closed, positions-few}
+use Rattle.search.proofs.GraphLaws.{graph-closed}
+use Rattle.search.proofs.RelaxationLaws.{room-on}
 use Rattle.search.proofs.PotentialLaws.{order-keeps}
 
 -- states swept, perhaps none
@@ -44,11 +45,13 @@ pub record Settling (G : Graph) (T queue T′ queue′ : List ℕ) : Type 0 wher
 pub settling-start : {G : Graph} {T queue : List ℕ} → Relaxed G (Keyed queue) T → Settling G T queue T queue
 settling-start R = record { runs = none; size = refl; relaxed = R; less = omega arith }
 
-pub settling-more : {G : Graph} {T queue T′ queue′ T″ queue″ : List ℕ} → Settling G T queue T′ queue′ → Better G T′ queue′ T″ queue″ → Settling G T queue T″ queue″
+pub settling-more : {G : Graph} {T queue T′ queue′ T″ queue″ : List ℕ} → Settling G T queue T′ queue′
+    → Better G T′ queue′ T″ queue″ → Settling G T queue T″ queue″
 settling-more x y = record { runs = runs-on (x .runs) (y .runs); size = y .size ∙ x .size; relaxed = y .relaxed; less = omega (arith, x .less, y .less) }
 
 -- no state has a key
-pub settling-end : {G : Graph} {T queue T′ queue′ : List ℕ} {r n : ℕ} → Settling G T queue T′ queue′ → Chosen n queue′ r → r ≡ n → n ≡ G .domain .states → Exhausted G T T′
+pub settling-end : {G : Graph} {T queue T′ queue′ : List ℕ} {r n : ℕ} → Settling G T queue T′ queue′
+    → Chosen n queue′ r → r ≡ n → n ≡ G .domain .states → Exhausted G T T′
 settling-end x chosen e is = record {
   runs = x .runs;
   relaxed = λ i s p t q c l d claim. x .relaxed i s p t q c l d (omega (arith, claim, chosen .rest e s (omega (arith, d .inside))));
@@ -79,11 +82,11 @@ module _ {head : Head} {rows list adjacency : List ℕ} {grid : Grid} {T queue :
     ready = x .ready;
     indexed = x .indexed;
     states = x .states;
-    room = record { few = x .room .few; cells = omega (arith, x .room .cells); keys = record { size = b ∙ x .room .keys .size; few = x .room .keys .few } };
+    room = room-on (x .room) a b;
   }
 
-module _ {head : Head} {rows list : List ℕ} {grid : Grid} (r : Ready head rows list (grid .positions)) (is : grid .states ≡ domainIn head rows .states) (T : List ℕ)
-    (room : domainIn head rows .states * grid .positions ≤ length T) {s₀ : ℕ} (start : s₀ ≡ domainIn head rows .start) where
+module _ {head : Head} {rows list : List ℕ} {grid : Grid} (r : Ready head rows list (grid .positions))
+    (is : grid .states ≡ domainIn head rows .states) (T : List ℕ) (room : domainIn head rows .states * grid .positions ≤ length T) {s₀ : ℕ} (start : s₀ ≡ domainIn head rows .start) where
   abbrev positions : ℕ
   positions = grid .positions
 
@@ -117,7 +120,8 @@ module _ {head : Head} {rows list : List ℕ} {grid : Grid} (r : Ready head rows
           | yes a ↦ absurd (omega (arith, claim, low .at-most, ap (λ (k : ℕ). getD queue k 0) a))
           | no a ↦ (
               let key : getD queue s 0 ≡ unreached =
-              low .others s (omega (arith, e .inside)) a ∙ same .keys s (omega (arith, e .inside)) ∙ getD-replicate {A = ℕ} queueSize s unreached 0 (omega (arith, e .inside)) in
+              low .others s (omega (arith, e .inside)) a ∙ same .keys s (omega (arith, e .inside))
+              ∙ getD-replicate {A = ℕ} queueSize s unreached 0 (omega (arith, e .inside)) in
               let apart : cell positions s p ≡ cell positions s₀ 0 → ⊥ = λ z. a (cell-state positions s p s₀ 0 (w .start) (some-position r) z) in
               let clear : entry G (set T₁ (cell positions s₀ 0) 0) s p ≡ unreached =
               getD-set-other T₁ (cell positions s₀ 0) (cell positions s p) 0 0 apart ∙ cleared .clear (cell positions s p) (w .from) in
@@ -131,7 +135,11 @@ module _ {head : Head} {rows list : List ℕ} {grid : Grid} (r : Ready head rows
       ready = r;
       indexed = indexed;
       states = is;
-      room = record { few = positions-few r; cells = omega (arith, length-set T₁ (cell positions s₀ 0) 0, cleared .size, ap (λ (k : ℕ). k * positions) is); keys = keys };
+      room = record {
+        few = positions-few r;
+        cells = omega (arith, length-set T₁ (cell positions s₀ 0) 0, cleared .size, ap (λ (k : ℕ). k * positions) is);
+        keys = keys;
+      };
     }
 
     pub exhausted-fills : {U : List ℕ} → Exhausted (graphOf head rows list (grid .positions)) (set T₁ (cell (grid .positions) s₀ 0) 0) U

@@ -33,6 +33,7 @@ use Rattle.compiled.specs.declared.arrival.Target.{Target}
 use Rattle.compiled.proofs.WalkLaws.{Walked, walk-start, walk-step, walk-more, walk-end}
 use Rattle.compiled.proofs.ArrivalLaws.{Led, arrives-led, arrives-alone, arrives-never}
 use Rattle.queue.specs.Queue.{Lowered}
+use Rattle.search.specs.declared.Grid.{Grid}
 use Rattle.search.specs.declared.Origin.{Origin}
 use Rattle.search.specs.declared.Front.{Front}
 use Rattle.search.specs.Cells.{Idle, followed, low, far, due}
@@ -43,6 +44,10 @@ use Rattle.search.proofs.PotentialLaws.{store-falls}
 
 pub cell-room : (positions t q states : ℕ) {size : ℕ} → t < states → q < positions → states * positions ≤ size → cell positions t q < size
 cell-room positions t q states a b h = omega (arith, cell-below positions t q states a b)
+
+-- room stays while lengths do
+pub room-on : {grid : Grid} {T queue U queue′ : List ℕ} → Room grid T queue → length U ≡ length T → length queue′ ≡ length queue → Room grid U queue′
+room-on x a b = record { few = x .few; cells = omega (arith, x .cells); keys = record { size = b ∙ x .keys .size; few = x .keys .few } }
 
 module _ {origin : Origin} {rows : List ℕ} {values : List Bool} {T queue cache : List ℕ} (x : Sweep origin rows values T queue cache) where
   -- where a step leads there is a cell
@@ -58,7 +63,7 @@ module _ {origin : Origin} {rows : List ℕ} {values : List Bool} {T queue cache
   sweep-on a b k = record {
     standing = record { stored = x .standing .stored; told = x .standing .told; inside = x .standing .inside; successors = k };
     states = x .states;
-    room = record { few = x .room .few; cells = omega (arith, x .room .cells); keys = record { size = b ∙ x .room .keys .size; few = x .room .keys .few } };
+    room = room-on (x .room) a b;
   }
 
 -- why there is nothing to follow
@@ -97,8 +102,9 @@ pub record Scanning (G : Graph) (list : List ℕ) (w k x p : ℕ) (T₀ queue₀
   pub walked : Walked list p (λ l q. Spent G w x T l q) h
   pub relaxed : Relaxed G (Only queue w (Elsewhere p (Processed k next marks))) T
 
-module _ {origin : Origin} {rows list adjacency : List ℕ} {values : List Bool} {T₀ queue₀ cache : List ℕ} (ready : Ready (origin .head) rows list (origin .grid .positions))
-    (indexed : Indexed list adjacency) (swept : Sweep origin rows values T₀ queue₀ cache) (front : Front) (front-inside : front .position < origin .grid .positions) where
+module _ {origin : Origin} {rows list adjacency : List ℕ} {values : List Bool} {T₀ queue₀ cache : List ℕ}
+    (ready : Ready (origin .head) rows list (origin .grid .positions)) (indexed : Indexed list adjacency) (swept : Sweep origin rows values T₀ queue₀ cache)
+    (front : Front) (front-inside : front .position < origin .grid .positions) where
   abbrev w : ℕ
   w = origin .state
 
@@ -221,12 +227,10 @@ module _ {origin : Origin} {rows list adjacency : List ℕ} {values : List Bool}
         }
 
         room-at : v < length T
-        room-at = omega (
-          arith,
-          cell-room (origin .grid .positions) (target .state) (target .position) (origin .grid .states) (omega (arith, edge-within inside edge .state, swept .states))
-              (edge-within inside edge .end) (swept .room .cells),
-          runs-length (X .progress .runs),
-        )
+        room-at =
+            let e = edge-within inside edge in
+            let inside : target .state < origin .grid .states = omega (arith, e .state, swept .states) in
+            omega (arith, cell-room (origin .grid .positions) _ _ _ inside (e .end) (swept .room .cells), runs-length (X .progress .runs))
 
         -- the step lowers nothing below its own cost
         spent-at : (W : List ℕ) → getD W v 0 ≤ x + c → Spent G w x W (labelOf step) (step .to)

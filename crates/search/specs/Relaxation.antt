@@ -45,7 +45,8 @@ pub data Relaxing (origin : Origin) (target : Target) (x next : ℕ) (T queue : 
       → Relaxing origin target x next T queue marks (set T (cellAt origin target) (x + target .cost)) queue′ marks next
 
 -- what following a step from the origin's state does
-pub data Stepped (origin : Origin) (rows : List ℕ) (step : OutStep) (x next : ℕ) (T queue : List ℕ) (marks : List Bool) : List ℕ → List ℕ → List Bool → ℕ → Type 0 where
+pub data Stepped (origin : Origin) (rows : List ℕ) (step : OutStep) (x next : ℕ) (T queue : List ℕ) (marks : List Bool)
+    : List ℕ → List ℕ → List Bool → ℕ → Type 0 where
   stays : nothing ≡ arrives (domainAt origin rows) (labelOf step) (origin .state) (step .to) → Stepped origin rows step x next T queue marks T queue marks next
   leads : (target : Target) {T′ queue′ : List ℕ} {marks′ : List Bool} {r : ℕ}
       → some (targetOf target) ≡ arrives (domainAt origin rows) (labelOf step) (origin .state) (step .to)

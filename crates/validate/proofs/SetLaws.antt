@@ -1,6 +1,6 @@
 -- Position sets as methods turn them: the first one, all that silent steps lead to, what a move leads to.
 -- Assumes nothing.
-use Prim.Native.Nat.{ℕ, _+_, _/_, _≤_, _<_}
+use Prim.Native.Nat.{ℕ, _+_, _≤_, _<_}
 use mathlib.Core.Path.{_≡_, refl, sym, _∙_, subst}
 use mathlib.Core.Bool.{Bool, true, false}
 use mathlib.Core.List.{List}
@@ -31,7 +31,9 @@ empty-counted ms e = record {
 
 -- position 0 alone
 pub first-counted : Counted (set (replicate mostPositions false) 0 true) (replicate mostPositions 0) 1
-first-counted = mark-new (replicate mostPositions false) (replicate mostPositions 0) 0 0 (empty-counted (replicate mostPositions 0) (length-replicate {A = ℕ} mostPositions 0)) (omega arith) refl refl .counted
+first-counted =
+    let none = empty-counted (replicate mostPositions 0) (length-replicate {A = ℕ} mostPositions 0) in
+    mark-new (replicate mostPositions false) (replicate mostPositions 0) 0 0 none (omega arith) refl refl .counted
 
 pub counted-few : {S : List Bool} {ms : List ℕ} {n : ℕ} → Counted S ms n → n ≤ mostPositions
 counted-few {S} x = omega (arith, x .counted, count-le S, x .size)
@@ -73,7 +75,8 @@ module _ (on : Label → Bool) (list : List ℕ) where
       done = λ i h. absurd (omega arith);
     }
 
-    module _ (sound : Listed list) (wide : length S ≡ mostPositions) {T U : List Bool} {ms us : List ℕ} {n u at : ℕ} (x : Closing T ms n at) (h : at < n) (y : Followed on (stepsOn list) (getD ms at 0) T ms n U us u) where
+    module _ (sound : Listed list) (wide : length S ≡ mostPositions) {T U : List Bool} {ms us : List ℕ} {n u at : ℕ} (x : Closing T ms n at)
+        (h : at < n) (y : Followed on (stepsOn list) (getD ms at 0) T ms n U us u) where
       reached-more : (q : ℕ) → Marked U q → Marked (closure on L S) q
       reached-more q m = elim (y .added .only q m) [
         | old a ↦ x .reached q a
@@ -123,7 +126,8 @@ module _ (on : Label → Bool) (list : List ℕ) where
       done = λ i h. absurd (omega arith);
     }
 
-    module _ {T U : List Bool} {ts us : List ℕ} {m u at : ℕ} (x : Advancing T ts m at) (h : at < n) (y : Followed on (stepsOn list) (getD ms at 0) T ts m U us u) where
+    module _ {T U : List Bool} {ts us : List ℕ} {m u at : ℕ} (x : Advancing T ts m at) (h : at < n)
+        (y : Followed on (stepsOn list) (getD ms at 0) T ts m U us u) where
       came-more : (q : ℕ) → Marked U q → Came q
       came-more q a = elim (y .added .only q a) [
         | old b ↦ x .came q b
@@ -133,8 +137,19 @@ module _ (on : Label → Bool) (list : List ℕ) where
       pub advancing-more : Advancing U us u (at + 1)
       advancing-more = record { counted = y .added .counted; within = omega arith; came = came-more; done = done-also ms at (x .done) y }
 
-    pub advancing-end : {S T : List Bool} {ts : List ℕ} {m at : ℕ} → Counted S ms n → Advancing T ts m at → n ≤ at → T ≡ spread on (stepsOn list) S (replicate mostPositions false)
+    pub advancing-end : {S T : List Bool} {ts : List ℕ} {m at : ℕ} → Counted S ms n → Advancing T ts m at → n ≤ at
+        → T ≡ spread on (stepsOn list) S (replicate mostPositions false)
     advancing-end {S} {T} {ts} {m} {at} from x h =
         spread-is on L S T mostPositions (x .counted .size)
-        (λ q a. let v = x .came q a in record { number = v .number; from = getD ms (v .member) 0; label = v .label; step = v .step; passes = v .passes; marked = from .marked (v .member) (v .listed) })
+        (λ q a. (
+        let v = x .came q a in
+        record {
+          number = v .number;
+          from = getD ms (v .member) 0;
+          label = v .label;
+          step = v .step;
+          passes = v .passes;
+          marked = from .marked (v .member) (v .listed);
+        }
+        ))
         (λ k p q l s o a. let v = from .listed p a in x .done (v .0) (omega (arith, v .1)) k q l (subst (λ r. StepAt L k r l q) (sym (v .2)) s) o)

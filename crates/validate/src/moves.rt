@@ -17,7 +17,8 @@ use job::head::Head;
 pub fn check_moves(head: Head, rows: &[u16], list: &[u16], positions: u16, plan: &[u16]) -> Verdict
     requires { ⌜ Ready head (now rows) (now list) positions ⌝ }
     requires { ⌜ EntriesBelow (now plan) (domainIn head (now rows) .moves) ⌝ }
-    ensures { λ r. ⌜ verdictOf r ≡ verdictBy mostPositions (domainIn head (now (rows .entry))) (programOf (jobOf head (now (rows .entry)))) (now (plan .entry)) ⌝ }
+    ensures { λ r. ⌜ verdictOf r
+        ≡ verdictBy mostPositions (domainIn head (now (rows .entry))) (programOf (jobOf head (now (rows .entry)))) (now (plan .entry)) ⌝ }
 {
     let adjacency = compiled::adjacency::adjacency_of(list);
     let mut state = domain::states::start(head, rows);

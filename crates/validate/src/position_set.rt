@@ -68,7 +68,8 @@ fn follow(
 ) -> usize
     requires { ⌜ Counted (now marks) (now members) count × (p < mostPositions) ⌝ }
     requires { ⌜ Indexed (now list) (now adjacency) ⌝ }
-    ensures { λ r. ⌜ Followed (wantedBy wanted (now (values .entry))) (stepsOn (now (list .entry))) p (now (marks .entry)) (now (members .entry)) count (now (marks .exit)) (now (members .exit)) r ⌝ }
+    ensures { λ r. ⌜ Followed (wantedBy wanted (now (values .entry))) (stepsOn (now (list .entry))) p
+        (now (marks .entry)) (now (members .entry)) count (now (marks .exit)) (now (members .exit)) r ⌝ }
 {
     let mut n = count;
     let mut h = compiled::adjacency::link_at(adjacency, p as usize);

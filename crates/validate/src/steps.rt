@@ -39,7 +39,8 @@ fn make_step(head: Head, rows: &[u16], list: &[u16], i: u16, state: u16, positio
 pub fn check_steps(head: Head, rows: &[u16], list: &[u16], positions: u16, plan: &[u16]) -> Verdict
     requires { ⌜ Ready head (now rows) (now list) positions ⌝ }
     requires { ⌜ EntriesBelow (now plan) (stepCount (jobOf head (now rows))) ⌝ }
-    ensures { λ r. ⌜ verdictOf r ≡ stepVerdict (domainIn head (now (rows .entry))) (stepsOf (jobOf head (now (rows .entry)))) (end (programOf (jobOf head (now (rows .entry)))) 0) (now (plan .entry)) ⌝ }
+    ensures { λ r. ⌜ verdictOf r ≡ stepVerdict (domainIn head (now (rows .entry))) (stepsOf (jobOf head (now (rows .entry))))
+        (end (programOf (jobOf head (now (rows .entry)))) 0) (now (plan .entry)) ⌝ }
 {
     let mut state = domain::states::start(head, rows);
     let mut position: u16 = 0;

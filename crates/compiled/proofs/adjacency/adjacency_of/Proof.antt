@@ -34,8 +34,9 @@ array-write-adjacency-2 c = omega (arith, c .start-at .ensures, c .before .befor
 
 loop-again : tie.Need-loop-again Inv-loop μ-loop
 loop-again c =
+    let at4 = c .before .before .before .before in
     let s = c .start-at .ensures in (
-      adjacency-more _ _ _ _ (c .before .before .loop .inv .0) (omega (arith, c .before .loop-test .taken, c .before .before .before .before .pre .few)) s (omega (arith, s, c .before .before .before .before .pre .from _ (c .before .loop-test .taken))),
+      adjacency-more _ _ _ _ (c .before .before .loop .inv .0) (omega (arith, c .before .loop-test .taken, at4 .pre .few)) s (omega (arith, s, at4 .pre .from _ (c .before .loop-test .taken))),
       omega (arith, c .before .loop-test .taken),
     )
 

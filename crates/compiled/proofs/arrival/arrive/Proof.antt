@@ -6,10 +6,12 @@ use Rattle.compiled.proofs.arrival.arrive.Statement.{statement}
 use Rattle.compiled.proofs.arrival.arrive.Tie as tie
 
 returns : tie.Need-returns
-returns c = record {
-  leads = arrives-silently _ _ _ _ (c .before .before .before .before .before .before .before .pre .told) _ (c .before .before .if1 .taken) (c .before .is-silent .ensures) (c .silently .ensures);
-  cached = c .before .before .before .before .before .before .before .pre .successors;
-}
+returns c =
+    let at7 = c .before .before .before .before .before .before .before in
+    record {
+      leads = arrives-silently _ _ _ _ (at7 .pre .told) _ (c .before .before .if1 .taken) (c .before .is-silent .ensures) (c .silently .ensures);
+      cached = at7 .pre .successors;
+    }
 
 returns-2 : tie.Need-returns-2
 returns-2 c =

@@ -9,10 +9,12 @@ move-count-requires : tie.Need-move-count-requires
 move-count-requires c κs = c .before .before .before .pre .stored
 
 returns : tie.Need-returns
-returns c = record {
-  leads = arrives-nowhere _ _ _ _ (successor-past _ (c .before .before .before .before .before .args .step .arg) (c .before .before .before .before .before .args .state) (omega (arith, c .if1 .taken, c .before .move-count .ensures)));
-  cached = c .before .before .before .before .before .pre .successors;
-}
+returns c =
+    let at5 = c .before .before .before .before .before in
+    record {
+      leads = arrives-nowhere _ _ _ _ (successor-past _ (at5 .args .step .arg) (at5 .args .state) (omega (arith, c .if1 .taken, c .before .move-count .ensures)));
+      cached = at5 .pre .successors;
+    }
 
 successor-requires : tie.Need-successor-requires
 successor-requires c κs = (c .before .before .before .before .before .before .pre, omega (arith, c .before .if1 .left, c .before .before .move-count .ensures))
@@ -23,7 +25,10 @@ returns-2 c =
     record { leads = arrives-nowhere _ _ _ _ (rw (c .enum-told .given .1) at (after .0)); cached = after .1 }
 
 cost-requires : tie.Need-cost-requires
-cost-requires c κs = ((c .before .before .before .before .before .before .before .before .before .before .before .before .pre .stored, c .before .before .before .before .before .before .before .before .before .before .before .before .pre .told), omega (arith, c .before .before .before .before .before .before .before .if1 .left, c .before .before .before .before .before .before .before .before .move-count .ensures))
+cost-requires c κs =
+    let at7 = c .before .before .before .before .before .before .before in
+    let at12 = at7 .before .before .before .before .before in
+    ((at12 .pre .stored, at12 .pre .told), omega (arith, at7 .if1 .left, at7 .before .move-count .ensures))
 
 returns-3 : tie.Need-returns-3
 returns-3 c =

@@ -23,7 +23,9 @@ returns-2 c =
     (sym (kept-none (k .kept _ (few-moves (p .0 .stored) (p .1))) (c .if2 .taken)), k)
 
 successor-requires : tie.Need-successor-requires
-successor-requires c κs = ((c .before .before .before .before .before .before .pre .0 .stored, c .before .before .before .before .before .before .pre .0 .told), (c .before .before .before .before .before .before .pre .1, c .before .before .before .before .before .before .pre .0 .inside))
+successor-requires c κs =
+    let at6 = c .before .before .before .before .before .before in
+    ((at6 .pre .0 .stored, at6 .pre .0 .told), (at6 .pre .1, at6 .pre .0 .inside))
 
 note-requires : tie.Need-note-requires
 note-requires c κs =

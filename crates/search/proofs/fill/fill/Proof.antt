@@ -6,9 +6,8 @@ use lib.ListN.{length-set, length-replicate}
 use Rattle.semantics.specs.CostTable.{unreached}
 use Rattle.semantics.proofs.CellLaws.{runs-length}
 use Rattle.domain.proofs.DomainLaws.{states-few}
-use Rattle.compiled.proofs.ReadyLaws.{ready-listed, some-position}
+use Rattle.compiled.proofs.ReadyLaws.{ready-listed, some-position, positions-few}
 use Rattle.queue.specs.Queue.{queueSize}
-use Rattle.search.proofs.GraphLaws.{positions-few}
 use Rattle.search.proofs.FillLaws.{start-inside, start-below, start-relaxed, search-ready, exhausted-fills}
 use borrow.Author.Needs.{needs}
 use Rattle.search.proofs.fill.fill.Statement.{statement}

@@ -1,4 +1,4 @@
-use mathlib.Core.Path.{refl, _∙_}
+use mathlib.Core.Path.{_∙_}
 use native.Mathlib.Omega.{arith}
 use Rattle.compiled.proofs.SuccessorLaws.{cached-none}
 use Rattle.search.proofs.FillLaws.{search-sweep, better-sifted}

@@ -11,13 +11,19 @@ returns c =
 
 relax-requires : tie.Need-relax-requires
 relax-requires c κs =
-    let x = c .before .before .before .before .before .before .before .before .before .before .before .before .before .before .before .before .before .pre .0 in
-    ((x .room, c .before .before .before .before .before .before .before .before .before .before .before .before .before .before .before .before .before .pre .1 .0), target-inside x (c .before .before .before .before .before .before .before .before .before .before .before .before .before .before .before .before .before .args .step) _ (rw (c .before .before .before .before .arrival .given .1) at (c .before .before .before .before .before .before .before .before .arrive .ensures .leads)) (c .before .before .before .before .before .before .before .before .before .before .before .before .before .before .before .before .before .pre .1 .1))
+    let at4 = c .before .before .before .before in
+    let at8 = at4 .before .before .before .before in
+    let at17 = at8 .before .before .before .before .before .before .before .before .before in
+    let x = at17 .pre .0 in
+    ((x .room, at17 .pre .1 .0), target-inside x (at17 .args .step) _ (rw (at4 .arrival .given .1) at (at8 .arrive .ensures .leads)) (at17 .pre .1 .1))
 
 returns-2 : tie.Need-returns-2
 returns-2 c =
-    let arrive = c .before .before .before .before .before .before .before .before .before .before .before .before .before .before .before .arrive .ensures in
-    (leads _ (rw (c .before .before .before .before .before .before .before .before .before .before .before .arrival .given .1) at (arrive .leads)) (c .before .before .before .before .before .before .relax .ensures), arrive .cached)
+    let at6 = c .before .before .before .before .before .before in
+    let at11 = at6 .before .before .before .before .before in
+    let at15 = at11 .before .before .before .before in
+    let arrive = at15 .arrive .ensures in
+    (leads _ (rw (at11 .arrival .given .1) at (arrive .leads)) (at6 .relax .ensures), arrive .cached)
 
 pub follow-spec : {M : Type 1} → statement M
 follow-spec =

@@ -43,20 +43,25 @@ add-lower c =
 
 returns-3 : tie.Need-returns-3
 returns-3 c =
-    let at = c .before .before .before .before .before .before .before .before .before .before .cell .ensures in
-    rw at (lowered (rw (← at) (omega (arith, c .before .before .before .before .before .before .before .before .if1 .left, c .before .before .before .before .before .before .before .if2 .left))) (c .before .before .lower .ensures))
+    let at7 = c .before .before .before .before .before .before .before in
+    let at = at7 .before .before .before .cell .ensures in
+    rw at (lowered (rw (← at) (omega (arith, at7 .before .if1 .left, at7 .if2 .left))) (c .before .before .lower .ensures))
 
 returns-4 : tie.Need-returns-4
 returns-4 c =
-    let at = c .before .before .before .before .before .before .cell .ensures in
-    let q = c .before .before .before .before .before .before .before .before .before .before .before .args .target .position in
-    rw at (within {r = q} (rw (← at) (omega (arith, c .before .before .before .before .if1 .left, c .before .before .before .if2 .left))) (c .before .if3 .left) (omega arith) (omega (arith, c .if4 .taken)))
+    let at4 = c .before .before .before .before in
+    let at11 = at4 .before .before .before .before .before .before .before in
+    let at = at4 .before .before .cell .ensures in
+    let q = at11 .args .target .position in
+    rw at (within {r = q} (rw (← at) (omega (arith, at4 .if1 .left, c .before .before .before .if2 .left))) (c .before .if3 .left) (omega arith) (omega (arith, c .if4 .taken)))
 
 returns-5 : tie.Need-returns-5
 returns-5 c =
-    let at = c .before .before .before .before .before .before .cell .ensures in
-    let next = c .before .before .before .before .before .before .before .before .before .before .before .args .next in
-    rw at (within {r = next} (rw (← at) (omega (arith, c .before .before .before .before .if1 .left, c .before .before .before .if2 .left))) (c .before .if3 .left) (omega (arith, c .if4 .left)) (omega arith))
+    let at4 = c .before .before .before .before in
+    let at11 = at4 .before .before .before .before .before .before .before in
+    let at = at4 .before .before .cell .ensures in
+    let next = at11 .args .next in
+    rw at (within {r = next} (rw (← at) (omega (arith, at4 .if1 .left, c .before .before .before .if2 .left))) (c .before .if3 .left) (omega (arith, c .if4 .left)) (omega arith))
 
 pub relax-spec : {M : Type 1} → statement M
 relax-spec =

@@ -20,79 +20,110 @@ abbrev μ-loop : tie.MeasureT-loop
 μ-loop costs₀ queue₀ cache₀ marks₀ rows list adjacency values origin key p x next₀ h₀ costs queue cache marks next h = h
 
 cell-requires : tie.Need-cell-requires Inv-loop μ-loop
-cell-requires c κs = (c .before .before .before .before .before .before .before .before .pre .1 .0 .room .few, c .before .before .before .before .before .before .before .before .pre .1 .1 .0 .1)
+cell-requires c κs =
+    let at8 = c .before .before .before .before .before .before .before .before in
+    (at8 .pre .1 .0 .room .few, at8 .pre .1 .1 .0 .1)
 
 mul-x : tie.Need-mul-x Inv-loop μ-loop
 mul-x c =
-    let at = c .before .before .before .before .before .before .before .before .before .args .origin in
-    let swept = c .before .before .before .before .before .before .before .before .before .pre .1 .0 in
+    let at9 = c .before .before .before .before .before .before .before .before .before in
+    let at = at9 .args .origin in
+    let swept = at9 .pre .1 .0 in
     let inside : at .state < at .grid .states = omega (arith, swept .standing .inside, swept .states) in
-    search (needs, cell-room _ _ _ _ inside (c .before .before .before .before .before .before .before .before .before .pre .1 .1 .0 .1) (swept .room .cells), c .cell .ensures)
+    search (needs, cell-room _ _ _ _ inside (at9 .pre .1 .1 .0 .1) (swept .room .cells), c .cell .ensures)
 
 slice-read-x : tie.Need-slice-read-x Inv-loop μ-loop
 slice-read-x c =
-    let at = c .before .before .before .before .before .before .before .before .before .before .args .origin in
-    let swept = c .before .before .before .before .before .before .before .before .before .before .pre .1 .0 in
+    let at10 = c .before .before .before .before .before .before .before .before .before .before in
+    let at = at10 .args .origin in
+    let swept = at10 .pre .1 .0 in
     let inside : at .state < at .grid .states = omega (arith, swept .standing .inside, swept .states) in
-    search (needs, cell-room _ _ _ _ inside (c .before .before .before .before .before .before .before .before .before .before .pre .1 .1 .0 .1) (swept .room .cells), c .before .cell .ensures)
+    search (needs, cell-room _ _ _ _ inside (at10 .pre .1 .1 .0 .1) (swept .room .cells), c .before .cell .ensures)
 
 add-next : tie.Need-add-next Inv-loop μ-loop
-add-next c = record { fits = omega (arith, c .before .before .before .before .before .before .before .before .before .before .pre .1 .1 .0 .1, c .before .before .before .before .before .before .before .before .before .before .pre .1 .0 .room .few) }
+add-next c =
+    let at10 = c .before .before .before .before .before .before .before .before .before .before in
+    record { fits = omega (arith, at10 .pre .1 .1 .0 .1, at10 .pre .1 .0 .room .few) }
 
 slice-read-is-idle : tie.Need-slice-read-is-idle Inv-loop μ-loop
-slice-read-is-idle c = omega (arith, c .before .before .before .before .before .before .before .before .before .before .before .pre .1 .1 .0, c .before .before .before .before .before .before .before .before .before .before .before .pre .1 .0 .room .few)
+slice-read-is-idle c =
+    let at11 = c .before .before .before .before .before .before .before .before .before .before .before in
+    omega (arith, at11 .pre .1 .1 .0, at11 .pre .1 .0 .room .few)
 
 returns : tie.Need-returns Inv-loop μ-loop
 returns c =
     let a = c .before .before .before .before .before .before .before .before .before .before .before .before .before .args in
     let p = c .before .before .before .before .before .before .before .before .before .before .before .before .before .pre in
-    let at = p .1 .1 .0 in
-    let here = ap (λ (i : ℕ). getD (a .costs .now) i 0) (c .before .before .before .before .cell .ensures) in
-    (scanned-none (p .0 .0) (p .0 .1) (p .1 .0) (a .front) (at .1) _ (at .0) (p .1 .1 .1) here (c .before .is-idle .ensures) (c .if1 .taken), p .1 .0 .standing .successors)
+    let o = p .1 .1 .0 in
+    let here = ap (λ (i : ℕ). getD (a .costs .now) i 0) (c .before .before .before .before .cell .ensures) in (
+      scanned-none (p .0 .0) (p .0 .1) (p .1 .0) (a .front) (o .1) _ (o .0) (p .1 .1 .1) here (c .before .is-idle .ensures) (c .if1 .taken),
+      p .1 .0 .standing .successors,
+    )
 
 slice-write-marks : tie.Need-slice-write-marks Inv-loop μ-loop
-slice-write-marks c = omega (arith, c .before .before .before .before .before .before .before .before .before .before .before .before .before .pre .1 .1 .0, c .before .before .before .before .before .before .before .before .before .before .before .before .before .pre .1 .0 .room .few)
+slice-write-marks c =
+    let at13 = c .before .before .before .before .before .before .before .before .before .before .before .before .before in
+    omega (arith, at13 .pre .1 .1 .0, at13 .pre .1 .0 .room .few)
 
 link-at-requires : tie.Need-link-at-requires Inv-loop μ-loop
-link-at-requires c κs = first-link-inside (c .before .before .before .before .before .before .before .before .before .before .before .before .before .pre .0 .1) (omega (arith, c .before .before .before .before .before .before .before .before .before .before .before .before .before .pre .1 .1 .0 .1, c .before .before .before .before .before .before .before .before .before .before .before .before .before .pre .1 .0 .room .few))
+link-at-requires c κs =
+    let at13 = c .before .before .before .before .before .before .before .before .before .before .before .before .before in
+    first-link-inside (at13 .pre .0 .1) (omega (arith, at13 .pre .1 .1 .0 .1, at13 .pre .1 .0 .room .few))
 
 loop-holds : tie.Need-loop-holds Inv-loop μ-loop
 loop-holds c =
-    let a = c .before .before .before .before .before .before .before .before .before .before .before .before .before .before .args in
-    let p = c .before .before .before .before .before .before .before .before .before .before .before .before .before .before .pre in
-    let at = p .1 .1 .0 in
-    let here = ap (λ (i : ℕ). getD (a .costs .now) i 0) (c .before .before .before .before .before .cell .ensures) in (
-      scanning-start (p .0 .0) (p .0 .1) (p .1 .0) (a .front) (at .1) _ (at .0) (p .1 .1 .1) here (c .before .before .is-idle .ensures) (c .before .if1 .left) (c .link-at .ensures),
+    let at5 = c .before .before .before .before .before in
+    let at14 = at5 .before .before .before .before .before .before .before .before .before in
+    let a = at14 .args in
+    let p = at14 .pre in
+    let o = p .1 .1 .0 in
+    let here = ap (λ (i : ℕ). getD (a .costs .now) i 0) (at5 .cell .ensures) in (
+      scanning-start (p .0 .0) (p .0 .1) (p .1 .0) (a .front) (o .1) _ (o .0) (p .1 .1 .1) here (c .before .before .is-idle .ensures) (c .before .if1 .left) (c .link-at .ensures),
       p .1 .0 .standing .successors,
     )
 
 step-at-requires : tie.Need-step-at-requires Inv-loop μ-loop
-step-at-requires c κs = walk-inside (c .before .before .before .before .before .before .before .before .before .before .before .before .before .before .before .before .pre .0 .1) (c .before .loop .inv .0 .walked) (c .loop-test .taken)
+step-at-requires c κs =
+    let at16 = c .before .before .before .before .before .before .before .before .before .before .before .before .before .before .before .before in
+    walk-inside (at16 .pre .0 .1) (c .before .loop .inv .0 .walked) (c .loop-test .taken)
 
 follow-requires : tie.Need-follow-requires Inv-loop μ-loop
 follow-requires c κs =
-    let p = c .before .before .before .before .before .before .before .before .before .before .before .before .before .before .before .before .before .before .before .before .before .pre in
-    let x = c .before .before .before .before .before .before .loop .inv in
+    let at4 = c .before .before .before .before in
+    let at21 = at4 .before .before .before .before .before .before .before .before .before .before .before .before .before .before .before .before .before in
+    let p = at21 .pre in
+    let x = at4 .before .before .loop .inv in
     let y = x .0 .progress in
-    (sweep-on (p .1 .0) (runs-length (y .runs)) (y .size) (x .1), (y .width, graph-closed (p .0 .0) .within _ _ _ _ (c .before .before .before .before .step-at .ensures) .1))
+    (sweep-on (p .1 .0) (runs-length (y .runs)) (y .size) (x .1), (y .width, graph-closed (p .0 .0) .within _ _ _ _ (at4 .step-at .ensures) .1))
 
 add-link-at : tie.Need-add-link-at Inv-loop μ-loop
 add-link-at c =
-    let indexed = c .before .before .before .before .before .before .before .before .before .before .before .before .before .before .before .before .before .before .before .before .before .before .before .before .before .before .before .before .before .before .pre .0 .1 in
-    record { fits = omega (arith, next-link-inside indexed (c .before .before .before .before .before .before .before .before .before .before .before .before .before .before .before .loop .inv .0 .walked) (c .before .before .before .before .before .before .before .before .before .before .before .before .before .before .loop-test .taken), indexed .by-start .size) }
+    let at14 = c .before .before .before .before .before .before .before .before .before .before .before .before .before .before in
+    let at30 = at14 .before .before .before .before .before .before .before .before .before .before .before .before .before .before .before .before in
+    let indexed = at30 .pre .0 .1 in
+    record { fits = omega (arith, next-link-inside indexed (at14 .before .loop .inv .0 .walked) (at14 .loop-test .taken), indexed .by-start .size) }
 
 link-at-requires-2 : tie.Need-link-at-requires-2 Inv-loop μ-loop
-link-at-requires-2 c κs = next-link-inside (c .before .before .before .before .before .before .before .before .before .before .before .before .before .before .before .before .before .before .before .before .before .before .before .before .before .before .before .before .before .before .pre .0 .1) (c .before .before .before .before .before .before .before .before .before .before .before .before .before .before .before .loop .inv .0 .walked) (c .before .before .before .before .before .before .before .before .before .before .before .before .before .before .loop-test .taken)
+link-at-requires-2 c κs =
+    let at14 = c .before .before .before .before .before .before .before .before .before .before .before .before .before .before in
+    let at30 = at14 .before .before .before .before .before .before .before .before .before .before .before .before .before .before .before .before in
+    next-link-inside (at30 .pre .0 .1) (at14 .before .loop .inv .0 .walked) (at14 .loop-test .taken)
 
 loop-less : tie.Need-loop-less Inv-loop μ-loop
-loop-less c = walk-falls (c .before .before .before .before .before .before .before .before .before .before .before .before .before .before .before .before .before .before .before .before .before .before .before .before .before .before .before .before .before .before .before .pre .0 .1) (c .before .before .before .before .before .before .before .before .before .before .before .before .before .before .before .before .loop .inv .0 .walked) (c .before .before .before .before .before .before .before .before .before .before .before .before .before .before .before .loop-test .taken) (c .before .before .before .before .before .before .before .before .before .before .before .before .before .before .step-at .ensures) (c .link-at2 .ensures)
+loop-less c =
+    let at14 = c .before .before .before .before .before .before .before .before .before .before .before .before .before .before in
+    let at31 = at14 .before .before .before .before .before .before .before .before .before .before .before .before .before .before .before .before .before in
+    walk-falls (at31 .pre .0 .1) (at14 .before .before .loop .inv .0 .walked) (at14 .before .loop-test .taken) (at14 .step-at .ensures) (c .link-at2 .ensures)
 
 loop-again : tie.Need-loop-again Inv-loop μ-loop
 loop-again c =
-    let p = c .before .before .before .before .before .before .before .before .before .before .before .before .before .before .before .before .before .before .before .before .before .before .before .before .before .before .before .before .before .before .before .pre in
-    let some = c .before .before .before .before .before .before .before .before .before .before .before .before .before .before .before .loop-test .taken in
-    let follow = c .before .before .before .before .before .before .before .before .before .follow .ensures in
-    (scanning-more (p .0 .0) (p .0 .1) (p .1 .0) (c .before .before .before .before .before .before .before .before .before .before .before .before .before .before .before .before .before .before .before .before .before .before .before .before .before .before .before .before .before .before .before .args .front) (p .1 .1 .0 .1) (c .before .before .before .before .before .before .before .before .before .before .before .before .before .before .before .before .loop .inv .0) some _ (c .before .before .before .before .before .before .before .before .before .before .before .before .before .before .step-at .ensures) (c .link-at2 .ensures) (follow .0), follow .1)
+    let at9 = c .before .before .before .before .before .before .before .before .before in
+    let at14 = at9 .before .before .before .before .before in
+    let at31 = at14 .before .before .before .before .before .before .before .before .before .before .before .before .before .before .before .before .before in
+    let p = at31 .pre in
+    let some = at14 .before .loop-test .taken in
+    let follow = at9 .follow .ensures in
+    (scanning-more (p .0 .0) (p .0 .1) (p .1 .0) (at31 .args .front) (p .1 .1 .0 .1) (at14 .before .before .loop .inv .0) some _ (at14 .step-at .ensures) (c .link-at2 .ensures) (follow .0), follow .1)
 
 same-length : tie.Need-same-length Inv-loop μ-loop
 same-length c = runs-length (c .before .loop .inv .0 .progress .runs)
@@ -101,16 +132,21 @@ same-length-2 : tie.Need-same-length-2 Inv-loop μ-loop
 same-length-2 c = c .before .loop .inv .0 .progress .size
 
 same-length-3 : tie.Need-same-length-3 Inv-loop μ-loop
-same-length-3 c = c .before .loop .inv .1 .size ∙ sym (c .before .before .before .before .before .before .before .before .before .before .before .before .before .before .before .before .pre .1 .0 .standing .successors .size)
+same-length-3 c =
+    let at16 = c .before .before .before .before .before .before .before .before .before .before .before .before .before .before .before .before in
+    c .before .loop .inv .1 .size ∙ sym (at16 .pre .1 .0 .standing .successors .size)
 
 same-length-4 : tie.Need-same-length-4 Inv-loop μ-loop
-same-length-4 c = c .before .loop .inv .0 .progress .width ∙ sym (c .before .before .before .before .before .before .before .before .before .before .before .before .before .before .before .before .pre .1 .1 .0 .0)
+same-length-4 c =
+    let at16 = c .before .before .before .before .before .before .before .before .before .before .before .before .before .before .before .before in
+    c .before .loop .inv .0 .progress .width ∙ sym (at16 .pre .1 .1 .0 .0)
 
 returns-2 : tie.Need-returns-2 Inv-loop μ-loop
 returns-2 c =
-    let p = c .before .before .before .before .before .before .before .before .before .before .before .before .before .before .before .before .pre in
+    let at16 = c .before .before .before .before .before .before .before .before .before .before .before .before .before .before .before .before in
+    let p = at16 .pre in
     let x = c .before .loop .inv in
-    (scanning-end (p .0 .0) (p .0 .1) (p .1 .0) (c .before .before .before .before .before .before .before .before .before .before .before .before .before .before .before .before .args .front) (p .1 .1 .0 .1) (x .0) (omega (arith, c .loop-test .left)), x .1)
+    (scanning-end (p .0 .0) (p .0 .1) (p .1 .0) (at16 .args .front) (p .1 .1 .0 .1) (x .0) (omega (arith, c .loop-test .left)), x .1)
 
 pub scan-spec : {M : Type 1} → statement M
 scan-spec =

@@ -27,28 +27,39 @@ loop-holds c = stepping-start (job-bounded (c .before .before .before .before .p
 
 make-step-requires : tie.Need-make-step-requires Inv-loop μ-loop
 make-step-requires c κs =
-    let r = c .before .before .before .before .before .before .before .pre .0 in
-    (r .stored, (omega (arith, c .before .before .before .before .before .before .before .pre .1 .below _ (c .before .loop-test .taken), r .whole), c .before .before .loop .inv .state))
+    let at7 = c .before .before .before .before .before .before .before in
+    let r = at7 .pre .0 in
+    (r .stored, (omega (arith, at7 .pre .1 .below _ (c .before .loop-test .taken), r .whole), c .before .before .loop .inv .state))
 
 returns : tie.Need-returns Inv-loop μ-loop
-returns c = stepping-blocked (c .before .before .before .before .before .loop .inv) (c .before .before .before .before .loop-test .taken) (rw (c .enum-told .given .1, c .before .before .before .before .before .before .before .before .before .before .pre .0 .steps) at (c .before .before .make-step .ensures))
+returns c =
+    let at4 = c .before .before .before .before in
+    let at10 = at4 .before .before .before .before .before .before in
+    stepping-blocked (at4 .before .loop .inv) (at4 .loop-test .taken) (rw (c .enum-told .given .1, at10 .pre .0 .steps) at (c .before .before .make-step .ensures))
 
 add-cost : tie.Need-add-cost Inv-loop μ-loop
 add-cost c =
-    let made = rw (c .before .before .step .given .1, c .before .before .before .before .before .before .before .before .before .before .before .before .pre .0 .steps) at (c .before .before .before .before .make-step .ensures) in
-    let more = stepping-more (c .before .before .before .before .before .before .before .loop .inv) (c .before .before .before .before .before .before .loop-test .taken) (job-bounded (c .before .before .before .before .before .before .before .before .before .before .before .before .pre .0)) made in
-    record { fits = omega (arith, more .cost, c .before .before .before .before .before .before .loop-test .taken, c .before .before .before .before .before .before .before .before .before .before .before .before .pre .1 .few) }
+    let at4 = c .before .before .before .before in
+    let at12 = at4 .before .before .before .before .before .before .before .before in
+    let made = rw (c .before .before .step .given .1, at12 .pre .0 .steps) at (at4 .make-step .ensures) in
+    let more = stepping-more (at4 .before .before .before .loop .inv) (at4 .before .before .loop-test .taken) (job-bounded (at12 .pre .0)) made in
+    record { fits = omega (arith, more .cost, at4 .before .before .loop-test .taken, at12 .pre .1 .few) }
 
 loop-again : tie.Need-loop-again Inv-loop μ-loop
 loop-again c =
-    let made = rw (c .before .before .step .given .1, c .before .before .before .before .before .before .before .before .before .before .before .before .pre .0 .steps) at (c .before .before .before .before .make-step .ensures) in
-    stepping-more (c .before .before .before .before .before .before .before .loop .inv) (c .before .before .before .before .before .before .loop-test .taken) (job-bounded (c .before .before .before .before .before .before .before .before .before .before .before .before .pre .0)) made
+    let at4 = c .before .before .before .before in
+    let at12 = at4 .before .before .before .before .before .before .before .before in
+    let made = rw (c .before .before .step .given .1, at12 .pre .0 .steps) at (at4 .make-step .ensures) in
+    stepping-more (at4 .before .before .before .loop .inv) (at4 .before .before .loop-test .taken) (job-bounded (at12 .pre .0)) made
 
 sub-finish : tie.Need-sub-finish Inv-loop μ-loop
 sub-finish c = omega (arith, some-position (c .before .before .before .before .before .before .before .before .before .pre .0))
 
 returns-2 : tie.Need-returns-2 Inv-loop μ-loop
-returns-2 c = c .finish .ensures ∙ rw (c .before .goal-holds .ensures, last-final (c .before .before .before .before .before .before .before .before .before .before .pre .0)) (stepping-end (c .before .before .before .before .before .loop .inv) (c .before .before .before .before .loop-test .left))
+returns-2 c =
+    let at4 = c .before .before .before .before in
+    let at10 = at4 .before .before .before .before .before .before in
+    c .finish .ensures ∙ rw (c .before .goal-holds .ensures, last-final (at10 .pre .0)) (stepping-end (at4 .before .loop .inv) (at4 .loop-test .left))
 
 pub check-steps-spec : {M : Type 1} → statement M
 check-steps-spec =
