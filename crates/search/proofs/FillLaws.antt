@@ -86,7 +86,8 @@ module _ {head : Head} {rows list adjacency : List ℕ} {grid : Grid} {T queue :
   }
 
 module _ {head : Head} {rows list : List ℕ} {grid : Grid} (r : Ready head rows list (grid .positions))
-    (is : grid .states ≡ domainIn head rows .states) (T : List ℕ) (room : domainIn head rows .states * grid .positions ≤ length T) {s₀ : ℕ} (start : s₀ ≡ domainIn head rows .start) where
+    (is : grid .states ≡ domainIn head rows .states) (T : List ℕ) (room : domainIn head rows .states * grid .positions ≤ length T)
+    {s₀ : ℕ} (start : s₀ ≡ domainIn head rows .start) where
   abbrev positions : ℕ
   positions = grid .positions
 

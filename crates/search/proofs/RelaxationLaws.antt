@@ -57,6 +57,10 @@ module _ {origin : Origin} {rows : List ℕ} {values : List Bool} {T queue cache
       let y = arrives-led (domainAt origin rows) (labelOf step) (origin .state) (step .to) e in
       (omega (arith, x .states, does-bounded (stored-bounded (x .standing .stored)) (x .standing .inside) (y .does) .0), omega (arith, y .position))
 
+  -- the origin's state has a key
+  pub key-inside : origin .state < length queue
+  key-inside = omega (arith, x .standing .inside, x .states, x .room .keys .few, x .room .keys .size)
+
   -- the origin after stores
   pub sweep-on : {U queue′ cache′ : List ℕ} → length U ≡ length T → length queue′ ≡ length queue → Cached (domainAt origin rows) (origin .state) cache′
       → Sweep origin rows values U queue′ cache′

@@ -52,8 +52,8 @@ fn least_entry(costs: &[u32], head: Head, rows: &[u16], grid: Grid) -> u32
 pub fn least_cost(costs: &mut [u32], head: Head, rows: &[u16], list: &[u16], grid: Grid) -> u32
     requires { ⌜ Ready head (now rows) (now list) (grid .positions) × (grid .states ≡ domainIn head (now rows) .states) ⌝ }
     requires { ⌜ domainIn head (now rows) .states * grid .positions ≤ length (now costs) ⌝ }
-    ensures { λ r. ⌜ Filled (domainIn head (now (rows .entry))) (stepsOf (jobOf head (now (rows .entry)))) (grid .positions) (now (costs .entry)) (now (costs .exit))
-        × LeastOr (domainIn head (now (rows .entry))) (programOf (jobOf head (now (rows .entry)))) r ⌝ }
+    ensures { λ r. ⌜ Filled (domainIn head (now (rows .entry))) (stepsOf (jobOf head (now (rows .entry)))) (grid .positions)
+        (now (costs .entry)) (now (costs .exit)) × LeastOr (domainIn head (now (rows .entry))) (programOf (jobOf head (now (rows .entry)))) r ⌝ }
 {
     crate::fill::fill(costs, head, rows, list, grid);
     least_entry(costs, head, rows, grid)

@@ -35,9 +35,10 @@ array-write-adjacency-2 c = omega (arith, c .start-at .ensures, c .before .befor
 loop-again : tie.Need-loop-again Inv-loop μ-loop
 loop-again c =
     let at4 = c .before .before .before .before in
-    let s = c .start-at .ensures in (
-      adjacency-more _ _ _ _ (c .before .before .loop .inv .0) (omega (arith, c .before .loop-test .taken, at4 .pre .few)) s (omega (arith, s, at4 .pre .from _ (c .before .loop-test .taken))),
-      omega (arith, c .before .loop-test .taken),
+    let s = c .start-at .ensures in
+    let h = c .before .loop-test .taken in (
+      adjacency-more _ _ _ _ (c .before .before .loop .inv .0) (omega (arith, h, at4 .pre .few)) s (omega (arith, s, at4 .pre .from _ h)),
+      omega (arith, h),
     )
 
 returns : tie.Need-returns Inv-loop μ-loop

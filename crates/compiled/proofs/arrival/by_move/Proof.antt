@@ -11,8 +11,9 @@ move-count-requires c κs = c .before .before .before .pre .stored
 returns : tie.Need-returns
 returns c =
     let at5 = c .before .before .before .before .before in
+    let a = at5 .args in
     record {
-      leads = arrives-nowhere _ _ _ _ (successor-past _ (at5 .args .step .arg) (at5 .args .state) (omega (arith, c .if1 .taken, c .before .move-count .ensures)));
+      leads = arrives-nowhere _ _ _ _ (successor-past _ (a .step .arg) (a .state) (omega (arith, c .if1 .taken, c .before .move-count .ensures)));
       cached = at5 .pre .successors;
     }
 

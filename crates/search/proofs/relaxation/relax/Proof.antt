@@ -53,7 +53,8 @@ returns-4 c =
     let at11 = at4 .before .before .before .before .before .before .before in
     let at = at4 .before .before .cell .ensures in
     let q = at11 .args .target .position in
-    rw at (within {r = q} (rw (← at) (omega (arith, at4 .if1 .left, c .before .before .before .if2 .left))) (c .before .if3 .left) (omega arith) (omega (arith, c .if4 .taken)))
+    rw at (within {r = q} (rw (← at) (omega (arith, at4 .if1 .left, c .before .before .before .if2 .left)))
+    (c .before .if3 .left) (omega arith) (omega (arith, c .if4 .taken)))
 
 returns-5 : tie.Need-returns-5
 returns-5 c =
@@ -61,7 +62,8 @@ returns-5 c =
     let at11 = at4 .before .before .before .before .before .before .before in
     let at = at4 .before .before .cell .ensures in
     let next = at11 .args .next in
-    rw at (within {r = next} (rw (← at) (omega (arith, at4 .if1 .left, c .before .before .before .if2 .left))) (c .before .if3 .left) (omega (arith, c .if4 .left)) (omega arith))
+    rw at (within {r = next} (rw (← at) (omega (arith, at4 .if1 .left, c .before .before .before .if2 .left)))
+    (c .before .if3 .left) (omega (arith, c .if4 .left)) (omega arith))
 
 pub relax-spec : {M : Type 1} → statement M
 relax-spec =

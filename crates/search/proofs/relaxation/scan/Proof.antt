@@ -14,7 +14,8 @@ use Rattle.search.proofs.relaxation.scan.Tie as tie
 
 abbrev Inv-loop : tie.InvT-loop
 Inv-loop costs₀ queue₀ cache₀ marks₀ rows list adjacency values origin key p x next₀ h₀ costs queue cache marks next h =
-    Scanning (graphIn origin rows list) list (origin .state) key x p costs₀ queue₀ costs queue marks next h × Cached (domainAt origin rows) (origin .state) cache
+    Scanning (graphIn origin rows list) list (origin .state) key x p costs₀ queue₀ costs queue marks next h
+    × Cached (domainAt origin rows) (origin .state) cache
 
 abbrev μ-loop : tie.MeasureT-loop
 μ-loop costs₀ queue₀ cache₀ marks₀ rows list adjacency values origin key p x next₀ h₀ costs queue cache marks next h = h
@@ -78,7 +79,8 @@ loop-holds c =
     let p = at14 .pre in
     let o = p .1 .1 .0 in
     let here = ap (λ (i : ℕ). getD (a .costs .now) i 0) (at5 .cell .ensures) in (
-      scanning-start (p .0 .0) (p .0 .1) (p .1 .0) (a .front) (o .1) _ (o .0) (p .1 .1 .1) here (c .before .before .is-idle .ensures) (c .before .if1 .left) (c .link-at .ensures),
+      scanning-start (p .0 .0) (p .0 .1) (p .1 .0) (a .front) (o .1) _ (o .0) (p .1 .1 .1) here
+          (c .before .before .is-idle .ensures) (c .before .if1 .left) (c .link-at .ensures),
       p .1 .0 .standing .successors,
     )
 
@@ -123,7 +125,10 @@ loop-again c =
     let p = at31 .pre in
     let some = at14 .before .loop-test .taken in
     let follow = at9 .follow .ensures in
-    (scanning-more (p .0 .0) (p .0 .1) (p .1 .0) (at31 .args .front) (p .1 .1 .0 .1) (at14 .before .before .loop .inv .0) some _ (at14 .step-at .ensures) (c .link-at2 .ensures) (follow .0), follow .1)
+    let x = at14 .before .before .loop .inv .0 in (
+      scanning-more (p .0 .0) (p .0 .1) (p .1 .0) (at31 .args .front) (p .1 .1 .0 .1) x some _ (at14 .step-at .ensures) (c .link-at2 .ensures) (follow .0),
+      follow .1,
+    )
 
 same-length : tie.Need-same-length Inv-loop μ-loop
 same-length c = runs-length (c .before .loop .inv .0 .progress .runs)

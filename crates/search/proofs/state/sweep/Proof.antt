@@ -10,7 +10,7 @@ use Rattle.domain.specs.Domain.{domainIn}
 use Rattle.compiled.specs.Successors.{Cached}
 use Rattle.search.specs.Sweeps.{graphIn}
 use Rattle.search.proofs.GraphLaws.{graph-closed}
-use Rattle.search.proofs.RelaxationLaws.{sweep-on}
+use Rattle.search.proofs.RelaxationLaws.{key-inside, sweep-on}
 use Rattle.search.proofs.SweepLaws.{Sweeping, sweeping-start, sweeping-more, sweeping-end}
 use borrow.Author.Needs.{needs}
 use Rattle.search.proofs.state.sweep.Statement.{statement}
@@ -30,7 +30,7 @@ loop-holds c =
     let at10 = c .before .before .before .before .before .before .before .before .before .before in
     let p = at10 .pre .1 in
     let swept = p .0 .0 in (
-      sweeping-start _ _ _ (at10 .args .queue .now) (omega (arith, swept .standing .inside, swept .states, swept .room .keys .few, swept .room .keys .size)) (p .1),
+      sweeping-start _ _ _ (at10 .args .queue .now) (key-inside swept) (p .1),
       swept .standing .successors,
     )
 
@@ -75,8 +75,7 @@ returns c =
     let p = at12 .pre in
     let swept = p .1 .0 in
     let a = at12 .args in
-    let room : a .origin .state < length (a .queue .now) = omega (arith, swept .0 .standing .inside, swept .0 .states, swept .0 .room .keys .few, swept .0 .room .keys .size) in
-    sweeping-end _ _ _ (a .queue .now) room (graph-closed (p .0 .0)) (swept .0 .standing .inside)
+    sweeping-end _ _ _ (a .queue .now) (key-inside (swept .0)) (graph-closed (p .0 .0)) (swept .0 .standing .inside)
     (swept .1) (c .before .loop .inv .0) (omega (arith, c .loop-test .left))
 
 pub sweep-spec : {M : Type 1} → statement M

@@ -58,7 +58,8 @@ loop-again c =
     let at18 = at9 .before .before .before .before .before .before .before .before .before in
     let x = at9 .before .before .loop .inv in
     let some = at9 .before .loop-test .taken in
-    follow-more _ _ _ _ _ _ (at18 .pre .1) x some (at9 .step-at .ensures) (at5 .before .before .before .is-wanted .ensures) (at5 .mark .ensures) (c .link-at2 .ensures)
+    follow-more _ _ _ _ _ _ (at18 .pre .1) x some (at9 .step-at .ensures)
+    (at5 .before .before .before .is-wanted .ensures) (at5 .mark .ensures) (c .link-at2 .ensures)
 
 returns : tie.Need-returns Inv-loop μ-loop
 returns c =

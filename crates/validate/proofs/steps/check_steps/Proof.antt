@@ -35,7 +35,8 @@ returns : tie.Need-returns Inv-loop μ-loop
 returns c =
     let at4 = c .before .before .before .before in
     let at10 = at4 .before .before .before .before .before .before in
-    stepping-blocked (at4 .before .loop .inv) (at4 .loop-test .taken) (rw (c .enum-told .given .1, at10 .pre .0 .steps) at (c .before .before .make-step .ensures))
+    let made = rw (c .enum-told .given .1, at10 .pre .0 .steps) at (c .before .before .make-step .ensures) in
+    stepping-blocked (at4 .before .loop .inv) (at4 .loop-test .taken) made
 
 add-cost : tie.Need-add-cost Inv-loop μ-loop
 add-cost c =
