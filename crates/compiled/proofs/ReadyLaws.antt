@@ -1,4 +1,5 @@
--- What a check may take from what it is handed: sizes, positions, and that states and costs stay within bounds.
+-- What a check may take from what it is handed: sizes, positions, and that states and costs stay
+-- within bounds.
 -- Assumes nothing.
 use Prim.Native.Nat.{ℕ, _+_, _-_, _*_, _/_, _≤_, _<_}
 use mathlib.Core.Path.{_≡_}

@@ -19,7 +19,8 @@ step-inside {list} x s =
     let z = steps-only (length list / 4) list s in
     (omega (arith, z .from, x .from _ (z .below)), omega (arith, z .to, x .to _ (z .below)))
 
--- step h, counted from 1, is the next one from p, none where h is 0; P holds of the label and the end of all from p that come after it
+-- step h, counted from 1, is the next one from p, none where h is 0; P holds of the label and the
+-- end of all from p that come after it
 pub record Walked (list : List ℕ) (p : ℕ) (P : Label → ℕ → Type 0) (h : ℕ) : Type 0 where
   pub within : h ≤ length list / 4
   pub starts : (k : ℕ) → h ≡ suc k → startIn list k ≡ p

@@ -10,7 +10,8 @@ use Rattle.job.specs.declared.head.Head.{Head}
 use Rattle.compile.specs.CompiledJob.{stepsOf, positionCount, stepCount, fits}
 use Rattle.compiled.specs.Adjacency.{stepsOn}
 
--- a job whose compiled job is within the limits, as head and rows, and a list that holds its steps and nothing else
+-- a job whose compiled job is within the limits, as head and rows, and a list that holds its steps
+-- and nothing else
 pub record Ready (head : Head) (rows list : List ℕ) (count : ℕ) : Type 0 where
   pub stored : Stored head rows
   pub fit : fits (jobOf head rows) ≡ true

@@ -1,4 +1,5 @@
--- What is kept of the moves' successors in a state: 0 nothing, 1 that the move is not applicable, and otherwise the successor and 2.
+-- What is kept of the moves' successors in a state: 0 nothing, 1 that the move is not applicable,
+-- and otherwise the successor and 2.
 use Prim.Native.Nat.{ℕ, _+_, _<_}
 use mathlib.Core.Path.{_≡_}
 use mathlib.Core.Option.{none, some}
@@ -26,7 +27,8 @@ abbrev pub noted : Successor → ℕ
 noted (To t) = t + 2
 noted Inapplicable = 1
 
--- a state of a job, with what is worked out in it: the formulas' values and, as far as cached, the moves' successors
+-- a state of a job, with what is worked out in it: the formulas' values and, as far as cached, the
+-- moves' successors
 pub record Standing (head : Head) (rows : List ℕ) (values : List Bool) (state : ℕ) (cache : List ℕ) : Type 0 where
   pub stored : Stored head rows
   pub told : Tells (domainIn head rows) state values

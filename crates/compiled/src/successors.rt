@@ -21,7 +21,8 @@ fn note(after: Successor) -> u16
     }
 }
 
-// The state after move m, by the formulas' values, as the cache has it, or worked out and then kept there.
+// The state after move m, by the formulas' values, as the cache has it, or worked out and then kept
+// there.
 pub fn successor(
     head: Head,
     rows: &[u16],

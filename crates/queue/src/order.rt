@@ -1,5 +1,5 @@
-// The order of the states: a tree of nodes above them. Nothing is proved of what it names, since a state
-// that it names is looked at before it is taken.
+// The order of the states: a tree of nodes above them. Nothing is proved of what it names, since a
+// state that it names is looked at before it is taken.
 ghost use mathlib.Core.Path.{_≡_};
 ghost use Prim.Native.Nat.{_<_};
 ghost use lib.ListN.{length};

@@ -35,8 +35,9 @@ pub record Sweep (origin : Origin) (rows : List ℕ) (values : List Bool) (T que
 abbrev pub cellAt : Origin → Target → ℕ
 cellAt origin target = cell (origin .grid .positions) (target .state) (target .position)
 
--- the target's cell lowered to x and the cost, where that is less; then in the origin's own state its position is not marked any more and r is at
--- most that position, and another state's key comes down
+-- the target's cell lowered to x and the cost, where that is less; then in the origin's own state
+-- its position is not marked any more and r is at most that position, and another state's key comes
+-- down
 pub data Relaxing (origin : Origin) (target : Target) (x next : ℕ) (T queue : List ℕ) (marks : List Bool) : List ℕ → List ℕ → List Bool → ℕ → Type 0 where
   kept : getD T (cellAt origin target) 0 ≤ x + target .cost → Relaxing origin target x next T queue marks T queue marks next
   within : {r : ℕ} → x + target .cost < getD T (cellAt origin target) 0 → target .state ≡ origin .state → r ≤ target .position → r ≤ next
@@ -67,7 +68,8 @@ pub record Scanned (origin : Origin) (front : Front) (rows list T queue T′ que
   pub progress : Progress (graphIn origin rows list) (origin .state) (front .position) T queue T′ queue′ marks′ r
   pub relaxed : Relaxed (graphIn origin rows list) (Only queue′ (origin .state) (Processed (front .key) r marks′)) T′
 
--- stores along steps, after which the steps are followed from all cells with an entry below their state's key
+-- stores along steps, after which the steps are followed from all cells with an entry below their
+-- state's key
 pub record Better (G : Graph) (T queue T′ queue′ : List ℕ) : Type 0 where
   pub runs : Runs G T T′
   pub size : length queue′ ≡ length queue

@@ -23,7 +23,8 @@ domainAt origin rows = domainIn (origin .head) rows
 abbrev pub graphIn : Origin → List ℕ → List ℕ → Graph
 graphIn origin rows list = graphOf (origin .head) rows list (origin .grid .positions)
 
--- what falls with each sweep: the entries, and where they stay, the distance of the n keys from `unreached`
+-- what falls with each sweep: the entries, and where they stay, the distance of the n keys from
+-- `unreached`
 abbrev pub potential : ℕ → List ℕ → List ℕ → ℕ
 potential n T queue = sum T * suc unreached + total (λ x. unreached - x) queue n
 
@@ -35,7 +36,8 @@ Keyed queue i l s p z = z < getD queue s 0
 abbrev pub Only : List ℕ → ℕ → (ℕ → ℕ → Type 0) → Claim
 Only queue w Q i l s p z = (z < getD queue s 0) × (s ≡ w → Q p z)
 
--- cells with nothing to follow: those with an entry below k, those that are reached before position `next`, and those that are marked
+-- cells with nothing to follow: those with an entry below k, those that are reached before position
+-- `next`, and those that are marked
 pub data Processed (k next : ℕ) (marks : List Bool) (r z : ℕ) : Type 0 where
   below : z < k → Processed k next marks r z
   passed : r < next → z < unreached → Processed k next marks r z

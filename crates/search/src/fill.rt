@@ -79,7 +79,8 @@ fn settle(
     }
 }
 
-// Fills the table's front with the least cost of each state and position; the list holds the steps of the job's program.
+// Fills the table's front with the least cost of each state and position; the list holds the steps
+// of the job's program.
 pub fn fill(costs: &mut [u32], head: Head, rows: &[u16], list: &[u16], grid: Grid)
     requires { ⌜ Ready head (now rows) (now list) (grid .positions) × (grid .states ≡ domainIn head (now rows) .states) ⌝ }
     requires { ⌜ domainIn head (now rows) .states * grid .positions ≤ length (now costs) ⌝ }

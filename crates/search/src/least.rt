@@ -48,7 +48,8 @@ fn least_entry(costs: &[u32], head: Head, rows: &[u16], grid: Grid) -> u32
     least
 }
 
-// Fills the table, and answers the least cost of all plans; UNREACHED where there is none. The list holds the steps of the job's program.
+// Fills the table, and answers the least cost of all plans; UNREACHED where there is none. The list
+// holds the steps of the job's program.
 pub fn least_cost(costs: &mut [u32], head: Head, rows: &[u16], list: &[u16], grid: Grid) -> u32
     requires { ⌜ Ready head (now rows) (now list) (grid .positions) × (grid .states ≡ domainIn head (now rows) .states) ⌝ }
     requires { ⌜ domainIn head (now rows) .states * grid .positions ≤ length (now costs) ⌝ }

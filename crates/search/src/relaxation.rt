@@ -1,6 +1,7 @@
 // Steps from the cells of a state, relaxed.
 //
-// A mark on a position says that the steps from its cell are followed. It is taken back when the cell falls.
+// A mark on a position says that the steps from its cell are followed. It is taken back when the
+// cell falls.
 ghost use mathlib.Core.Path.{_≡_};
 ghost use Prim.Native.Nat.{_<_};
 ghost use lib.ListN.{length};
@@ -18,8 +19,9 @@ use compiled::arrival::Target;
 use compiled::steps::OutStep;
 use limits::POSITIONS;
 
-// Lowers the target's cell to x and the step's cost, where that is less. In the origin's own state the steps from the target's position are then to
-// follow, and the answer is the lesser of `next` and that position; another state's key comes down, and the answer is `next`.
+// Lowers the target's cell to x and the step's cost, where that is less. In the origin's own state
+// the steps from the target's position are then to follow, and the answer is the lesser of `next`
+// and that position; another state's key comes down, and the answer is `next`.
 fn relax(
     costs: &mut [u32],
     queue: &mut [u32],
@@ -85,7 +87,8 @@ fn follow(
     relax(costs, queue, marks, origin, x, target, next)
 }
 
-// Follows the steps from the front's position, unless nothing is to follow there. Answers the position to go on from.
+// Follows the steps from the front's position, unless nothing is to follow there. Answers the
+// position to go on from.
 pub fn scan(
     costs: &mut [u32],
     queue: &mut [u32],

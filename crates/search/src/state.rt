@@ -12,8 +12,8 @@ use crate::Origin;
 use limits::POSITIONS;
 use queue::NO_KEY;
 
-// Follows the steps from all cells of the origin's state that cost at least as much as its key says, again from those that fall meanwhile. Its key is
-// taken back.
+// Follows the steps from all cells of the origin's state that cost at least as much as its key
+// says, again from those that fall meanwhile. Its key is taken back.
 pub fn sweep(
     costs: &mut [u32],
     queue: &mut [u32],

@@ -1,4 +1,5 @@
--- Position sets as methods turn them: the first one, all that silent steps lead to, what a move leads to.
+-- Position sets as methods turn them: the first one, all that silent steps lead to, what a move
+-- leads to.
 -- Assumes nothing.
 use Prim.Native.Nat.{ℕ, _+_, _≤_, _<_}
 use mathlib.Core.Path.{_≡_, refl, sym, _∙_, subst}

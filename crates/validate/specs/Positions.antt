@@ -1,4 +1,5 @@
--- Position sets in code: marks, their count, and the marked positions in the order in which they were marked.
+-- Position sets in code: marks, their count, and the marked positions in the order in which they
+-- were marked.
 use Prim.Native.Nat.{ℕ, _≤_, _<_}
 use mathlib.Core.Path.{_≡_}
 use mathlib.Core.Bool.{Bool, true, cond}

@@ -11,7 +11,8 @@ ghost use Rattle.validate.specs.Positions.{Counted, CountedSet, wantedBy
 use compiled::steps::OutStep;
 use limits::POSITIONS;
 
-// One mark a position, how many are set, and the marked positions in the order in which they were marked.
+// One mark a position, how many are set, and the marked positions in the order in which they were
+// marked.
 pub struct PositionSet {
     pub marks: [bool; POSITIONS],
     pub members: [u16; POSITIONS],

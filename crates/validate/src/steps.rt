@@ -35,7 +35,8 @@ fn make_step(head: Head, rows: &[u16], list: &[u16], i: u16, state: u16, positio
     Arrival::Nowhere
 }
 
-// The list holds the steps of the job's program, whose last position is the final one. Each entry is that one step.
+// The list holds the steps of the job's program, whose last position is the final one. Each entry
+// is that one step.
 pub fn check_steps(head: Head, rows: &[u16], list: &[u16], positions: u16, plan: &[u16]) -> Verdict
     requires { ⌜ Ready head (now rows) (now list) positions ⌝ }
     requires { ⌜ EntriesBelow (now plan) (stepCount (jobOf head (now rows))) ⌝ }
