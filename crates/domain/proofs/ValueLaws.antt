@@ -1,13 +1,14 @@
 -- The values of formulas, stored one behind the other in an array that is false at first.
 -- Assumes nothing.
-use Prim.Native.Nat.{ℕ, zero, suc, _+_, _≤_, _<_}
-use mathlib.Core.Path.{_≡_, refl, sym, _∙_, ap}
+use Prim.Native.Nat.{ℕ, _+_, _≤_, _<_}
+use mathlib.Core.Path.{_≡_, sym, _∙_, ap}
 use mathlib.Core.Bool.{Bool, false}
 use mathlib.Core.List.{List, [], _∷_, _++_}
 use native.Mathlib.Omega.{arith}
 use native.Mathlib.Decide.{decLt}
 use lib.ListN.{length, getD, take, set, replicate, length-append, List·getD-append, List·getD-eq-default}
 use lib.Seq.{take-all, length-take-le, getD-set-same, getD-set-other, getD-at}
+use Rattle.laws.proofs.Lists.{replicate-default}
 use Rattle.laws.proofs.Growing.{grown-length}
 use Rattle.job.specs.Job.{Formula, formulaOf}
 use Rattle.domain.specs.State.{value, values}
@@ -18,9 +19,7 @@ abbrev pub Same : List Bool → List Bool → Type 0
 Same vs us = (a : ℕ) → getD vs a false ≡ getD us a false
 
 pub none-same : (n : ℕ) → Same (replicate n false) []
-none-same zero a = refl
-none-same (suc n) zero = refl
-none-same (suc n) (suc a) = none-same n a
+none-same n a = replicate-default false n a
 
 value-same : (w : ℕ) (vs us : List Bool) (f : Formula) → Same vs us → value w vs f ≡ value w us f
 unfolding value

@@ -10,8 +10,8 @@ use Rattle.job.specs.Store.{jobOf}
 use Rattle.semantics.specs.CompilingTable.{Step, flat}
 use Rattle.semantics.proofs.FlatLaws.{flat-length, flat-steps}
 use Rattle.compile.specs.CompiledJob.{stepsOf, stepCount}
-use Rattle.validate.specs.Adjacency.{stepsOn}
-use Rattle.validate.specs.Ready.{Ready}
+use Rattle.compiled.specs.Adjacency.{stepsOn}
+use Rattle.compiled.specs.Ready.{Ready}
 use Rattle.load.specs.Loaded.{Sized}
 use Rattle.load.specs.declared.loaded.Load.{Load}
 

@@ -16,7 +16,8 @@ use Rattle.domain.specs.Domain.{domainIn}
 use Rattle.compile.specs.CompiledJob.{stepsOf, stepCount, fits}
 use Rattle.compile.specs.declared.sizes.Sizes.{Sizes}
 use Rattle.plans.proofs.PlanTold.{plan-told}
-use Rattle.validate.specs.Ready.{Ready, EntriesBelow}
+use Rattle.compiled.specs.Ready.{Ready}
+use Rattle.validate.specs.Entries.{EntriesBelow}
 use Rattle.load.specs.Refusals.{Handed, Checked, passed, refused, Offer, keyFor, boundFor, textsIn, listNeed, tableNeed, loading}
 use Rattle.load.specs.Loaded.{loadedAs, Sized, Fitting, Loads, loadRefusal}
 use Rattle.load.specs.View.{View, viewOf, viewIn}

@@ -1,9 +1,8 @@
 -- The verdicts that the checks compute are those of "Verdicts".
 -- Assumes nothing.
-use Prim.Native.Nat.{ℕ, _-_}
+use Prim.Native.Nat.{ℕ}
 use mathlib.Core.Path.{_≡_, _∙_, ap, subst}
 use mathlib.Core.List.{List}
-use native.Mathlib.Omega.{arith}
 use lib.ListN.{length}
 use Rattle.limits.specs.Limits.{mostPositions}
 use Rattle.job.specs.Job.{Job}
@@ -18,8 +17,9 @@ use Rattle.semantics.proofs.StepVerdictLaws.{step-verdict-judged}
 use Rattle.domain.specs.Domain.{domainIn}
 use Rattle.compile.specs.Program.{programOf}
 use Rattle.compile.specs.CompiledJob.{stepsOf}
-use Rattle.validate.specs.Ready.{Ready, EntriesBelow}
-use Rattle.validate.proofs.ReadyLaws.{final-below}
+use Rattle.compiled.specs.Ready.{Ready}
+use Rattle.compiled.proofs.ReadyLaws.{final-below}
+use Rattle.validate.specs.Entries.{EntriesBelow}
 use Rattle.load.specs.Refusals.{boundFor}
 use Rattle.load.specs.View.{viewOf}
 use Rattle.load.specs.declared.request.Sort.{Sort}
@@ -43,9 +43,6 @@ module _ (h : Head) (rows plan : List ℕ) where
     pub step-entries : EntriesBelow plan (boundFor sort (jobOf h rows)) → EntriesBelow plan (length (stepsOf (jobOf h rows)))
     step-entries x = subst (λ (b : ℕ). EntriesBelow plan b) (ap (λ (s : Sort). boundFor s j) e) x
 
-    pub says-steps : {list : List ℕ} {positions : ℕ} → Ready h rows list positions
-        → {v : Verdict} → v ≡ stepVerdict (domainIn h rows) (stepsOf (jobOf h rows)) (positions - 1) plan
+    pub says-steps : {v : Verdict} → v ≡ stepVerdict (domainIn h rows) (stepsOf (jobOf h rows)) (end (programOf (jobOf h rows)) 0) plan
         → Says sort (viewOf (record { job = jobOf h rows; entries = plan })) v
-    says-steps {positions = positions} r f =
-        let final : positions - 1 ≡ end (programOf j) 0 = omega (arith, r .positions) in
-        rw (e, f, final) (step-verdict-judged (domainIn h rows) (stepsOf j) (end (programOf j) 0) plan)
+    says-steps f = rw (e, f) (step-verdict-judged (domainIn h rows) (stepsOf j) (end (programOf j) 0) plan)

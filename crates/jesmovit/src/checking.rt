@@ -1,6 +1,7 @@
 // Plan texts checked against job texts.
 ghost use Rattle.job.specs.Store.{jobOf};
-ghost use Rattle.validate.specs.Ready.{Ready, EntriesBelow};
+ghost use Rattle.compiled.specs.Ready.{Ready};
+ghost use Rattle.validate.specs.Entries.{EntriesBelow};
 ghost use Rattle.validate.specs.Verdict.{verdictOf};
 ghost use Rattle.load.specs.Refusals.{boundFor};
 ghost use Rattle.load.specs.View.{viewOf};

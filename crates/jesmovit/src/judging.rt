@@ -4,7 +4,8 @@ ghost use Prim.Native.Nat.{_*_, _≤_};
 ghost use lib.ListN.{length};
 ghost use Rattle.job.specs.Store.{jobOf};
 ghost use Rattle.domain.specs.Domain.{domainIn};
-ghost use Rattle.validate.specs.Ready.{Ready, EntriesBelow};
+ghost use Rattle.compiled.specs.Ready.{Ready};
+ghost use Rattle.validate.specs.Entries.{EntriesBelow};
 ghost use Rattle.load.specs.View.{viewOf};
 ghost use Rattle.jesmovit.specs.Outcomes.{judgementOf};
 ghost use Rattle.jesmovit.specs.Judging.{CostsLeast, compared, Found, Judges};
@@ -15,7 +16,7 @@ use limits::ENTRIES;
 use load::loaded::Loaded;
 use load::request::Request;
 use load::request::Sort;
-use sweep::Grid;
+use search::Grid;
 use validate::verdict::Verdict;
 
 // The least cost of all plans that the job's program allows, or none where it allows no plan of any length; or why the text, the list or the table is refused.
@@ -65,7 +66,7 @@ pub fn least_cost(text: &[u8], list: &mut [u16], table: &mut [u32]) -> LeastAnsw
     };
     compile::program::compile(head, &rows, list);
     let least = search::least::least_cost(table, head, &rows, &list[0..need], grid);
-    if least < sweep::UNREACHED {
+    if least < search::UNREACHED {
         return LeastAnswer::Costs(least);
     }
     LeastAnswer::NoPlan

@@ -21,46 +21,50 @@ use Rattle.domain.specs.Cost.{mostCost}
 use Rattle.domain.specs.Domain.{domainIn, Tells}
 use Rattle.domain.proofs.DomainLaws.{states-few}
 use Rattle.compile.specs.CompiledJob.{stepsOf}
-use Rattle.validate.specs.Ready.{Ready}
-use Rattle.validate.proofs.ReadyLaws.{job-bounded, some-position}
-use Rattle.sweep.specs.Cells.{Cleared}
-use Rattle.sweep.specs.declared.Grid.{Grid}
-use Rattle.sweep.specs.Queue.{Queue, queueSize, SameKeys, Lowered, Chosen}
-use Rattle.sweep.specs.Successors.{Cached}
-use Rattle.sweep.specs.Sweeps.{graphOf, Indexed, Keyed, potential}
-use Rattle.sweep.specs.Relaxation.{Sweep, Better}
+use Rattle.compiled.specs.Adjacency.{Indexed}
+use Rattle.compiled.specs.Ready.{Ready}
+use Rattle.compiled.proofs.ReadyLaws.{job-bounded, some-position, positions-few}
+use Rattle.search.specs.Cells.{Cleared}
+use Rattle.search.specs.declared.Grid.{Grid}
+use Rattle.queue.specs.Queue.{Queue, queueSize, SameKeys, Lowered, Chosen}
+use Rattle.compiled.specs.Successors.{Cached}
+use Rattle.search.specs.Sweeps.{graphOf, Keyed, potential}
+use Rattle.search.specs.Relaxation.{Sweep, Better}
 use Rattle.search.specs.Filling.{Search, Exhausted}
-use Rattle.sweep.proofs.GraphLaws.{graph-closed, positions-few}
-use Rattle.sweep.proofs.PotentialLaws.{order-keeps}
+use Rattle.search.proofs.GraphLaws.{graph-closed}
+use Rattle.search.proofs.RelaxationLaws.{room-on}
+use Rattle.search.proofs.PotentialLaws.{order-keeps}
 
 -- states swept, perhaps none
-pub record Settling (G : Graph) (n : ℕ) (T queue T′ queue′ : List ℕ) : Type 0 where
+pub record Settling (G : Graph) (T queue T′ queue′ : List ℕ) : Type 0 where
   pub runs : Runs G T T′
   pub size : length queue′ ≡ length queue
   pub relaxed : Relaxed G (Keyed queue′) T′
-  pub less : potential n T′ queue′ ≤ potential n T queue
+  pub less : potential (G .domain .states) T′ queue′ ≤ potential (G .domain .states) T queue
 
-pub settling-start : {G : Graph} {n : ℕ} {T queue : List ℕ} → Relaxed G (Keyed queue) T → Settling G n T queue T queue
+pub settling-start : {G : Graph} {T queue : List ℕ} → Relaxed G (Keyed queue) T → Settling G T queue T queue
 settling-start R = record { runs = none; size = refl; relaxed = R; less = omega arith }
 
-pub settling-more : {G : Graph} {n : ℕ} {T queue T′ queue′ T″ queue″ : List ℕ} → Settling G n T queue T′ queue′ → Better G n T′ queue′ T″ queue″ → Settling G n T queue T″ queue″
+pub settling-more : {G : Graph} {T queue T′ queue′ T″ queue″ : List ℕ} → Settling G T queue T′ queue′
+    → Better G T′ queue′ T″ queue″ → Settling G T queue T″ queue″
 settling-more x y = record { runs = runs-on (x .runs) (y .runs); size = y .size ∙ x .size; relaxed = y .relaxed; less = omega (arith, x .less, y .less) }
 
 -- no state has a key
-pub settling-end : {G : Graph} {m : ℕ} {T queue T′ queue′ : List ℕ} {r n : ℕ} → Settling G m T queue T′ queue′ → Chosen n queue′ r → r ≡ n → n ≡ G .domain .states → Exhausted G T T′
+pub settling-end : {G : Graph} {T queue T′ queue′ : List ℕ} {r n : ℕ} → Settling G T queue T′ queue′
+    → Chosen n queue′ r → r ≡ n → n ≡ G .domain .states → Exhausted G T T′
 settling-end x chosen e is = record {
   runs = x .runs;
   relaxed = λ i s p t q c l d claim. x .relaxed i s p t q c l d (omega (arith, claim, chosen .rest e s (omega (arith, d .inside))));
 }
 
 -- only the order changes
-pub better-sifted : {G : Graph} {n : ℕ} {T queue T′ queue′ queue″ : List ℕ} → n ≤ mostStates → n ≡ G .domain .states → Better G n T queue T′ queue′ → SameKeys queue′ queue″
-    → Better G n T queue T′ queue″
-better-sifted {n = n} {T′ = T′} {queue′} {queue″} few is x same = record {
+pub better-sifted : {G : Graph} {T queue T′ queue′ queue″ : List ℕ} → G .domain .states ≤ mostStates → Better G T queue T′ queue′ → SameKeys queue′ queue″
+    → Better G T queue T′ queue″
+better-sifted {G} {T′ = T′} {queue′} {queue″} few x same = record {
   runs = x .runs;
   size = same .size ∙ x .size;
   relaxed = λ i s p t q c l e claim. x .relaxed i s p t q c l e (omega (arith, claim, same .keys s (omega (arith, e .inside))));
-  less = omega (arith, x .less, order-keeps n T′ queue′ queue″ few same);
+  less = omega (arith, x .less, order-keeps (G .domain .states) T′ queue′ queue″ few same);
 }
 
 module _ {head : Head} {rows list adjacency : List ℕ} {grid : Grid} {T queue : List ℕ} (x : Search head rows list adjacency grid T queue) where
@@ -70,9 +74,7 @@ module _ {head : Head} {rows list adjacency : List ℕ} {grid : Grid} {T queue :
   search-sweep told inside cache = record {
     standing = record { stored = x .ready .stored; told = told; inside = inside; successors = cache };
     states = x .states;
-    few = x .indexed .few;
     room = x .room;
-    keys = x .keys;
   }
 
   pub search-on : {U queue′ : List ℕ} → length U ≡ length T → length queue′ ≡ length queue → Search head rows list adjacency grid U queue′
@@ -80,12 +82,12 @@ module _ {head : Head} {rows list adjacency : List ℕ} {grid : Grid} {T queue :
     ready = x .ready;
     indexed = x .indexed;
     states = x .states;
-    room = omega (arith, x .room);
-    keys = record { size = b ∙ x .keys .size; few = x .keys .few };
+    room = room-on (x .room) a b;
   }
 
-module _ {head : Head} {rows list : List ℕ} {grid : Grid} (r : Ready head rows list (grid .positions)) (is : grid .states ≡ domainIn head rows .states) (T : List ℕ)
-    (room : domainIn head rows .states * grid .positions ≤ length T) {s₀ : ℕ} (start : s₀ ≡ domainIn head rows .start) where
+module _ {head : Head} {rows list : List ℕ} {grid : Grid} (r : Ready head rows list (grid .positions))
+    (is : grid .states ≡ domainIn head rows .states) (T : List ℕ) (room : domainIn head rows .states * grid .positions ≤ length T)
+    {s₀ : ℕ} (start : s₀ ≡ domainIn head rows .start) where
   abbrev positions : ℕ
   positions = grid .positions
 
@@ -119,7 +121,8 @@ module _ {head : Head} {rows list : List ℕ} {grid : Grid} (r : Ready head rows
           | yes a ↦ absurd (omega (arith, claim, low .at-most, ap (λ (k : ℕ). getD queue k 0) a))
           | no a ↦ (
               let key : getD queue s 0 ≡ unreached =
-              low .others s (omega (arith, e .inside)) a ∙ same .keys s (omega (arith, e .inside)) ∙ getD-replicate {A = ℕ} queueSize s unreached 0 (omega (arith, e .inside)) in
+              low .others s (omega (arith, e .inside)) a ∙ same .keys s (omega (arith, e .inside))
+              ∙ getD-replicate {A = ℕ} queueSize s unreached 0 (omega (arith, e .inside)) in
               let apart : cell positions s p ≡ cell positions s₀ 0 → ⊥ = λ z. a (cell-state positions s p s₀ 0 (w .start) (some-position r) z) in
               let clear : entry G (set T₁ (cell positions s₀ 0) 0) s p ≡ unreached =
               getD-set-other T₁ (cell positions s₀ 0) (cell positions s p) 0 0 apart ∙ cleared .clear (cell positions s p) (w .from) in
@@ -127,14 +130,17 @@ module _ {head : Head} {rows list : List ℕ} {grid : Grid} (r : Ready head rows
               )
         ]
 
-    pub search-ready : {adjacency queue : List ℕ} → Indexed list adjacency (grid .positions) → Queue queue (grid .states)
+    pub search-ready : {adjacency queue : List ℕ} → Indexed list adjacency → Queue queue (grid .states)
         → Search head rows list adjacency grid (set T₁ (cell (grid .positions) s₀ 0) 0) queue
     search-ready indexed keys = record {
       ready = r;
       indexed = indexed;
       states = is;
-      room = omega (arith, length-set T₁ (cell positions s₀ 0) 0, cleared .size);
-      keys = rw is at keys;
+      room = record {
+        few = positions-few r;
+        cells = omega (arith, length-set T₁ (cell positions s₀ 0) 0, cleared .size, ap (λ (k : ℕ). k * positions) is);
+        keys = keys;
+      };
     }
 
     pub exhausted-fills : {U : List ℕ} → Exhausted (graphOf head rows list (grid .positions)) (set T₁ (cell (grid .positions) s₀ 0) 0) U

@@ -16,10 +16,10 @@ use Rattle.semantics.specs.Plan.{cost, Allowed}
 use Rattle.semantics.specs.CostTable.{unreached, Entry, reached, not-reached, Filled, LeastOr, found, no-plan}
 use Rattle.semantics.specs.Cells.{cell, Graph, Edge}
 use Rattle.semantics.proofs.Agreement.{complete-runs}
-use Rattle.semantics.proofs.Compiled.{compiled}
 use Rattle.semantics.proofs.Bounds.{Bounded, Closed}
 use Rattle.semantics.proofs.CellLaws.{cell-below, edge-within}
 use Rattle.search.specs.Filling.{Lowest, Lower, kept, lower}
+use Rattle.search.proofs.GraphLaws.{compiled-closed}
 
 -- the cell of a state's last position
 pub last-cell-below : (positions s n : ℕ) → 1 ≤ positions → s < n → cell positions s (positions - 1) < n * positions
@@ -76,14 +76,6 @@ module _ (D : Domain) (σ : Program) where
   })
   goal-entry-least s g low (not-reached f) = no-plan (λ ms a. omega (arith, low ms a .0))
 
-  -- the steps of a compiled program stay between its positions
-  pub compiled-closed : {positions most : ℕ} → Bounded D most → positions ≡ end σ 0 + 1
-      → Closed (record { domain = D; steps = steps (D .moves) σ 0; positions = positions }) most
-  compiled-closed b e = record {
-    bounded = b;
-    within = λ i p q l a. let g = compiled D σ 0 .range a in (omega (arith, g), omega (arith, g));
-  }
-
   pub lowest-least : {positions most r : ℕ} {old T : List ℕ} → Bounded D most → positions ≡ end σ 0 + 1 → Filled D (steps (D .moves) σ 0) positions old T
       → Lowest D positions T (end σ 0) (D .states) r → LeastOr D σ r
   lowest-least {positions} {r} {T} b e f l =
@@ -91,7 +83,7 @@ module _ (D : Domain) (σ : Program) where
       λ s h. f .entries s (end σ 0) h (omega arith) in
       let low : LowerBound r = λ ms a.
       let path = complete-runs D (D .start) σ ms (a .last) .0 (a .run) .1 in
-      let inside = path-inside (compiled-closed b e) (b .start) path in
+      let inside = path-inside (compiled-closed D σ b e) (b .start) path in
       let x = entry-at-most (entry-at (a .last) inside) path in
       let y = l .below (a .last) inside (a .reached) in
       (omega (arith, x .0), omega (arith, x .1)) in

@@ -1,27 +1,26 @@
 -- The cost table, swept state by state.
-use Prim.Native.Nat.{ℕ, _*_, _≤_, _<_}
+use Prim.Native.Nat.{ℕ, _≤_, _<_}
 use mathlib.Core.Path.{_≡_}
 use mathlib.Core.Bool.{Bool, true}
 use mathlib.Core.List.{List}
 use mathlib.Core.Logic.{_⊎_}
-use lib.ListN.{length, getD}
+use lib.ListN.{getD}
 use Rattle.job.specs.declared.head.Head.{Head}
 use Rattle.semantics.specs.CostTable.{unreached}
 use Rattle.semantics.specs.Domain.{Domain}
 use Rattle.semantics.specs.Cells.{Graph, cell, Runs, Relaxed}
 use Rattle.domain.specs.Domain.{domainIn}
-use Rattle.validate.specs.Ready.{Ready}
-use Rattle.sweep.specs.declared.Grid.{Grid}
-use Rattle.sweep.specs.Queue.{Queue}
-use Rattle.sweep.specs.Sweeps.{Indexed}
+use Rattle.compiled.specs.Adjacency.{Indexed}
+use Rattle.compiled.specs.Ready.{Ready}
+use Rattle.search.specs.declared.Grid.{Grid}
+use Rattle.search.specs.Relaxation.{Room}
 
 -- a job, its steps, and room for its table and keys
 pub record Search (head : Head) (rows list adjacency : List ℕ) (grid : Grid) (T queue : List ℕ) : Type 0 where
   pub ready : Ready head rows list (grid .positions)
-  pub indexed : Indexed list adjacency (grid .positions)
+  pub indexed : Indexed list adjacency
   pub states : grid .states ≡ domainIn head rows .states
-  pub room : domainIn head rows .states * grid .positions ≤ length T
-  pub keys : Queue queue (domainIn head rows .states)
+  pub room : Room grid T queue
 
 -- nothing is left to follow
 pub record Exhausted (G : Graph) (T T′ : List ℕ) : Type 0 where

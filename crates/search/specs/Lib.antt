@@ -1,1 +1,4 @@
+pub mod Cells
+pub mod Sweeps
+pub mod Relaxation
 pub mod Filling

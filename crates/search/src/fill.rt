@@ -7,18 +7,16 @@ ghost use Rattle.semantics.specs.CostTable.{unreached, Filled};
 ghost use Rattle.semantics.specs.Cells.{Relaxed};
 ghost use Rattle.domain.specs.Domain.{domainIn};
 ghost use Rattle.compile.specs.CompiledJob.{stepsOf};
-ghost use Rattle.validate.specs.Ready.{Ready};
-ghost use Rattle.sweep.specs.Sweeps.{graphOf, Keyed, graphIn, domainAt};
-ghost use Rattle.sweep.specs.Relaxation.{Better};
+ghost use Rattle.compiled.specs.Ready.{Ready};
+ghost use Rattle.search.specs.Sweeps.{graphOf, Keyed, graphIn, domainAt};
+ghost use Rattle.search.specs.Relaxation.{Better};
 ghost use Rattle.search.specs.Filling.{Search, Exhausted};
+use crate::Grid;
+use crate::Origin;
+use compiled::successors::CACHE;
 use job::head::Head;
-use sweep::Grid;
-use sweep::Origin;
-use sweep::UNREACHED;
-use sweep::queue::QUEUE;
-
-// How many successors a cache has room for, one a move.
-const CACHE: usize = limits::MOVES as usize;
+use queue::NO_KEY;
+use queue::QUEUE;
 
 // Sweeps a state that has a key.
 fn visit(
@@ -32,13 +30,14 @@ fn visit(
     requires { ⌜ Search (origin .head) (now rows) (now list) (now adjacency) (origin .grid) (now costs) (now queue) ⌝ }
     requires { ⌜ (origin .state < domainAt origin (now rows) .states) × (getD (now queue) (origin .state) 0 < unreached) ⌝ }
     requires { ⌜ Relaxed (graphIn origin (now rows) (now list)) (Keyed (now queue)) (now costs) ⌝ }
-    ensures { λ _. ⌜ Better (graphIn origin (now (rows .entry)) (now (list .entry))) (domainAt origin (now (rows .entry)) .states) (now (costs .entry)) (now (queue .entry)) (now (costs .exit)) (now (queue .exit)) ⌝ }
+    ensures { λ _. ⌜ Better (graphIn origin (now (rows .entry)) (now (list .entry)))
+        (now (costs .entry)) (now (queue .entry)) (now (costs .exit)) (now (queue .exit)) ⌝ }
 {
     let values = domain::formulas::formula_values(origin.head, rows, origin.state);
     let mut cache = [0u16; CACHE];
     let states = origin.grid.states as usize;
     let s = origin.state as usize;
-    sweep::state::sweep(
+    crate::state::sweep(
         costs,
         queue,
         &mut cache,
@@ -48,7 +47,7 @@ fn visit(
         &values,
         origin,
     );
-    sweep::queue::sift_up(queue, states, s);
+    queue::order::sift_up(queue, states, s);
 }
 
 // Visits states until none has a key.
@@ -67,7 +66,7 @@ fn settle(
 {
     let states = grid.states as usize;
     loop {
-        let s = sweep::queue::choose(queue, states);
+        let s = queue::keys::choose(queue, states);
         if s == states {
             return;
         }
@@ -80,20 +79,22 @@ fn settle(
     }
 }
 
-// Fills the table's front with the least cost of each state and position; the list holds the steps of the job's program.
+// Fills the table's front with the least cost of each state and position; the list holds the steps
+// of the job's program.
 pub fn fill(costs: &mut [u32], head: Head, rows: &[u16], list: &[u16], grid: Grid)
     requires { ⌜ Ready head (now rows) (now list) (grid .positions) × (grid .states ≡ domainIn head (now rows) .states) ⌝ }
     requires { ⌜ domainIn head (now rows) .states * grid .positions ≤ length (now costs) ⌝ }
-    ensures { λ _. ⌜ Filled (domainIn head (now (rows .entry))) (stepsOf (jobOf head (now (rows .entry)))) (grid .positions) (now (costs .entry)) (now (costs .exit)) ⌝ }
+    ensures { λ _. ⌜ Filled (domainIn head (now (rows .entry))) (stepsOf (jobOf head (now (rows .entry)))) (grid .positions)
+        (now (costs .entry)) (now (costs .exit)) ⌝ }
 {
     let positions = grid.positions as usize;
     let states = grid.states as usize;
     let start = domain::states::start(head, rows);
-    let adjacency = validate::adjacency::adjacency_of(list);
-    let mut queue = [UNREACHED; QUEUE];
-    sweep::queue::order(&mut queue, states);
-    sweep::queue::lower(&mut queue, states, start as usize, 0);
-    sweep::cells::clear(costs, states * positions);
-    costs[sweep::steps::cell(start, grid.positions, 0)] = 0;
+    let adjacency = compiled::adjacency::adjacency_of(list);
+    let mut queue = [NO_KEY; QUEUE];
+    queue::order::order(&mut queue, states);
+    queue::keys::lower(&mut queue, states, start as usize, 0);
+    crate::cells::clear(costs, states * positions);
+    costs[crate::cells::cell(start, grid.positions, 0)] = 0;
     settle(costs, &mut queue, head, rows, list, &adjacency, grid);
 }

@@ -9,11 +9,11 @@ ghost use Rattle.semantics.specs.CostTable.{Filled, LeastOr};
 ghost use Rattle.domain.specs.Domain.{domainIn};
 ghost use Rattle.compile.specs.Program.{programOf};
 ghost use Rattle.compile.specs.CompiledJob.{stepsOf};
-ghost use Rattle.validate.specs.Ready.{Ready};
+ghost use Rattle.compiled.specs.Ready.{Ready};
 ghost use Rattle.search.specs.Filling.{Lower, Lowest};
+use crate::Grid;
+use crate::UNREACHED;
 use job::head::Head;
-use sweep::Grid;
-use sweep::UNREACHED;
 
 // The lesser of `least` and x, if the goal holds in the state.
 fn lesser(head: Head, rows: &[u16], state: u16, least: u32, x: u32) -> u32
@@ -33,25 +33,28 @@ fn lesser(head: Head, rows: &[u16], state: u16, least: u32, x: u32) -> u32
 fn least_entry(costs: &[u32], head: Head, rows: &[u16], grid: Grid) -> u32
     requires { ⌜ Stored head (now rows) × (grid .states ≡ domainIn head (now rows) .states) ⌝ }
     requires { ⌜ (1 ≤ grid .positions) × (grid .positions ≤ mostPositions) × (domainIn head (now rows) .states * grid .positions ≤ length (now costs)) ⌝ }
-    ensures { λ r. ⌜ Lowest (domainIn head (now (rows .entry))) (grid .positions) (now (costs .entry)) (grid .positions - 1) (domainIn head (now (rows .entry)) .states) r ⌝ }
+    ensures { λ r. ⌜ Lowest (domainIn head (now (rows .entry))) (grid .positions) (now (costs .entry))
+        (grid .positions - 1) (domainIn head (now (rows .entry)) .states) r ⌝ }
 {
     let states = grid.states;
     let last = (grid.positions as usize) - 1;
     let mut least = UNREACHED;
     let mut s: u16 = 0;
     while s < states {
-        let x = costs[sweep::steps::cell(s, grid.positions, last)];
+        let x = costs[crate::cells::cell(s, grid.positions, last)];
         least = lesser(head, rows, s, least, x);
         s += 1;
     }
     least
 }
 
-// Fills the table, and answers the least cost of all plans; UNREACHED where there is none. The list holds the steps of the job's program.
+// Fills the table, and answers the least cost of all plans; UNREACHED where there is none. The list
+// holds the steps of the job's program.
 pub fn least_cost(costs: &mut [u32], head: Head, rows: &[u16], list: &[u16], grid: Grid) -> u32
     requires { ⌜ Ready head (now rows) (now list) (grid .positions) × (grid .states ≡ domainIn head (now rows) .states) ⌝ }
     requires { ⌜ domainIn head (now rows) .states * grid .positions ≤ length (now costs) ⌝ }
-    ensures { λ r. ⌜ Filled (domainIn head (now (rows .entry))) (stepsOf (jobOf head (now (rows .entry)))) (grid .positions) (now (costs .entry)) (now (costs .exit)) × LeastOr (domainIn head (now (rows .entry))) (programOf (jobOf head (now (rows .entry)))) r ⌝ }
+    ensures { λ r. ⌜ Filled (domainIn head (now (rows .entry))) (stepsOf (jobOf head (now (rows .entry)))) (grid .positions)
+        (now (costs .entry)) (now (costs .exit)) × LeastOr (domainIn head (now (rows .entry))) (programOf (jobOf head (now (rows .entry)))) r ⌝ }
 {
     crate::fill::fill(costs, head, rows, list, grid);
     least_entry(costs, head, rows, grid)

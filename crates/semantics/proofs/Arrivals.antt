@@ -20,7 +20,7 @@ use Rattle.semantics.proofs.CostLaws.{cost-one}
 use Rattle.semantics.proofs.Bounds.{Bounded, does-bounded}
 
 -- a step of label l to q, made in state s, does what its arrival says
-pub record Arrives (D : Domain) (l : Label) (s q : ℕ) (a : Arrival Configuration) : Type 0 where
+pub record Led (D : Domain) (l : Label) (s q : ℕ) (a : Arrival Configuration) : Type 0 where
   pub moves : List ℕ
   pub does : Does D l s moves (a .to .state)
   pub costs : cost D s moves ≡ a .cost
@@ -30,7 +30,7 @@ pub record Arrives (D : Domain) (l : Label) (s q : ℕ) (a : Arrival Configurati
 pub record Makes (D : Domain) (L : List Step) (i s p : ℕ) (a : Arrival Configuration) : Type 0 where
   pub label : Label
   pub at : StepAt L i p label (a .to .position)
-  pub arrived : Arrives D label s (a .to .position) a
+  pub arrived : Led D label s (a .to .position) a
 
 module _ (D : Domain) where
   pub does-arrives : {l : Label} {s t : ℕ} {ks : List ℕ} (q : ℕ) → Does D l s ks t
@@ -42,13 +42,13 @@ module _ (D : Domain) where
   does-arrives q (moves-on {a} {s} {t} h) = rw (cost-one D s t a h, h, arrives)
 
   module _ {s q : ℕ} {a : Arrival Configuration} where
-    stays-does : {l : Label} → Does D l s [] s → stays s q ≡ some a → Arrives D l s q a
+    stays-does : {l : Label} → Does D l s [] s → stays s q ≡ some a → Led D l s q a
     unfolding cost
     stays-does {l} d e =
         let f : _≡_ {A = Arrival Configuration} (arrival s q 0) a = cc in
-        subst (λ (b : Arrival Configuration). Arrives D l s q b) f (record { moves = []; does = d; costs = refl; position = refl })
+        subst (λ (b : Arrival Configuration). Led D l s q b) f (record { moves = []; does = d; costs = refl; position = refl })
 
-    pub arrives-does : {l : Label} → arrives D l s q ≡ some a → Arrives D l s q a
+    pub arrives-does : {l : Label} → arrives D l s q ≡ some a → Led D l s q a
     unfolding arrives
     arrives-does {l = noop} e = stays-does idles e
     arrives-does {l = holds f} e = let v = cond-some (D .holds f s) e in stays-does (passes (v .0)) (v .1)
@@ -57,11 +57,11 @@ module _ (D : Domain) where
       where
         by : (o : Option ℕ) → D .successor m s ≡ o
             → _≡_ {A = Option (Arrival Configuration)} (elim o [ none ↦ none | some t ↦ some (arrival t q (D .cost m s)) ]) (some a)
-            → Arrives D (make m) s q a
+            → Led D (make m) s q a
         by none k e = never (cc)
         by (some t) k e =
             let f : _≡_ {A = Arrival Configuration} (arrival t q (D .cost m s)) a = cc in
-            subst (λ (b : Arrival Configuration). Arrives D (make m) s q b) f
+            subst (λ (b : Arrival Configuration). Led D (make m) s q b) f
             (record { moves = m ∷ []; does = moves-on k; costs = cost-one D s t m k; position = refl })
 
   -- a step of the list
@@ -74,7 +74,7 @@ module _ (D : Domain) where
       → made D L i s p ≡ some (arrival t q (cost D s ks))
   does-made {p} {q} {s} h d = made-at s p h ∙ rw (eq-eqb p p refl) (does-arrives q d)
 
-  first-makes : {L : List Step} {s p q from : ℕ} {l : Label} {a : Arrival Configuration} → from ≡ p → Arrives D l s q a → Makes D (arc l from q ∷ L) 0 s p a
+  first-makes : {L : List Step} {s p q from : ℕ} {l : Label} {a : Arrival Configuration} → from ≡ p → Led D l s q a → Makes D (arc l from q ∷ L) 0 s p a
   first-makes {L} {s} {p} {q} {l} {a} e x = record {
     label = l;
     at = rw (e, x .position) here;

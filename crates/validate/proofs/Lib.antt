@@ -1,10 +1,7 @@
-pub mod AdjacencyLaws
 pub mod WantedLaws
 pub mod MarkLaws
 pub mod FollowLaws
 pub mod SetLaws
 pub mod VerdictLaws
-pub mod ReadyLaws
 pub mod MoveLaws
-pub mod ArrivalLaws
 pub mod StepLaws

@@ -25,13 +25,14 @@ use Rattle.domain.specs.declared.Successor.{Successor}
 use Rattle.domain.specs.declared.Successor.the-variants.{To, Inapplicable}
 use Rattle.compile.specs.Program.{programOf}
 use Rattle.compile.specs.CompiledJob.{stepsOf}
-use Rattle.validate.specs.Adjacency.{stepsOn}
-use Rattle.validate.specs.Positions.{CountedSet, silentBy}
-use Rattle.validate.specs.Ready.{Ready}
+use Rattle.compiled.specs.Adjacency.{stepsOn}
+use Rattle.compiled.specs.Steps.{silentBy}
+use Rattle.compiled.specs.Ready.{Ready}
+use Rattle.compiled.proofs.SilentLaws.{silent-told}
+use Rattle.compiled.proofs.ReadyLaws.{job-bounded, last-final}
+use Rattle.validate.specs.Positions.{CountedSet}
 use Rattle.validate.specs.declared.position_set.PositionSet.{PositionSet}
 use Rattle.validate.proofs.VerdictLaws.{Left, left-start, left-blocked, left-more, left-end}
-use Rattle.validate.proofs.WantedLaws.{silent-told}
-use Rattle.validate.proofs.ReadyLaws.{job-bounded, last-final}
 
 module _ (head : Head) (rows list : List ℕ) (plan : List ℕ) where
   abbrev j : Job

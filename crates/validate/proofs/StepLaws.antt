@@ -1,20 +1,31 @@
 -- The verdict on a list of steps, entry by entry.
 -- Assumes nothing.
 use Prim.Native.Nat.{ℕ, _+_, _*_, _≤_, _<_}
-use mathlib.Core.Path.{_≡_, sym}
-use mathlib.Core.Option.{none, some}
+use mathlib.Core.Path.{_≡_, sym, _∙_}
+use mathlib.Core.Option.{Option, none, some}
 use mathlib.Core.List.{List}
 use native.Mathlib.Omega.{arith}
 use lib.Dec.{eqb}
 use lib.ListN.{length, getD}
+use borrow.Author.Tests.{eq-eqb, ne-eqb}
+use Rattle.semantics.specs.Label.{Label}
+use Rattle.semantics.specs.Path.{StepAt}
 use Rattle.semantics.specs.Domain.{Domain}
 use Rattle.semantics.specs.CompilingTable.{Step}
 use Rattle.semantics.specs.Verdict.{blocked}
 use Rattle.semantics.specs.Machine.{Arrival, onward, finished}
-use Rattle.semantics.specs.StepVerdict.{Configuration, made, stepMachine, stepVerdict}
+use Rattle.semantics.specs.StepVerdict.{Configuration, arrives, made, stepMachine, stepVerdict}
 use Rattle.semantics.proofs.Bounds.{Bounded}
-use Rattle.semantics.proofs.Arrivals.{made-bounded}
+use Rattle.semantics.proofs.Arrivals.{made-at, made-bounded}
 use Rattle.validate.proofs.VerdictLaws.{Left, left-start, left-blocked, left-more, left-end}
+
+-- a step, made at position p where it starts from there
+module _ (D : Domain) (s p : ℕ) {L : List Step} {i from to : ℕ} {l : Label} (is : StepAt L i from l to) where
+  pub made-here : {o : Option (Arrival Configuration)} → from ≡ p → o ≡ arrives D l s to → o ≡ made D L i s p
+  made-here e f = f ∙ sym (made-at D s p is ∙ rw (eq-eqb from p e))
+
+  pub made-nowhere : (from ≡ p → ⊥) → none ≡ made D L i s p
+  made-nowhere e = sym (made-at D s p is ∙ rw (ne-eqb from p e))
 
 -- after i entries at this cost, in a state and at a position
 pub record Stepping (D : Domain) (most : ℕ) (L : List Step) (e : ℕ) (plan : List ℕ) (s p c i : ℕ) : Type 0 where

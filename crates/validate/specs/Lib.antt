@@ -1,5 +1,3 @@
-pub mod Adjacency
 pub mod Positions
 pub mod Verdict
-pub mod Ready
-pub mod Arrival
+pub mod Entries

@@ -1,14 +1,16 @@
--- Position sets in code: marks, their count, and the marked positions in the order in which they were marked.
+-- Position sets in code: marks, their count, and the marked positions in the order in which they
+-- were marked.
 use Prim.Native.Nat.{ℕ, _≤_, _<_}
 use mathlib.Core.Path.{_≡_}
-use mathlib.Core.Bool.{Bool, true, false, not, cond}
+use mathlib.Core.Bool.{Bool, true, cond}
 use mathlib.Core.List.{List}
 use lib.ListN.{length, getD, set}
 use Rattle.limits.specs.Limits.{mostPositions}
-use Rattle.semantics.specs.Label.{Label, noop, holds, fails, make}
+use Rattle.semantics.specs.Label.{Label}
 use Rattle.semantics.specs.CompilingTable.{Step}
 use Rattle.semantics.specs.Path.{StepAt}
 use Rattle.semantics.specs.PositionSets.{Marked, count, isMove}
+use Rattle.compiled.specs.Steps.{silentBy}
 use Rattle.validate.specs.declared.position_set.PositionSet.{PositionSet}
 use Rattle.validate.specs.declared.position_set.Wanted.{Wanted}
 use Rattle.validate.specs.declared.position_set.Wanted.the-variants.{Silent, Move}
@@ -23,13 +25,6 @@ pub record Counted (marks : List Bool) (members : List ℕ) (n : ℕ) : Type 0 w
 
 abbrev pub CountedSet : PositionSet → Type 0
 CountedSet s = Counted (s .marks) (s .members) (s .count)
-
--- silent steps that can be made, by the formulas' values
-unfoldable pub silentBy : List Bool → Label → Bool
-silentBy values noop = true
-silentBy values (holds a) = getD values a false
-silentBy values (fails a) = not (getD values a false)
-silentBy values (make a) = false
 
 unfoldable pub wantedBy : Wanted → List Bool → Label → Bool
 wantedBy Silent values = silentBy values
@@ -47,11 +42,15 @@ pub data Source (on : Label → Bool) (L : List Step) (p : ℕ) (S : List Bool) 
   old : Marked S q → Source on L p S q
   new : {k : ℕ} {l : Label} → StepAt L k p l q → on l ≡ true → Source on L p S q
 
--- marks after those of S, once the steps from p with number h and above have been followed
-pub record Followed (on : Label → Bool) (L : List Step) (p h : ℕ) (S : List Bool) (ms : List ℕ) (n : ℕ) (T : List Bool) (ns : List ℕ) (m : ℕ) : Type 0 where
+-- marks added to those of S by steps from p; members keep their places
+pub record Added (on : Label → Bool) (L : List Step) (p : ℕ) (S : List Bool) (ms : List ℕ) (n : ℕ) (T : List Bool) (ns : List ℕ) (m : ℕ) : Type 0 where
   pub counted : Counted T ns m
   pub kept : (i : ℕ) → i < n → getD ns i 0 ≡ getD ms i 0
   pub more : n ≤ m
   pub grown : (q : ℕ) → Marked S q → Marked T q
-  pub ends : (k q : ℕ) (l : Label) → h ≤ k → StepAt L k p l q → on l ≡ true → Marked T q
   pub only : (q : ℕ) → Marked T q → Source on L p S q
+
+-- all that steps from p add
+pub record Followed (on : Label → Bool) (L : List Step) (p : ℕ) (S : List Bool) (ms : List ℕ) (n : ℕ) (T : List Bool) (ns : List ℕ) (m : ℕ) : Type 0 where
+  pub added : Added on L p S ms n T ns m
+  pub ends : (k q : ℕ) (l : Label) → StepAt L k p l q → on l ≡ true → Marked T q

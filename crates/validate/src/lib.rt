@@ -1,5 +1,4 @@
 // Plans against a compiled job: the set of positions that a program may be at, and verdicts.
-pub mod adjacency;
 pub mod moves;
 pub mod position_set;
 pub mod steps;

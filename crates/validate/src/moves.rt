@@ -5,7 +5,8 @@ ghost use Rattle.semantics.specs.PositionSets.{verdictBy};
 ghost use Rattle.job.specs.Store.{jobOf};
 ghost use Rattle.domain.specs.Domain.{domainIn};
 ghost use Rattle.compile.specs.Program.{programOf};
-ghost use Rattle.validate.specs.Ready.{Ready, EntriesBelow};
+ghost use Rattle.compiled.specs.Ready.{Ready};
+ghost use Rattle.validate.specs.Entries.{EntriesBelow};
 ghost use Rattle.validate.specs.Verdict.{verdictOf};
 use crate::position_set::PositionSet;
 use crate::verdict::Verdict;
@@ -16,9 +17,10 @@ use job::head::Head;
 pub fn check_moves(head: Head, rows: &[u16], list: &[u16], positions: u16, plan: &[u16]) -> Verdict
     requires { ⌜ Ready head (now rows) (now list) positions ⌝ }
     requires { ⌜ EntriesBelow (now plan) (domainIn head (now rows) .moves) ⌝ }
-    ensures { λ r. ⌜ verdictOf r ≡ verdictBy mostPositions (domainIn head (now (rows .entry))) (programOf (jobOf head (now (rows .entry)))) (now (plan .entry)) ⌝ }
+    ensures { λ r. ⌜ verdictOf r
+        ≡ verdictBy mostPositions (domainIn head (now (rows .entry))) (programOf (jobOf head (now (rows .entry)))) (now (plan .entry)) ⌝ }
 {
-    let adjacency = crate::adjacency::adjacency_of(list);
+    let adjacency = compiled::adjacency::adjacency_of(list);
     let mut state = domain::states::start(head, rows);
     let mut values = domain::formulas::formula_values(head, rows, state);
     let mut set = PositionSet::start().closed(list, &adjacency, &values);

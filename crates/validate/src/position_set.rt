@@ -1,16 +1,18 @@
 // The set of positions that a program may be at.
 ghost use mathlib.Core.Path.{_≡_};
 ghost use mathlib.Core.Bool.{true, false};
-ghost use Prim.Native.Nat.{_/_, _<_};
-ghost use lib.ListN.{length, getD, set, replicate};
+ghost use Prim.Native.Nat.{_<_};
+ghost use lib.ListN.{getD, set, replicate};
 ghost use Rattle.limits.specs.Limits.{mostPositions};
-ghost use Rattle.semantics.specs.CompilingTable.{labelIn};
 ghost use Rattle.semantics.specs.PositionSets.{closure, spread, isMove};
-ghost use Rattle.validate.specs.Adjacency.{stepsOn, Listed, Adjacency};
-ghost use Rattle.validate.specs.Positions.{Counted, CountedSet, silentBy, wantedBy, Followed, Marking};
+ghost use Rattle.compiled.specs.Adjacency.{stepsOn, Indexed};
+ghost use Rattle.compiled.specs.Steps.{labelOf, silentBy};
+ghost use Rattle.validate.specs.Positions.{Counted, CountedSet, wantedBy, Followed, Marking};
+use compiled::steps::OutStep;
 use limits::POSITIONS;
 
-// One mark a position, how many are set, and the marked positions in the order in which they were marked.
+// One mark a position, how many are set, and the marked positions in the order in which they were
+// marked.
 pub struct PositionSet {
     pub marks: [bool; POSITIONS],
     pub members: [u16; POSITIONS],
@@ -23,28 +25,16 @@ pub enum Wanted {
     Move(u16),
 }
 
-// Whether a step can be made silently, by the formulas' values.
-pub fn is_silent(values: &[bool], kind: u16, arg: u16) -> bool
-    ensures { λ r. ⌜ r ≡ silentBy (now (values .entry)) (labelIn kind arg) ⌝ }
-{
-    match kind {
-        0 => true,
-        1 => domain::formulas::value_at(values, arg),
-        2 => !domain::formulas::value_at(values, arg),
-        _ => false,
-    }
-}
-
-fn is_wanted(wanted: Wanted, values: &[bool], kind: u16, arg: u16) -> bool
-    ensures { λ r. ⌜ r ≡ wantedBy wanted (now (values .entry)) (labelIn kind arg) ⌝ }
+fn is_wanted(wanted: Wanted, values: &[bool], step: OutStep) -> bool
+    ensures { λ r. ⌜ r ≡ wantedBy wanted (now (values .entry)) (labelOf step) ⌝ }
 {
     match wanted {
-        Wanted::Silent => is_silent(values, kind, arg),
+        Wanted::Silent => compiled::steps::is_silent(values, step),
         Wanted::Move(m) => {
-            if kind < 3 {
+            if step.kind < 3 {
                 return false;
             }
-            arg == m
+            step.arg == m
         }
     }
 }
@@ -78,17 +68,18 @@ fn follow(
     p: u16,
 ) -> usize
     requires { ⌜ Counted (now marks) (now members) count × (p < mostPositions) ⌝ }
-    requires { ⌜ Listed (now list) × Adjacency (now list) (length (now list) / 4) (now adjacency) ⌝ }
-    ensures { λ r. ⌜ Followed (wantedBy wanted (now (values .entry))) (stepsOn (now (list .entry))) p 0 (now (marks .entry)) (now (members .entry)) count (now (marks .exit)) (now (members .exit)) r ⌝ }
+    requires { ⌜ Indexed (now list) (now adjacency) ⌝ }
+    ensures { λ r. ⌜ Followed (wantedBy wanted (now (values .entry))) (stepsOn (now (list .entry))) p
+        (now (marks .entry)) (now (members .entry)) count (now (marks .exit)) (now (members .exit)) r ⌝ }
 {
     let mut n = count;
-    let i = p as usize;
-    let mut h = adjacency[i] as usize;
+    let mut h = compiled::adjacency::link_at(adjacency, p as usize);
     while 0 < h {
         let k = h - 1;
-        let on = is_wanted(wanted, values, list[k * 4], list[k * 4 + 3]);
-        n = mark(marks, members, n, on, list[k * 4 + 2]);
-        h = adjacency[POSITIONS + k] as usize;
+        let step = compiled::steps::step_at(list, k);
+        let on = is_wanted(wanted, values, step);
+        n = mark(marks, members, n, on, step.to);
+        h = compiled::adjacency::link_at(adjacency, POSITIONS + k);
     }
     n
 }
@@ -110,7 +101,7 @@ impl PositionSet {
     // All that silent steps lead to, by the formulas' values.
     pub fn closed(self, list: &[u16], adjacency: &[u16], values: &[bool]) -> PositionSet
         requires { ⌜ CountedSet self ⌝ }
-        requires { ⌜ Listed (now list) × Adjacency (now list) (length (now list) / 4) (now adjacency) ⌝ }
+        requires { ⌜ Indexed (now list) (now adjacency) ⌝ }
         ensures { λ r. ⌜ (r .marks ≡ closure (silentBy (now (values .entry))) (stepsOn (now (list .entry))) (self .marks)) × CountedSet r ⌝ }
     {
         let mut marks = self.marks;
@@ -141,7 +132,7 @@ impl PositionSet {
     // The positions that move m leads to, before any silent step.
     pub fn advanced(self, list: &[u16], adjacency: &[u16], m: u16) -> PositionSet
         requires { ⌜ CountedSet self ⌝ }
-        requires { ⌜ Listed (now list) × Adjacency (now list) (length (now list) / 4) (now adjacency) ⌝ }
+        requires { ⌜ Indexed (now list) (now adjacency) ⌝ }
         ensures { λ r. ⌜ (r .marks ≡ spread (isMove m) (stepsOn (now (list .entry))) (self .marks) (replicate mostPositions false)) × CountedSet r ⌝ }
     {
         let old = self.members;

@@ -3,7 +3,8 @@ ghost use mathlib.Core.Path.{_≡_};
 ghost use Rattle.semantics.specs.Machine.{onward, finished};
 ghost use Rattle.validate.specs.Verdict.{verdictOf};
 
-// What a list of moves, or of steps, is: a plan with its cost, blocked at an index, unfinished, or one that misses the goal.
+// What a list of moves, or of steps, is: a plan with its cost, blocked at an index, unfinished, or
+// one that misses the goal.
 pub enum Verdict {
     Plan(u32),
     Blocked(usize),

@@ -19,9 +19,7 @@ returns c =
     says-moves _ _ _ (c .before .enum-told .given .1) (at6 .pre .0) (c .check-moves .ensures)
 
 returns-2 : tie.Need-returns-2
-returns-2 c =
-    let at6 = c .before .before .before .before .before .before in
-    says-steps _ _ _ (c .before .enum-told2 .given .1) (at6 .pre .0) (c .check-steps .ensures)
+returns-2 c = says-steps _ _ _ (c .before .enum-told2 .given .1) (c .check-steps .ensures)
 
 pub verdict-spec : {M : Type 1} → statement M
 verdict-spec =

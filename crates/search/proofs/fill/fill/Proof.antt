@@ -6,9 +6,8 @@ use lib.ListN.{length-set, length-replicate}
 use Rattle.semantics.specs.CostTable.{unreached}
 use Rattle.semantics.proofs.CellLaws.{runs-length}
 use Rattle.domain.proofs.DomainLaws.{states-few}
-use Rattle.validate.proofs.ReadyLaws.{ready-listed, some-position}
-use Rattle.sweep.specs.Queue.{queueSize}
-use Rattle.sweep.proofs.GraphLaws.{positions-few, steps-indexed}
+use Rattle.compiled.proofs.ReadyLaws.{ready-listed, some-position, positions-few}
+use Rattle.queue.specs.Queue.{queueSize}
 use Rattle.search.proofs.FillLaws.{start-inside, start-below, start-relaxed, search-ready, exhausted-fills}
 use borrow.Author.Needs.{needs}
 use Rattle.search.proofs.fill.fill.Statement.{statement}
@@ -85,9 +84,8 @@ settle-requires c κs =
     let cleared = c .before .before .before .before .before .before .clear .ensures in
     let order = c .before .before .before .before .before .before .before .before .before .before .before .before .order .ensures in
     let low = c .before .before .before .before .before .before .before .before .before .lower .ensures in
-    let indexed = steps-indexed r (at14 .adjacency-of .ensures) in
     rw (c .before .before .before .cell .ensures) (
-      search-ready r is _ (p .1) start cleared indexed
+      search-ready r is _ (p .1) start cleared (at14 .adjacency-of .ensures)
           (record { size = low .size ∙ order .size ∙ length-replicate {A = ℕ} queueSize unreached; few = omega (arith, is, states-few (r .stored)) }),
       start-relaxed r is _ (p .1) start cleared order low,
     )

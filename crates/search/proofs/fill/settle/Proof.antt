@@ -3,7 +3,7 @@ use mathlib.Core.Path.{_∙_}
 use native.Mathlib.Omega.{arith}
 use Rattle.semantics.proofs.CellLaws.{runs-length}
 use Rattle.domain.specs.Domain.{domainIn}
-use Rattle.sweep.specs.Sweeps.{graphOf, potential}
+use Rattle.search.specs.Sweeps.{graphOf, potential}
 use Rattle.search.proofs.FillLaws.{Settling, settling-start, settling-more, settling-end, search-on}
 use borrow.Author.Needs.{needs}
 use Rattle.search.proofs.fill.settle.Statement.{statement}
@@ -11,7 +11,7 @@ use Rattle.search.proofs.fill.settle.Tie as tie
 
 abbrev Inv-loop : tie.InvT-loop
 Inv-loop costs₀ queue₀ head rows list adjacency grid states costs queue =
-    Settling (graphOf head rows list (grid .positions)) (domainIn head rows .states) costs₀ queue₀ costs queue
+    Settling (graphOf head rows list (grid .positions)) costs₀ queue₀ costs queue
 
 abbrev μ-loop : tie.MeasureT-loop
 μ-loop costs₀ queue₀ head rows list adjacency grid states costs queue = potential (domainIn head rows .states) costs queue
@@ -22,7 +22,7 @@ loop-holds c = settling-start (c .before .before .before .before .before .before
 choose-requires : tie.Need-choose-requires Inv-loop μ-loop
 choose-requires c κs =
     let p = c .before .before .before .before .before .before .before .before .pre .0 in
-    record { size = c .before .loop .inv .size ∙ p .keys .size; few = omega (arith, p .states, p .keys .few) }
+    record { size = c .before .loop .inv .size ∙ p .room .keys .size; few = p .room .keys .few }
 
 same-length : tie.Need-same-length Inv-loop μ-loop
 same-length c = runs-length (c .before .before .before .loop .inv .runs)
@@ -38,7 +38,7 @@ returns c =
 cast-t14 : tie.Need-cast-t14 Inv-loop μ-loop
 cast-t14 c =
     let p = c .before .before .before .before .before .before .before .before .before .before .pre .0 in
-    record { fits = omega (arith, c .before .choose .ensures .low, c .if1 .left, p .states, p .keys .few) }
+    record { fits = omega (arith, c .before .choose .ensures .low, c .if1 .left, p .room .keys .few) }
 
 visit-requires : tie.Need-visit-requires Inv-loop μ-loop
 visit-requires c κs =

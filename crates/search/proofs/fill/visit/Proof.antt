@@ -1,6 +1,6 @@
-use mathlib.Core.Path.{refl, _∙_}
+use mathlib.Core.Path.{_∙_}
 use native.Mathlib.Omega.{arith}
-use Rattle.sweep.proofs.SuccessorLaws.{cached-none}
+use Rattle.compiled.proofs.SuccessorLaws.{cached-none}
 use Rattle.search.proofs.FillLaws.{search-sweep, better-sifted}
 use borrow.Author.Needs.{needs}
 use Rattle.search.proofs.fill.visit.Statement.{statement}
@@ -20,15 +20,15 @@ sift-up-requires c κs =
     let at6 = c .before .before .before .before .before .before in
     let at19 = at6 .before .before .before .before .before .before .before .before .before .before .before .before .before in
     let p = at19 .pre in
-    let keys = p .0 .keys in
+    let keys = p .0 .room .keys in
     let is = p .0 .states in
-    (record { size = at6 .sweep .ensures .size ∙ keys .size; few = omega (arith, is, keys .few) }, omega (arith, is, p .1 .0 .0))
+    (record { size = at6 .sweep .ensures .size ∙ keys .size; few = keys .few }, omega (arith, is, p .1 .0 .0))
 
 returns : tie.Need-returns
 returns c =
     let at9 = c .before .before .before .before .before .before .before .before .before in
     let at22 = at9 .before .before .before .before .before .before .before .before .before .before .before .before .before in
-    better-sifted (at22 .pre .0 .keys .few) refl (at9 .sweep .ensures) (c .before .before .sift-up .ensures)
+    better-sifted (omega (arith, at22 .pre .0 .states, at22 .pre .0 .room .keys .few)) (at9 .sweep .ensures) (c .before .before .sift-up .ensures)
 
 pub visit-spec : {M : Type 1} → statement M
 visit-spec =

@@ -2,8 +2,7 @@ use native.Mathlib.Omega.{arith}
 use Rattle.job.specs.Store.{jobOf}
 use Rattle.domain.specs.Domain.{domainIn}
 use Rattle.compile.specs.Program.{programOf}
-use Rattle.validate.proofs.ReadyLaws.{job-bounded, last-final, some-position}
-use Rattle.sweep.proofs.GraphLaws.{positions-few}
+use Rattle.compiled.proofs.ReadyLaws.{job-bounded, last-final, some-position, positions-few}
 use Rattle.search.proofs.LowestLaws.{lowest-least}
 use borrow.Author.Needs.{needs}
 use Rattle.search.proofs.least.least_cost.Statement.{statement}

@@ -4,7 +4,7 @@ use native.Mathlib.Omega.{arith}
 use lib.ListN.{length}
 use Rattle.limits.specs.Limits.{mostFormulas}
 use Rattle.validate.proofs.MoveLaws.{Checking, checking-start, checking-none, checking-stuck, checking-more, checking-end}
-use Rattle.validate.proofs.ReadyLaws.{ready-listed, some-position}
+use Rattle.compiled.proofs.ReadyLaws.{ready-listed, some-position}
 use borrow.Author.Needs.{needs}
 use Rattle.validate.proofs.moves.check_moves.Statement.{statement}
 use Rattle.validate.proofs.moves.check_moves.Tie as tie
@@ -27,8 +27,7 @@ formula-values-requires c κs = c .before .before .before .before .before .pre .
 closed-requires : tie.Need-closed-requires Inv-loop μ-loop
 closed-requires c κs =
     let at5 = c .before .before .before .before .before in
-    let at9 = at5 .before .before .before .before in
-    (c .before .before .start2 .ensures .1, (ready-listed (at9 .pre .0), at5 .adjacency-of .ensures))
+    (c .before .before .start2 .ensures .1, at5 .adjacency-of .ensures)
 
 loop-holds : tie.Need-loop-holds Inv-loop μ-loop
 loop-holds c =
@@ -75,27 +74,25 @@ advanced-requires : tie.Need-advanced-requires Inv-loop μ-loop
 advanced-requires c κs =
     let at11 = c .before .before .before .before .before .before .before .before .before .before .before in
     let at18 = at11 .before .before .before .before .before .before .before in
-    let at22 = at18 .before .before .before .before in
-    (at11 .loop .inv .counted, (ready-listed (at22 .pre .0), at18 .adjacency-of .ensures))
+    (at11 .loop .inv .counted, at18 .adjacency-of .ensures)
 
 slice-aggregate-closed-3 : tie.Need-slice-aggregate-closed-3 Inv-loop μ-loop
 slice-aggregate-closed-3 c =
     let at10 = c .before .before .before .before .before .before .before .before .before .before in
     let at20 = at10 .before .before .before .before .before .before .before .before .before .before in
-    search (needs, at20 .adjacency-of .ensures .size)
+    search (needs, at20 .adjacency-of .ensures .by-start .size)
 
 slice-aggregate-advanced : tie.Need-slice-aggregate-advanced Inv-loop μ-loop
 slice-aggregate-advanced c =
     let at9 = c .before .before .before .before .before .before .before .before .before in
     let at18 = at9 .before .before .before .before .before .before .before .before .before in
-    search (needs, at18 .adjacency-of .ensures .size)
+    search (needs, at18 .adjacency-of .ensures .by-start .size)
 
 closed-requires-2 : tie.Need-closed-requires-2 Inv-loop μ-loop
 closed-requires-2 c κs =
     let at10 = c .before .before .before .before .before .before .before .before .before .before in
     let at21 = at10 .before .before .before .before .before .before .before .before .before .before .before in
-    let at25 = at21 .before .before .before .before in
-    (c .before .before .advanced .ensures .1, (ready-listed (at25 .pre .0), at21 .adjacency-of .ensures))
+    (c .before .before .advanced .ensures .1, at21 .adjacency-of .ensures)
 
 returns-2 : tie.Need-returns-2 Inv-loop μ-loop
 returns-2 c =

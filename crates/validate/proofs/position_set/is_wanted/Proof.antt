@@ -4,15 +4,15 @@ use Rattle.validate.proofs.position_set.is_wanted.Statement.{statement}
 use Rattle.validate.proofs.position_set.is_wanted.Tie as tie
 
 returns : tie.Need-returns
-returns c = wanted-no-move _ _ _ (c .before .before .wanted .given .1) (c .if1 .taken)
+returns c = wanted-no-move _ _ _ (c .before .before .before .wanted .given .1) (c .if1 .taken)
 
 returns-2 : tie.Need-returns-2
 returns-2 c =
     let at4 = c .before .before .before .before in
-    wanted-silent (at4 .args .values .now) (at4 .args .kind) (at4 .args .arg) (c .before .enum-told .given .1) (c .is-silent .ensures)
+    wanted-silent (at4 .args .values .now) (at4 .args .step .kind) (at4 .args .step .arg) (c .before .enum-told .given .1) (c .is-silent .ensures)
 
 returns-3 : tie.Need-returns-3
-returns-3 c = wanted-move _ _ _ (c .before .before .wanted .given .1) (c .if1 .left)
+returns-3 c = wanted-move _ _ _ (c .before .before .before .before .wanted .given .1) (c .before .if1 .left)
 
 pub is-wanted-spec : {M : Type 1} → statement M
 is-wanted-spec =

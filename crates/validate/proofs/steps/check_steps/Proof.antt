@@ -3,10 +3,12 @@ use mathlib.Core.Path.{_∙_}
 use native.Mathlib.Omega.{arith}
 use lib.ListN.{length}
 use Rattle.job.specs.Store.{jobOf}
+use Rattle.semantics.specs.CompilingTable.{end}
 use Rattle.domain.specs.Cost.{mostCost}
 use Rattle.domain.specs.Domain.{domainIn}
+use Rattle.compile.specs.Program.{programOf}
 use Rattle.compile.specs.CompiledJob.{stepsOf}
-use Rattle.validate.proofs.ReadyLaws.{job-bounded}
+use Rattle.compiled.proofs.ReadyLaws.{job-bounded, last-final, some-position}
 use Rattle.validate.proofs.StepLaws.{Stepping, stepping-start, stepping-blocked, stepping-more, stepping-end}
 use borrow.Author.Needs.{needs}
 use Rattle.validate.proofs.steps.check_steps.Statement.{statement}
@@ -14,7 +16,8 @@ use Rattle.validate.proofs.steps.check_steps.Tie as tie
 
 abbrev Inv-loop : tie.InvT-loop
 Inv-loop head rows list positions plan state₀ position₀ cost₀ i₀ state position cost i =
-    Stepping (domainIn head rows) mostCost (stepsOf (jobOf head rows)) (positions - 1) plan state position cost i
+    let j = jobOf head rows in
+    Stepping (domainIn head rows) mostCost (stepsOf j) (end (programOf j) 0) plan state position cost i
 
 abbrev μ-loop : tie.MeasureT-loop
 μ-loop head rows list positions plan state₀ position₀ cost₀ i₀ state position cost i = length plan - i
@@ -24,36 +27,40 @@ loop-holds c = stepping-start (job-bounded (c .before .before .before .before .p
 
 make-step-requires : tie.Need-make-step-requires Inv-loop μ-loop
 make-step-requires c κs =
-    let p = c .before .before .before .before .before .before .before .pre in
-    let r = p .0 in
-    let below = p .1 .below _ (c .before .loop-test .taken) in
-    (r .stored, (omega (arith, below, r .whole), c .before .before .loop .inv .state))
+    let at7 = c .before .before .before .before .before .before .before in
+    let r = at7 .pre .0 in
+    (r .stored, (omega (arith, at7 .pre .1 .below _ (c .before .loop-test .taken), r .whole), c .before .before .loop .inv .state))
 
 returns : tie.Need-returns Inv-loop μ-loop
 returns c =
-    let r = c .before .before .before .before .before .before .before .before .before .before .pre .0 in
-    let made = rw (c .enum-told .given .1, r .steps) at (c .before .before .make-step .ensures) in
-    stepping-blocked (c .before .before .before .before .before .loop .inv) (c .before .before .before .before .loop-test .taken) made
+    let at4 = c .before .before .before .before in
+    let at10 = at4 .before .before .before .before .before .before in
+    let made = rw (c .enum-told .given .1, at10 .pre .0 .steps) at (c .before .before .make-step .ensures) in
+    stepping-blocked (at4 .before .loop .inv) (at4 .loop-test .taken) made
 
 add-cost : tie.Need-add-cost Inv-loop μ-loop
 add-cost c =
-    let p = c .before .before .before .before .before .before .before .before .before .before .before .pre in
-    let x = c .before .before .before .before .before .before .loop .inv in
-    let made = rw (c .before .step .given .1, p .0 .steps) at (c .before .before .before .make-step .ensures) in
-    let more = stepping-more x (c .before .before .before .before .before .loop-test .taken) (job-bounded (p .0)) made in
-    record { fits = omega (arith, more .cost, c .before .before .before .before .before .loop-test .taken, p .1 .few) }
+    let at4 = c .before .before .before .before in
+    let at12 = at4 .before .before .before .before .before .before .before .before in
+    let made = rw (c .before .before .step .given .1, at12 .pre .0 .steps) at (at4 .make-step .ensures) in
+    let more = stepping-more (at4 .before .before .before .loop .inv) (at4 .before .before .loop-test .taken) (job-bounded (at12 .pre .0)) made in
+    record { fits = omega (arith, more .cost, at4 .before .before .loop-test .taken, at12 .pre .1 .few) }
 
 loop-again : tie.Need-loop-again Inv-loop μ-loop
 loop-again c =
-    let at5 = c .before .before .before .before .before in
-    let r = at5 .before .before .before .before .before .before .pre .0 in
-    let made = rw (c .before .step .given .1, r .steps) at (c .before .before .before .make-step .ensures) in
-    stepping-more (at5 .before .loop .inv) (at5 .loop-test .taken) (job-bounded r) made
+    let at4 = c .before .before .before .before in
+    let at12 = at4 .before .before .before .before .before .before .before .before in
+    let made = rw (c .before .before .step .given .1, at12 .pre .0 .steps) at (at4 .make-step .ensures) in
+    stepping-more (at4 .before .before .before .loop .inv) (at4 .before .before .loop-test .taken) (job-bounded (at12 .pre .0)) made
+
+sub-finish : tie.Need-sub-finish Inv-loop μ-loop
+sub-finish c = omega (arith, some-position (c .before .before .before .before .before .before .before .before .before .pre .0))
 
 returns-2 : tie.Need-returns-2 Inv-loop μ-loop
 returns-2 c =
-    let end = stepping-end (c .before .before .before .before .before .loop .inv) (c .before .before .before .before .loop-test .left) in
-    c .finish .ensures ∙ rw (c .before .goal-holds .ensures) end
+    let at4 = c .before .before .before .before in
+    let at10 = at4 .before .before .before .before .before .before in
+    c .finish .ensures ∙ rw (c .before .goal-holds .ensures, last-final (at10 .pre .0)) (stepping-end (at4 .before .loop .inv) (at4 .loop-test .left))
 
 pub check-steps-spec : {M : Type 1} → statement M
 check-steps-spec =
@@ -76,6 +83,6 @@ check-steps-spec =
     (λ c κs. search needs)
     (λ c. search needs)
     (λ c κs. search needs)
-    (λ c. search needs)
+    sub-finish
     (λ c κs. search needs)
     returns-2)

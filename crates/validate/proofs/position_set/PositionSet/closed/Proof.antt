@@ -43,7 +43,7 @@ loop-again : tie.Need-loop-again Inv-loop μ-loop
 loop-again c =
     let at5 = c .before .before .before .before .before in
     let at12 = at5 .before .before .before .before .before .before .before in
-    closing-more _ _ _ (at12 .pre .1 .0) (at12 .pre .0 .size) (at5 .before .loop .inv) (at5 .loop-test .taken) (c .before .before .follow .ensures)
+    closing-more _ _ _ (at12 .pre .1 .listed) (at12 .pre .0 .size) (at5 .before .loop .inv) (at5 .loop-test .taken) (c .before .before .follow .ensures)
 
 returns : tie.Need-returns Inv-loop μ-loop
 unfolding wantedBy

@@ -1,0 +1,5 @@
+pub mod Adjacency
+pub mod Steps
+pub mod Ready
+pub mod Successors
+pub mod Arrival

@@ -1,0 +1,12 @@
+// A queue of states: their keys, and an order that names a state of least key.
+pub mod keys;
+pub mod order;
+
+use limits::STATES;
+
+// Keys of the states, then the nodes of the order.
+pub const QUEUE: usize = STATES * 2;
+// Where the nodes are; the first of them, which names a state of least key, is node 1.
+const NODES: usize = STATES;
+// The key of a state that is not in the queue.
+pub const NO_KEY: u32 = 4294967295;

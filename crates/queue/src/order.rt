@@ -1,0 +1,69 @@
+// The order of the states: a tree of nodes above them. Nothing is proved of what it names, since a
+// state that it names is looked at before it is taken.
+ghost use mathlib.Core.Path.{_≡_};
+ghost use Prim.Native.Nat.{_<_};
+ghost use lib.ListN.{length};
+ghost use Rattle.queue.specs.Queue.{Queue, queueSize, SameKeys};
+use crate::NO_KEY;
+use crate::NODES;
+
+// The state that node i names. From n on the nodes are the n states themselves.
+fn named(queue: &[u32], n: usize, i: usize) -> u32
+    requires { ⌜ Queue (now queue) n × (i < queueSize) ⌝ }
+{
+    if i < n {
+        return queue[NODES + i];
+    }
+    (i - n) as u32
+}
+
+// The key of a state; NO_KEY past the last.
+fn key(queue: &[u32], s: u32) -> u32
+    requires { ⌜ length (now queue) ≡ queueSize ⌝ }
+{
+    let i = s as usize;
+    if i < NODES {
+        return queue[i];
+    }
+    NO_KEY
+}
+
+// The one of two states that has the lesser key.
+fn lesser(queue: &[u32], a: u32, b: u32) -> u32
+    requires { ⌜ length (now queue) ≡ queueSize ⌝ }
+{
+    if key(queue, b) < key(queue, a) {
+        return b;
+    }
+    a
+}
+
+// Has the nodes above state s name states of least key again, from below upward.
+pub fn sift_up(queue: &mut [u32], n: usize, s: usize)
+    requires { ⌜ Queue (now queue) n × (s < n) ⌝ }
+    ensures { λ _. ⌜ SameKeys (now (queue .entry)) (now (queue .exit)) ⌝ }
+{
+    let mut i: usize = (n + s) / 2;
+    while 0 < i {
+        let best = lesser(queue, named(queue, n, 2 * i), named(queue, n, 2 * i + 1));
+        if best as usize != s {
+            if queue[NODES + i] == best {
+                return;
+            }
+        }
+        queue[NODES + i] = best;
+        i = i / 2;
+    }
+}
+
+// Has each node name the first state below it.
+pub fn order(queue: &mut [u32], n: usize)
+    requires { ⌜ Queue (now queue) n ⌝ }
+    ensures { λ _. ⌜ SameKeys (now (queue .entry)) (now (queue .exit)) ⌝ }
+{
+    let mut i: usize = n;
+    while 1 < i {
+        i -= 1;
+        queue[NODES + i] = named(queue, n, 2 * i);
+    }
+}

@@ -1,9 +1,0 @@
-pub mod CellLaws
-pub mod QueueLaws
-pub mod SuccessorLaws
-pub mod StepLaws
-pub mod GraphLaws
-pub mod PotentialLaws
-pub mod TargetLaws
-pub mod RelaxationLaws
-pub mod SweepLaws

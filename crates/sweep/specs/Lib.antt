@@ -1,6 +1,0 @@
-pub mod Cells
-pub mod Queue
-pub mod Successors
-pub mod Targets
-pub mod Sweeps
-pub mod Relaxation
