@@ -5,13 +5,12 @@ use mathlib.Core.Path.{_≡_}
 use mathlib.Core.List.{List, [], _∷_}
 use native.Mathlib.Omega.{arith}
 use lib.ListN.{length, getD}
-use Rattle.limits.specs.Limits.{mostFacts, mostFormulas, mostMoves, mostEffects, lastClass, mostProgram}
+use Rattle.limits.specs.Limits.{mostFacts, lastClass}
 use Rattle.job.specs.Job.{formulaOf, moveOf, effectOf, rowOf, formulaAt, moveAt, effectAt, programRowAt}
 use Rattle.job.specs.Fields.{Within, formulaFields, rowFields}
 use Rattle.job.specs.Store.{formulasFrom, movesFrom, effectsFrom, programFrom, rowAt, storedMove, jobOf}
 use Rattle.job.specs.WellFormed.{beforeFormula, beforeRow}
-use Rattle.job.specs.Stored.{Stored}
-use Rattle.job.specs.declared.head.Counts.{Counts}
+use Rattle.job.specs.Stored.{Limited, Stored}
 use Rattle.job.specs.declared.head.Head.{Head}
 use Rattle.job.proofs.StoreLaws.{rows-length, rows-at}
 use Rattle.job.proofs.RowLaws.{tiled-own}
@@ -42,14 +41,6 @@ module _ (h : Head) (l : List ℕ) where
 
     pub row-is : i < h .counts .program → programRowAt (jobOf h l) i ≡ rowOf (rowAt l (programFrom + i))
     row-is = rows-at rowOf l programFrom (rowOf []) (h .counts .program) i
-
--- at most so many of each
-pub record Limited (c : Counts) : Type 0 where
-  pub facts : c .facts ≤ mostFacts
-  pub formulas : c .formulas ≤ mostFormulas
-  pub moves : c .moves ≤ mostMoves
-  pub effects : c .effects ≤ mostEffects
-  pub program : c .program ≤ mostProgram
 
 module _ {h : Head} {l : List ℕ} (s : Stored h l) where
   pub limited : Limited (h .counts)

@@ -115,9 +115,9 @@ addRow j r = record {
   program = j .program ++ (r ∷ []);
 }
 
-abbrev pub withScalars : Job → ℕ → ℕ → ℕ → Job
-withScalars j facts init goal = record {
-  scalars = record { facts = facts; init = init; goal = goal };
+abbrev pub withScalars : Job → Scalars → Job
+withScalars j s = record {
+  scalars = s;
   formulas = j .formulas;
   moves = j .moves;
   effects = j .effects;
