@@ -5,16 +5,28 @@ use mathlib.Core.Bool.{Bool, true, false}
 use mathlib.Core.Option.{some}
 use mathlib.Core.List.{List}
 use native.Mathlib.Omega.{arith}
-use Prim.Native.Nat.{ℕ}
+use Prim.Native.Nat.{ℕ, _≤_, _<_}
 use lib.ListN.{length}
-use Rattle.job.specs.Fault.{criteria, firstReason, fault}
+use Rattle.job.specs.Fault.{rangeOf, criteria, firstReason, fault}
 use Rattle.job.specs.ReadJob.{begun}
 use Rattle.job.specs.Store.{width, numbersOf}
 use Rattle.job.specs.declared.head.Counts.{Counts}
 use Rattle.job.specs.declared.line.Line.{Line}
+use Rattle.job.specs.declared.line.Heading.{Heading}
+use Rattle.job.specs.declared.line.Heading.the-variants.{Job, Facts, Init, Formulas, Moves, Goal, Program}
 use Rattle.job.specs.declared.line.Sort.{Sort}
 use Rattle.job.specs.declared.line.LineNumbers.{LineNumbers}
 use Rattle.job.proofs.FrontLaws.{line-front}
+
+-- a line of one number is refused by reason 1, 2 or 3
+pub range-reason : (h : Heading) (c : Counts) → (0 < rangeOf h c .reason) × (rangeOf h c .reason ≤ 3)
+range-reason Job c = omega arith
+range-reason Facts c = omega arith
+range-reason Init c = omega arith
+range-reason Formulas c = omega arith
+range-reason Moves c = omega arith
+range-reason Goal c = omega arith
+range-reason Program c = omega arith
 
 -- the reason by a row's sort
 pub by-sort : (c : Counts) (n : List ℕ) {sort : Sort} {reason : ℕ} (k : Sort) → sort ≡ k → reason ≡ firstReason (criteria k c n)

@@ -21,6 +21,7 @@ use Rattle.job.specs.declared.line.Sort.{Sort}
 use Rattle.job.specs.declared.line.Sort.the-variants.{Formula, Move, Effect, Row}
 use Rattle.job.specs.declared.line.Line.{Line}
 use Rattle.job.specs.declared.line.Line.the-variants.{One, Of, End}
+use Rattle.job.proofs.FaultLaws.{range-reason}
 use Rattle.reader.specs.Room.{ahead, Fit, Due, Room}
 
 -- a line that no reason refuses
@@ -28,15 +29,6 @@ abbrev pub Right : Line → Counts → List ℕ → Type 0
 Right (One h) c r = (rangeOf h c .from ≤ getD r 0 0) × (getD r 0 0 < rangeOf h c .below)
 Right (Of k) c r = (criteria k c r .range ≡ true) × (criteria k c r .fields ≡ true)
 Right End c r = ⊥
-
-some-reason : (h : Heading) (c : Counts) → rangeOf h c .reason ≡ 0 → ⊥
-some-reason Job c e = omega arith
-some-reason Facts c e = omega arith
-some-reason Init c e = omega arith
-some-reason Formulas c e = omega arith
-some-reason Moves c e = omega arith
-some-reason Goal c e = omega arith
-some-reason Program c e = omega arith
 
 right-by : (x y : Bool) → _≡_ {A = ℕ} (cond x (cond y 0 3) 2) 0 → (x ≡ true) × (y ≡ true)
 right-by true true h = (refl, refl)
@@ -51,7 +43,7 @@ reason-right (One h) c r =
       leb-true (rangeOf h c .from) n (and-left (leb (rangeOf h c .from) n) (ltb n (rangeOf h c .below)) b),
       ltb-true n (rangeOf h c .below) (and-right (leb (rangeOf h c .from) n) (ltb n (rangeOf h c .below)) b),
     ))
-    (λ b e. absurd (some-reason h c e))
+    (λ b e. absurd (omega (arith, range-reason h c)))
 reason-right (Of k) c r = right-by (criteria k c r .range) (criteria k c r .fields)
 reason-right End c r = λ e. omega arith
 
