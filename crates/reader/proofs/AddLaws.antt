@@ -1,6 +1,6 @@
 -- A line that is taken in: a row that is written behind those of its sort is added to the job, and what a state of reading stands for then.
 -- Assumes nothing.
-use Prim.Native.Nat.{ℕ, _+_, _*_, _<_}
+use Prim.Native.Nat.{ℕ, _*_, _<_}
 use mathlib.Core.Path.{_≡_, refl, _∙_, ap}
 use mathlib.Core.List.{List, [], _∷_}
 use native.Mathlib.Omega.{arith}
@@ -13,6 +13,7 @@ use Rattle.job.specs.Store.{width, formulasFrom, movesFrom, effectsFrom, progra
 use Rattle.job.specs.Stored.{Limited}
 use Rattle.job.specs.declared.head.Counts.{Counts}
 use Rattle.job.specs.declared.head.Head.{Head}
+use Rattle.job.specs.declared.line.Heading.{Heading}
 use Rattle.job.specs.declared.line.Sort.{Sort}
 use Rattle.job.specs.declared.line.Sort.the-variants.{Formula, Move, Effect, Row}
 use Rattle.job.specs.declared.line.Line.{Line}
@@ -20,9 +21,16 @@ use Rattle.job.specs.declared.line.Line.the-variants.{Of}
 use Rattle.job.specs.declared.line.LineNumbers.{LineNumbers}
 use Rattle.job.proofs.FrontLaws.{line-front}
 use Rattle.job.proofs.StoreLaws.{rows-length, by-columns, put-behind, put-before, put-next}
-use Rattle.reader.specs.Reading.{readingOf, placeOf, oneMore}
+use Rattle.reader.specs.Reading.{readingOf, headAfter, placeOf, oneMore}
 use Rattle.reader.specs.Room.{Room}
 use Rattle.reader.specs.declared.taking.ReaderState.{ReaderState}
+
+-- the head and the counts by the line that came
+pub head-is : (n : ℕ) (h : Head) {heading k : Heading} → heading ≡ k → headAfter k n h ≡ headAfter heading n h
+head-is n h e = rw e
+
+pub counts-are : (c : Counts) {sort k : Sort} → sort ≡ k → oneMore k c ≡ oneMore sort c
+counts-are c e = rw e
 
 -- there are no more rows of a sort than it has room for, and where a row's line comes next there is room for it
 module _ {due effects : ℕ} {c : Counts} where

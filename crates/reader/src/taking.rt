@@ -7,7 +7,7 @@ ghost use Rattle.job.specs.Stored.{Limited};
 ghost use Rattle.job.specs.ReadJob.{past as pastOf, again as againOf, afterRow, afterOne, dueAfter, effectsAfter};
 ghost use Rattle.job.specs.ReadJob.{takenOne, takenRow, taken};
 ghost use Rattle.job.specs.Store.{storeSize, listOf};
-ghost use Rattle.reader.specs.Reading.{readingOf, withScalars, headAfter, placeOf, oneMore};
+ghost use Rattle.reader.specs.Reading.{readingOf, headAfter, placeOf, oneMore};
 ghost use Rattle.reader.specs.Room.{Room};
 use job::head::Counts;
 use job::head::Head;
@@ -88,31 +88,20 @@ fn on(next: Line, due: u16, effects: u16, head: Head) -> ReaderState
     }
 }
 
-fn with_scalars(head: Head, facts: u16, init: u16, goal: u16) -> Head
-    ensures { λ r. ⌜ r ≡ withScalars head (record { facts = facts; init = init; goal = goal }) ⌝ }
-{
-    let mut c = head.counts;
-    c.facts = facts;
-    Head {
-        counts: c,
-        init: init,
-        goal: goal,
-    }
-}
-
 fn head_after(heading: Heading, n: u16, head: Head) -> Head
     ensures { λ r. ⌜ r ≡ headAfter heading n head ⌝ }
 {
-    let facts = head.counts.facts;
+    let mut h = head;
     match heading {
-        Heading::Job => head,
-        Heading::Facts => with_scalars(head, n, head.init, head.goal),
-        Heading::Init => with_scalars(head, facts, n, head.goal),
-        Heading::Formulas => head,
-        Heading::Moves => head,
-        Heading::Goal => with_scalars(head, facts, head.init, n),
-        Heading::Program => head,
+        Heading::Job => {}
+        Heading::Facts => h.counts.facts = n,
+        Heading::Init => h.init = n,
+        Heading::Formulas => {}
+        Heading::Moves => {}
+        Heading::Goal => h.goal = n,
+        Heading::Program => {}
     }
+    h
 }
 
 // A line of one number sets a scalar or says how many rows come.
@@ -135,28 +124,18 @@ fn place(sort: Sort, c: Counts) -> u16
     }
 }
 
-fn counts(facts: u16, formulas: u16, moves: u16, effects: u16, program: u16) -> Counts
-    ensures { λ r. ⌜ r ≡ record { facts = facts; formulas = formulas; moves = moves; effects = effects; program = program } ⌝ }
-{
-    Counts {
-        facts: facts,
-        formulas: formulas,
-        moves: moves,
-        effects: effects,
-        program: program,
-    }
-}
-
 fn one_more(sort: Sort, c: Counts) -> Counts
     requires { ⌜ Limited c ⌝ }
     ensures { λ r. ⌜ r ≡ oneMore sort c ⌝ }
 {
+    let mut d = c;
     match sort {
-        Sort::Formula => counts(c.facts, c.formulas + 1, c.moves, c.effects, c.program),
-        Sort::Move => counts(c.facts, c.formulas, c.moves + 1, c.effects, c.program),
-        Sort::Effect => counts(c.facts, c.formulas, c.moves, c.effects + 1, c.program),
-        Sort::Row => counts(c.facts, c.formulas, c.moves, c.effects, c.program + 1),
+        Sort::Formula => d.formulas += 1,
+        Sort::Move => d.moves += 1,
+        Sort::Effect => d.effects += 1,
+        Sort::Row => d.program += 1,
     }
+    d
 }
 
 fn one_less(n: u16) -> u16
