@@ -59,7 +59,8 @@ module _ {h : Head} {l : List ℕ} (s : Stored h l) where
   module _ (i : ℕ) where
     -- what a formula and a program row refer to
     pub formula-within : i < h .counts .formulas
-        → Within (beforeFormula (h .counts .facts) i) (getD formulaFields (formulaAt (jobOf h l) i .kind) []) (formulaAt (jobOf h l) i .a ∷ formulaAt (jobOf h l) i .b ∷ [])
+        → Within (beforeFormula (h .counts .facts) i) (getD formulaFields (formulaAt (jobOf h l) i .kind) [])
+        (formulaAt (jobOf h l) i .a ∷ formulaAt (jobOf h l) i .b ∷ [])
     formula-within g = s .job .formula i (omega (arith, formula-count h l))
 
     pub row-within : i < h .counts .program
@@ -76,7 +77,12 @@ module _ {h : Head} {l : List ℕ} (s : Stored h l) where
 
     pub move-effects : i < h .counts .moves → moveAt (jobOf h l) i .first + moveAt (jobOf h l) i .effects ≤ h .counts .effects
     move-effects g =
-        omega (arith, tiled-own (moveOf 0 []) 0 (length (jobOf h l .effects)) (jobOf h l .moves) (s .job .tiled) i (omega (arith, move-count h l)), effect-count h l)
+        omega (
+          arith,
+          tiled-own (moveOf 0 []) 0 (length (jobOf h l .effects)) (jobOf h l .moves) (s .job .tiled) i
+              (omega (arith, move-count h l)),
+          effect-count h l,
+        )
 
     pub effect-fact : i < h .counts .effects → effectAt (jobOf h l) i .fact < mostFacts
     effect-fact g = omega (arith, s .job .effect i (omega (arith, effect-count h l)) .fact, s .job .facts)

@@ -20,8 +20,9 @@ use Rattle.job.specs.declared.line.Line.the-variants.{One, Of, End}
 abbrev range : ℕ → ℕ → ℕ → Range
 range from below reason = record { from = from; below = below; reason = reason }
 
--- a line of one number: from which number on, below which number, and which reason refuses any other. `job=1` is the only first line;
--- reason 2 is "count or init outside its range"; the goal is a reference
+-- a line of one number: from which number on, below which number, and which reason refuses any
+-- other. `job=1` is the only first line; reason 2 is "count or init outside its range"; the goal is
+-- a reference
 abbrev pub rangeOf : Heading → Counts → Range
 rangeOf Job c = range 1 2 1
 rangeOf Facts c = range 0 (mostFacts + 1) 2
@@ -34,8 +35,8 @@ rangeOf Program c = range 1 (mostProgram + 1) 2
 abbrev pub isIn : Range → ℕ → Bool
 isIn g n = leb (g .from) n && ltb n (g .below)
 
--- what a row must pass, by reason: its count, and its fields. Reason 3: "kind, reference, class, value or unused field wrong", beside so many facts
--- and earlier rows
+-- what a row must pass, by reason: its count, and its fields. Reason 3: "kind, reference, class,
+-- value or unused field wrong", beside so many facts and earlier rows
 pub record Criteria : Type 0 where
   pub range : Bool
   pub fields : Bool

@@ -17,8 +17,8 @@ use Rattle.job.specs.declared.line.Sort.the-variants.{Formula, Move, Eff
 use Rattle.job.specs.declared.line.Line.{Line}
 use Rattle.job.specs.declared.line.Line.the-variants.{One, Of, End}
 
--- a text that is being read: the line that comes next, the last line's count or how many rows of it are due, how many effects of the last move are due,
--- and the job so far
+-- a text that is being read: the line that comes next, how many rows are due by the number of the
+-- last line of one number, how many effects of the last move are due, and the job so far
 pub record Reading : Type 0 where
   pub next : Line
   pub due : ℕ
@@ -28,7 +28,8 @@ pub record Reading : Type 0 where
 abbrev pub on : Line → ℕ → ℕ → J.Job → Reading
 on next due effects job = record { next = next; due = due; effects = effects; job = job }
 
--- what comes once no more rows are due, and a row of which sort while they are: moves follow a move's effects
+-- what comes once no more rows are due, and a row of which sort while they are: moves follow a
+-- move's effects
 abbrev pub past : Sort → Line
 past Formula = One Moves
 past Move = One Goal

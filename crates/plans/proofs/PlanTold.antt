@@ -41,7 +41,8 @@ module _ (key : List ℕ) (bound : ℕ) where
     abbrev Reads : List ℕ → ℕ → List (List ℕ) → Type 0
     Reads got due ls = Below bound got → readEntries key bound got due ls ≡ listed es → Whole got due ls
 
-    whole-by : (got : List ℕ) (due : ℕ) (line : List ℕ) (ls : List (List ℕ)) (o : Option ℕ) → entryIn key bound line ≡ o → ((v : ℕ) → Reads (got ++ (v ∷ [])) due ls)
+    whole-by : (got : List ℕ) (due : ℕ) (line : List ℕ) (ls : List (List ℕ)) (o : Option ℕ) → entryIn key bound line ≡ o
+        → ((v : ℕ) → Reads (got ++ (v ∷ [])) due ls)
         → Reads got (suc due) (line ∷ ls)
     whole-by got due line ls none h f b e = not-listed _ es (sym (line-wrong key bound got line ls due h) ∙ e)
     whole-by got due line ls (some v) h f b e =

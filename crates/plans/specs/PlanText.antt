@@ -28,7 +28,8 @@ below limit (some l) = cond (ltb (getD l 0 0) limit) (some (getD l 0 0)) none
 unfoldable pub entryIn : List ℕ → ℕ → List ℕ → Option ℕ
 entryIn key limit line = below limit (numbers 1 (valueOf key line))
 
--- the lines after the first: the entries read so far, and how many are due. "A missing line's place is one past the last."
+-- the lines after the first: the entries read so far, and how many are due. "A missing line's place
+-- is one past the last."
 unfoldable pub readEntries : List ℕ → ℕ → List ℕ → ℕ → List (List ℕ) → PlanOutcome
 readEntries key bound got zero [] = listed got
 readEntries key bound got (suc due) [] = refused (length got + 2)

@@ -1,4 +1,5 @@
--- A line that is taken in: a row that is written behind those of its sort is added to the job, and what a state of reading stands for then.
+-- A line that is taken in: a row that is written behind those of its sort is added to the job, and
+-- what a state of reading stands for then.
 -- Assumes nothing.
 use Prim.Native.Nat.{ℕ, _*_, _<_}
 use mathlib.Core.Path.{_≡_, refl, _∙_, ap}
@@ -32,7 +33,8 @@ head-is n h e = rw e
 pub counts-are : (c : Counts) {sort k : Sort} → sort ≡ k → oneMore k c ≡ oneMore sort c
 counts-are c e = rw e
 
--- there are no more rows of a sort than it has room for, and where a row's line comes next there is room for it
+-- there are no more rows of a sort than it has room for, and where a row's line comes next there is
+-- room for it
 module _ {due effects : ℕ} {c : Counts} where
   pub rows-within : {next : Line} → Room next due effects c → Limited c
   rows-within h = record {

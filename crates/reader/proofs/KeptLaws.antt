@@ -57,17 +57,6 @@ pub record Fits (effects : ℕ) (j : J.Job) : Type 0 where
   pub effect : EffectRows (j .scalars .facts) (length (j .formulas)) (j .effects)
   pub row : ProgramRows j (j .program)
 
--- no row is wrong where there is none
-module _ (j : J.Job) where
-  no-move : length (j .moves) ≡ 0 → MoveRows (length (j .formulas)) (j .moves)
-  no-move e i h = absurd (omega arith)
-
-  no-effect : length (j .effects) ≡ 0 → EffectRows (j .scalars .facts) (length (j .formulas)) (j .effects)
-  no-effect e i h = absurd (omega arith)
-
-  no-row : length (j .program) ≡ 0 → ProgramRows j (j .program)
-  no-row e i h = absurd (omega arith)
-
 -- one move more behind, with its effects to come
 tiled-more : (first last : ℕ) (ms : List J.Move) (m : J.Move) → Tiled first ms last → m .first ≡ last → Tiled first (ms ++ (m ∷ [])) (last + m .effects)
 tiled-more first last [] m t e = (e ∙ sym t, omega (arith, t))
@@ -93,11 +82,16 @@ module _ (s : Reading) (r : List ℕ) where
   one-fits : (k : Heading) → Room (One k) (s .due) (s .effects) c → Fits (s .effects) j → Fits (s .effects) (takenAt (One k) s r .job)
   one-fits Job h f = same-facts _ refl f
   one-fits Facts h f =
-      let j′ : J.Job = takenAt (One Facts) s r .job in
       let a : length (j .formulas) ≡ 0 = omega (arith, h .fit .formulas) in
       let b : length (j .effects) ≡ 0 = omega (arith, h .fit .effects) in
       let d : length (j .program) ≡ 0 = omega (arith, h .fit .program) in
-      record { formula = λ i h. absurd (omega arith); move = f .move; tiled = f .tiled; effect = no-effect j′ b; row = no-row j′ d }
+      record {
+        formula = λ i g. absurd (omega arith);
+        move = f .move;
+        tiled = f .tiled;
+        effect = λ i g. absurd (omega arith);
+        row = λ i g. absurd (omega arith);
+      }
   one-fits Init h f = same-facts _ refl f
   one-fits Formulas h f = same-facts _ refl f
   one-fits Moves h f = same-facts _ refl f
@@ -111,14 +105,14 @@ module _ (s : Reading) (r : List ℕ) where
       let b : 0 ≡ length (j .effects) = omega (arith, h .fit .effects) in
       let d : 0 ≡ length (j .program) = omega (arith, h .fit .program) in
       let e : beforeFormula (j .scalars .facts) (length (j .formulas)) ≡ c = cc in
-      let j′ : J.Job = J.addFormula j (formulaOf r) in
       record {
-        formula = every-more (formulaOf []) (λ i f. Within (beforeFormula (j .scalars .facts) i) (getD formulaFields (f .kind) []) (f .a ∷ f .b ∷ [])) (j .formulas) (formulaOf r)
+        formula = every-more (formulaOf []) (λ i f. Within (beforeFormula (j .scalars .facts) i) (getD formulaFields (f .kind) []) (f .a ∷ f .b ∷ []))
+            (j .formulas) (formulaOf r)
             (f .formula) (rw e (within-true c (getD formulaFields (getD r 0 0) []) (getD r 1 0 ∷ getD r 2 0 ∷ []) (x .1)));
-        move = no-move j′ (sym a);
+        move = λ i g. absurd (omega arith);
         tiled = f .tiled;
-        effect = no-effect j′ (sym b);
-        row = no-row j′ (sym d);
+        effect = λ i g. absurd (omega arith);
+        row = λ i g. absurd (omega arith);
       }
   row-fits Move x h f =
       let m : J.Move = moveOf (length (j .effects)) r in
@@ -134,10 +128,11 @@ module _ (s : Reading) (r : List ℕ) where
             });
         tiled = tiled-more 0 (length (j .effects)) (j .moves) m (subst (Tiled 0 (j .moves)) e (f .tiled)) refl;
         effect = f .effect;
-        row = no-row (J.addMove j m) d;
+        row = λ i g. absurd (omega arith);
       }
   row-fits Effect x h f =
-      let e : length (j .effects) + s .effects ≡ length (j .effects ++ (effectOf r ∷ [])) + (s .effects - 1) = omega (arith, h .owed, length-append (j .effects) (effectOf r ∷ [])) in
+      let e : length (j .effects) + s .effects ≡ length (j .effects ++ (effectOf r ∷ [])) + (s .effects - 1) = omega
+      (arith, h .owed, length-append (j .effects) (effectOf r ∷ [])) in
       let d : length (j .program) ≡ 0 = omega (arith, h .fit .program) in
       let q = x .1 in
       let q′ = and-right (ltb (getD r 0 0) (c .formulas)) (ltb (getD r 1 0) (c .facts) && leb (getD r 2 0) 1) q in
@@ -151,7 +146,7 @@ module _ (s : Reading) (r : List ℕ) where
               fact = ltb-true (getD r 1 0) (c .facts) (and-left (ltb (getD r 1 0) (c .facts)) _ q′);
               value = leb-true (getD r 2 0) 1 (and-right (ltb (getD r 1 0) (c .facts)) _ q′);
             });
-        row = no-row (J.addEffect j (effectOf r)) d;
+        row = λ i g. absurd (omega arith);
       }
   row-fits Row x h f = record {
     formula = f .formula;

@@ -86,7 +86,8 @@ end-is End e = refl
 not-read : {A : Type 0} (a b m : ℕ) (j : J.Job) → refused a b ≡ read m j → A
 not-read a b m j e = let z : _≡_ {A = ℕ} 0 1 = cc in absurd (omega arith)
 
--- what holds at the end, and before a right line where it holds after it, holds wherever the text is read
+-- what holds at the end, and before a right line where it holds after it, holds wherever the text
+-- is read
 module _ (m : ℕ) (j : J.Job) (P : ℕ → Reading → List (List ℕ) → Type 0)
     (at-end : (s : Reading) → s .next ≡ End → s .job ≡ j → P m s [])
     (at-line : (n : ℕ) (s : Reading) (line r : List ℕ) (ls : List (List ℕ)) → lineNumbers (s .next) line ≡ some r → Right (s .next) (countsOf (s .job)) r

@@ -1,6 +1,6 @@
 -- A right line that is taken in leaves room for the rows that may still come.
 -- Assumes nothing.
-use Prim.Native.Nat.{ℕ, _+_, _-_, _*_, _≤_, _<_}
+use Prim.Native.Nat.{ℕ, _-_, _≤_, _<_}
 use mathlib.Core.Path.{_≡_, refl}
 use mathlib.Core.Bool.{Bool, true, false, cond}
 use mathlib.Core.List.{List, [], _∷_}
@@ -13,7 +13,7 @@ use Rattle.laws.proofs.Tests.{and-left, and-right, cond-has}
 use Rattle.limits.specs.Limits.{mostFacts, mostMoveEffects}
 use Rattle.job.specs.Job.{countsOf, formulaOf, moveOf, effectOf, rowOf}
 use Rattle.job.specs.Fault.{rangeOf, isIn, criteria, reasonOf, fault}
-use Rattle.job.specs.ReadJob.{Reading, past, again, afterRow, afterOne, scalarsAfter, dueAfter, effectsAfter, jobAfter, takenAt, taken}
+use Rattle.job.specs.ReadJob.{Reading, past, again, afterRow, jobAfter, takenAt, taken}
 use Rattle.job.specs.declared.head.Counts.{Counts}
 use Rattle.job.specs.declared.line.Heading.{Heading}
 use Rattle.job.specs.declared.line.Heading.the-variants.{Job, Facts, Init, Formulas, Moves, Goal, Program}
@@ -106,7 +106,12 @@ module _ (s : Reading) (r : List ℕ) where
   }
   one-room Init x h = record { facts = h .facts; fit = h .fit; owed = h .owed }
   one-room Formulas x h =
-      let f : Fit (ahead (Of Formula) n 0) c = record { formulas = omega (arith, h .fit .formulas, x .1); moves = h .fit .moves; effects = h .fit .effects; program = h .fit .program } in
+      let f : Fit (ahead (Of Formula) n 0) c = record {
+        formulas = omega (arith, h .fit .formulas, x .1);
+        moves = h .fit .moves;
+        effects = h .fit .effects;
+        program = h .fit .program;
+      } in
       rw (h .owed) (rows-room n 0 c Formula (h .facts) f (λ z. absurd (z refl)))
   one-room Moves x h =
       let f : Fit (ahead (Of Move) n 0) c = record {
@@ -118,7 +123,12 @@ module _ (s : Reading) (r : List ℕ) where
       rw (h .owed) (rows-room n 0 c Move (h .facts) f (λ z. absurd (z refl)))
   one-room Goal x h = record { facts = h .facts; fit = h .fit; owed = h .owed }
   one-room Program x h =
-      let f : Fit (ahead (Of Row) n 0) c = record { formulas = h .fit .formulas; moves = h .fit .moves; effects = h .fit .effects; program = omega (arith, h .fit .program, x .1) } in
+      let f : Fit (ahead (Of Row) n 0) c = record {
+        formulas = h .fit .formulas;
+        moves = h .fit .moves;
+        effects = h .fit .effects;
+        program = omega (arith, h .fit .program, x .1);
+      } in
       rw (h .owed) (rows-room n 0 c Row (h .facts) f (λ z. absurd (z refl)))
 
   row-room : (k : Sort) → Right (Of k) c r → Room (Of k) (s .due) (s .effects) c → RoomOf (takenAt (Of k) s r)
@@ -139,7 +149,12 @@ module _ (s : Reading) (r : List ℕ) where
       rows-room (s .due - 1) (getD r 2 0) (countsOf (jobAfter Move (s .job) r)) Move (h .facts) f (λ z. f)
   row-room Effect x h =
       let l = length-append (s .job .effects) (effectOf r ∷ []) in
-      let f : Fit (ahead (Of Effect) (s .due) (s .effects - 1)) (countsOf (jobAfter Effect (s .job) r)) = record { formulas = h .fit .formulas; moves = h .fit .moves; effects = omega (arith, h .fit .effects, h .owed, l); program = h .fit .program } in
+      let f : Fit (ahead (Of Effect) (s .due) (s .effects - 1)) (countsOf (jobAfter Effect (s .job) r)) = record {
+        formulas = h .fit .formulas;
+        moves = h .fit .moves;
+        effects = omega (arith, h .fit .effects, h .owed, l);
+        program = h .fit .program;
+      } in
       rows-room (s .due) (s .effects - 1) (countsOf (jobAfter Effect (s .job) r)) Effect (h .facts) f (λ z. f)
   row-room Row x h =
       let l = length-append (s .job .program) (rowOf r ∷ []) in

@@ -1,7 +1,7 @@
 -- What the reader's states and answers stand for.
 use Prim.Native.Nat.{ℕ, _+_}
 use mathlib.Core.List.{List}
-use Rattle.job.specs.Job.{Scalars}
+use Rattle.job.specs.Job.{Scalars, counts}
 use Rattle.job.specs.ReadJob.{Reading, on, scalarsAfter, Outcome, read, refused}
 use Rattle.job.specs.Store.{movesFrom, effectsFrom, programFrom, jobOf}
 use Rattle.job.specs.declared.head.Counts.{Counts}
@@ -15,15 +15,9 @@ use Rattle.reader.specs.declared.reading.Answer.{Answer}
 use Rattle.reader.specs.declared.reading.Answer.the-variants.{Read, Refused}
 
 -- the head after a line of one number
-abbrev pub withScalars : Head → Scalars → Head
+abbrev withScalars : Head → Scalars → Head
 withScalars h s = record {
-  counts = record {
-    facts = s .facts;
-    formulas = h .counts .formulas;
-    moves = h .counts .moves;
-    effects = h .counts .effects;
-    program = h .counts .program;
-  };
+  counts = counts (s .facts) (h .counts .formulas) (h .counts .moves) (h .counts .effects) (h .counts .program);
   init = s .init;
   goal = s .goal;
 }
@@ -37,9 +31,6 @@ placeOf Formula c = c .formulas
 placeOf Move c = movesFrom + c .moves
 placeOf Effect c = effectsFrom + c .effects
 placeOf Row c = programFrom + c .program
-
-abbrev counts : ℕ → ℕ → ℕ → ℕ → ℕ → Counts
-counts n f m e p = record { facts = n; formulas = f; moves = m; effects = e; program = p }
 
 abbrev pub oneMore : Sort → Counts → Counts
 oneMore Formula c = counts (c .facts) (c .formulas + 1) (c .moves) (c .effects) (c .program)

@@ -20,8 +20,8 @@ use job::rows::MOVES_FROM;
 use job::rows::PROGRAM_FROM;
 use job::rows::WIDTH;
 
-// A text that is being read: the line that comes next, the last line's count or how many rows of
-// it are due, how many effects of the last move are due, and the head so far.
+// A text that is being read: the line that comes next, how many rows are due by the number of the
+// last line of one number, how many effects of the last move are due, and the head so far.
 pub struct ReaderState {
     pub next: Line,
     pub due: u16,

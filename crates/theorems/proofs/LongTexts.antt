@@ -75,24 +75,49 @@ module _ (s : Reading) where
   abbrev Falls : Line → ℕ → ℕ → Line → Type 0
   Falls k due effects next = bytesAhead next due effects + most k ≤ bytesAhead k (s .due) (s .effects)
 
-  -- a line that comes next is among the bytes that may come, and after it, where it is right, they are fewer
+  -- a line that comes next is among the bytes that may come, and after it, where it is right, they
+  -- are fewer
   falls-at : (r : List ℕ) (k : Line) → Room k (s .due) (s .effects) c
       → (most k ≤ bytesAhead k (s .due) (s .effects)) × (Right k c r → Falls k (takenAt k s r .due) (takenAt k s r .effects) (takenAt k s r .next))
   falls-at r (One Job) h = omega arith
   falls-at r (One Facts) h = omega arith
   falls-at r (One Init) h = omega arith
-  falls-at r (One Formulas) h = (omega arith, λ x. rows-has (Falls (One Formulas) _ _) Formula (getD r 0 0) 0 (λ y z. omega arith) (λ y z. omega (arith, x)) (λ z. absurd (z refl)))
-  falls-at r (Of Formula) h =
-      (omega arith, λ x. rows-has (Falls (Of Formula) _ _) Formula (s .due - 1) (s .effects) (λ y z. omega arith) (λ y z. omega arith) (λ z. absurd (z (h .owed .1))))
-  falls-at r (One Moves) h = (omega arith, λ x. rows-has (Falls (One Moves) _ _) Move (getD r 0 0) 0 (λ y z. omega arith) (λ y z. omega (arith, x, h .owed)) (λ z. absurd (z refl)))
-  falls-at r (Of Move) h =
-      (omega arith, λ x. rows-has (Falls (Of Move) _ _) Move (s .due - 1) (getD r 2 0) (λ y z. omega arith) (λ y z. omega arith) (λ z. omega (arith, leb-true (getD r 2 0) mostMoveEffects (x .0))))
-  falls-at r (Of Effect) h =
-      (omega arith, λ x. rows-has (Falls (Of Effect) _ _) Effect (s .due) (s .effects - 1) (λ y z. omega arith) (λ y z. omega arith) (λ z. omega arith))
+  falls-at r (One Formulas) h = (
+    omega arith,
+    λ x. rows-has (Falls (One Formulas) _ _) Formula (getD r 0 0) 0
+        (λ y z. omega arith) (λ y z. omega (arith, x)) (λ z. absurd (z refl)),
+  )
+  falls-at r (Of Formula) h = (
+    omega arith,
+    λ x. rows-has (Falls (Of Formula) _ _) Formula (s .due - 1) (s .effects)
+        (λ y z. omega arith) (λ y z. omega arith) (λ z. absurd (z (h .owed .1))),
+  )
+  falls-at r (One Moves) h = (
+    omega arith,
+    λ x. rows-has (Falls (One Moves) _ _) Move (getD r 0 0) 0
+        (λ y z. omega arith) (λ y z. omega (arith, x, h .owed)) (λ z. absurd (z refl)),
+  )
+  falls-at r (Of Move) h = (
+    omega arith,
+    λ x. rows-has (Falls (Of Move) _ _) Move (s .due - 1) (getD r 2 0)
+        (λ y z. omega arith) (λ y z. omega arith) (λ z. omega (arith, leb-true (getD r 2 0) mostMoveEffects (x .0))),
+  )
+  falls-at r (Of Effect) h = (
+    omega arith,
+    λ x. rows-has (Falls (Of Effect) _ _) Effect (s .due) (s .effects - 1)
+        (λ y z. omega arith) (λ y z. omega arith) (λ z. omega arith),
+  )
   falls-at r (One Goal) h = omega arith
-  falls-at r (One Program) h = (omega arith, λ x. rows-has (Falls (One Program) _ _) Row (getD r 0 0) 0 (λ y z. omega arith) (λ y z. omega (arith, x)) (λ z. absurd (z refl)))
-  falls-at r (Of Row) h =
-      (omega arith, λ x. rows-has (Falls (Of Row) _ _) Row (s .due - 1) (s .effects) (λ y z. omega arith) (λ y z. omega arith) (λ z. absurd (z (h .owed .1))))
+  falls-at r (One Program) h = (
+    omega arith,
+    λ x. rows-has (Falls (One Program) _ _) Row (getD r 0 0) 0
+        (λ y z. omega arith) (λ y z. omega (arith, x)) (λ z. absurd (z refl)),
+  )
+  falls-at r (Of Row) h = (
+    omega arith,
+    λ x. rows-has (Falls (Of Row) _ _) Row (s .due - 1) (s .effects)
+        (λ y z. omega arith) (λ y z. omega arith) (λ z. absurd (z (h .owed .1))),
+  )
   falls-at r End h = (omega arith, λ x. absurd x)
 
   abbrev reason : Option (List ℕ) → ℕ

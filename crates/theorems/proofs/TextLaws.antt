@@ -13,11 +13,11 @@ use lib.ListN.{length, getD, take, drop, length-append, length-drop, length-map,
 use borrow.Author.Tests.{lt-ltb, le-leb, ne-eqb}
 use Rattle.limits.specs.Limits.{mostFacts, mostFormulas, mostMoves, mostProgram, lastClass}
 use Rattle.laws.proofs.Tests.{and-both}
-use Rattle.text.specs.Written.{Small}
+use Rattle.text.proofs.WrittenLaws.{Small}
 use Rattle.text.specs.Lines.{lines}
 use Rattle.text.proofs.LineText.{line-complete, plain, endsOnce, line-of, line-ends}
 use Rattle.job.specs.Job as J
-use Rattle.job.specs.Job.{countsOf}
+use Rattle.job.specs.Job.{countsOf, made}
 use Rattle.job.specs.Line.{formOf, lineNumbers}
 use Rattle.job.specs.Fields.{bound, within, Within, formulaFields, rowFields}
 use Rattle.job.specs.Fault.{rangeOf, criteria, reasonOf, fault}
@@ -50,7 +50,8 @@ small-within c b (f ∷ fs) [] w = absurd w
 small-within c b (f ∷ fs) (x ∷ xs) w = (omega (arith, w .0, b f), small-within c b fs xs (w .1))
 
 -- counts within the limits bound every field by a small number
-bound-small : (c : Counts) → c .facts ≤ mostFacts → c .formulas ≤ mostFormulas → c .moves ≤ mostMoves → c .program ≤ mostProgram → (f : Field) → bound c f ≤ 65536
+bound-small : (c : Counts) → c .facts ≤ mostFacts → c .formulas ≤ mostFormulas → c .moves ≤ mostMoves → c .program ≤ mostProgram → (f : Field)
+    → bound c f ≤ 65536
 bound-small c a b d e F.Unused = omega arith
 bound-small c a b d e F.Fact = omega arith
 bound-small c a b d e F.Formula = omega arith
@@ -68,14 +69,16 @@ kind-text c table t b kind x xs w =
 
 -- a line of right numbers is taken in
 text-line : (s : Reading) (n a : ℕ) (ns : List ℕ) (rest : List (List ℕ)) → length (a ∷ ns) ≡ formOf (s .next) .width → Small (a ∷ ns)
-    → reasonOf (s .next) (countsOf (s .job)) (a ∷ ns) ≡ 0 → readFrom n s (lineOf (s .next) (a ∷ ns) ∷ rest) ≡ readFrom (n + 1) (takenAt (s .next) s (a ∷ ns)) rest
+    → reasonOf (s .next) (countsOf (s .job)) (a ∷ ns) ≡ 0
+    → readFrom n s (lineOf (s .next) (a ∷ ns) ∷ rest) ≡ readFrom (n + 1) (takenAt (s .next) s (a ∷ ns)) rest
 unfolding lineNumbers taken fault
 text-line s n a ns rest w t x =
     let k = s .next in
     let e : lineNumbers k (lineOf k (a ∷ ns)) ≡ some (a ∷ ns) = line-complete (formOf k .key) (formOf k .width) a ns w t in
     line-right n s (lineOf k (a ∷ ns)) rest (a ∷ ns) e (rw (e, x))
 
-one-line : (h : Heading) (due : ℕ) (j : J.Job) (n a : ℕ) (rest : List (List ℕ)) → a ≤ 65535 → rangeOf h (countsOf j) .from ≤ a → a < rangeOf h (countsOf j) .below
+one-line : (h : Heading) (due : ℕ) (j : J.Job) (n a : ℕ) (rest : List (List ℕ)) → a ≤ 65535 → rangeOf h (countsOf j) .from ≤ a
+    → a < rangeOf h (countsOf j) .below
     → readFrom n (on (One h) due 0 j) (lineOf (One h) (a ∷ []) ∷ rest) ≡ readFrom (n + 1) (takenOne h (on (One h) due 0 j) a) rest
 one-line h due j n a rest t x y = text-line (on (One h) due 0 j) n a [] rest refl (t, tt) (rw (le-leb _ _ x, lt-ltb _ _ y))
 
@@ -96,7 +99,8 @@ Along Q put j [] = Unit {0}
 Along Q put j (a ∷ l) = Q j a × Along Q put (put j a) l
 
 module _ {A : Type 0} (st : ℕ → J.Job → Reading) (ln : A → List ℕ) (put : J.Job → A → J.Job) (Q : J.Job → A → Type 0)
-    (step : (m n : ℕ) (j : J.Job) (a : A) (rest : List (List ℕ)) → Q j a → readFrom n (st (suc m) j) (ln a ∷ rest) ≡ readFrom (n + 1) (st m (put j a)) rest) where
+    (step : (m n : ℕ) (j : J.Job) (a : A) (rest : List (List ℕ)) → Q j a
+    → readFrom n (st (suc m) j) (ln a ∷ rest) ≡ readFrom (n + 1) (st m (put j a)) rest) where
   section : (l : List A) (j : J.Job) (n : ℕ) (tail : List (List ℕ)) → Along Q put j l
       → readFrom n (st (length l) j) (map ln l ++ tail) ≡ readFrom (n + length l) (st 0 (foldl put j l)) tail
   unfolding Along
@@ -134,15 +138,13 @@ module _ {A : Type 0} (put : J.Job → A → J.Job) (mk : List A → J.Job) (sam
         (fits done a (subst (λ i. P i a) (sym e) (h .0)), subst (λ j. Along Q put j l) (sym (same done a)) (along-all l (done ++ (a ∷ [])) (k + 1) g (h .1)))
 
     module _ (st : ℕ → J.Job → Reading) (ln : A → List ℕ)
-        (step : (m n : ℕ) (j : J.Job) (a : A) (rest : List (List ℕ)) → Q j a → readFrom n (st (suc m) j) (ln a ∷ rest) ≡ readFrom (n + 1) (st m (put j a)) rest) where
+        (step : (m n : ℕ) (j : J.Job) (a : A) (rest : List (List ℕ)) → Q j a
+        → readFrom n (st (suc m) j) (ln a ∷ rest) ≡ readFrom (n + 1) (st m (put j a)) rest) where
       rows-read : (l done : List A) (n : ℕ) (tail : List (List ℕ)) → EveryFrom (length done) P l
           → readFrom n (st (length l) (mk done)) (map ln l ++ tail) ≡ readFrom (n + length l) (st 0 (mk (done ++ l))) tail
       rows-read l done n tail h =
-          section st ln put Q step l (mk done) n tail (along-all l done (length done) refl h) ∙ ap (λ j. readFrom (n + length l) (st 0 j) tail) (fold-all l done)
-
--- a job with these parts
-abbrev made : J.Scalars → List J.Formula → List J.Move → List J.Effect → List J.Row → J.Job
-made sc fs ms es ps = record { scalars = sc; formulas = fs; moves = ms; effects = es; program = ps }
+          section st ln put Q step l (mk done) n tail (along-all l done (length done) refl h)
+          ∙ ap (λ j. readFrom (n + length l) (st 0 j) tail) (fold-all l done)
 
 -- formulas and program rows
 abbrev FormulaText : J.Job → J.Formula → Type 0
@@ -159,14 +161,16 @@ RowText j r = KindText (countsOf j) rowFields (r .kind) (r .a ∷ r .b ∷ r .c 
 row-step : (m n : ℕ) (j : J.Job) (r : J.Row) (rest : List (List ℕ)) → RowText j r
     → readFrom n (on (afterRow Row (suc m) 0) (suc m) 0 j) (rowLine r ∷ rest) ≡ readFrom (n + 1) (on (afterRow Row m 0) m 0 (J.addRow j r)) rest
 row-step m n j r rest q =
-    row-line Row _ (suc m) 0 m 0 n j (r .kind) (r .a ∷ r .b ∷ r .c ∷ []) rest (rw (ne-eqb (suc m) 0 (λ z. omega arith))) refl (q .1) refl (q .0) (omega arith) refl
+    row-line Row _ (suc m) 0 m 0 n j (r .kind) (r .a ∷ r .b ∷ r .c ∷ []) rest (rw (ne-eqb (suc m) 0 (λ z. omega arith))) refl (q .1) refl (q .0)
+    (omega arith) refl
 
 -- a move's effects
 abbrev EffectText : J.Job → J.Effect → Type 0
 EffectText j e = EffectFits (j .scalars .facts) (length (j .formulas)) e × Small (e .cond ∷ e .fact ∷ e .value ∷ [])
 
 effect-step : (due m n : ℕ) (j : J.Job) (e : J.Effect) (rest : List (List ℕ)) → EffectText j e
-    → readFrom n (on (afterRow Effect due (suc m)) due (suc m) j) (effectLine e ∷ rest) ≡ readFrom (n + 1) (on (afterRow Effect due m) due m (J.addEffect j e)) rest
+    → readFrom n (on (afterRow Effect due (suc m)) due (suc m) j) (effectLine e ∷ rest) ≡ readFrom (n + 1)
+    (on (afterRow Effect due m) due m (J.addEffect j e)) rest
 effect-step due m n j e rest q =
     row-line Effect _ due (suc m) due m n j (e .cond) (e .fact ∷ e .value ∷ []) rest (rw (ne-eqb (suc m) 0 (λ z. omega arith))) refl (q .1) refl
     (and-both (ltb (e .cond) (length (j .formulas))) _ (lt-ltb _ _ (q .0 .cond))
@@ -197,13 +201,16 @@ all-drop P (suc c) [] h = tt
 all-drop P (suc c) (a ∷ l) h = all-drop P c l (h .1)
 
 -- a move
-move-step : (due n : ℕ) (j : J.Job) (m : J.Move) (rest : List (List ℕ)) → length (j .formulas) ≤ mostFormulas → MoveFits (length (j .formulas)) m → m .first ≡ length (j .effects)
-    → readFrom n (on (Of Move) (suc due) 0 j) (moveLine m ∷ rest) ≡ readFrom (n + 1) (on (afterRow Effect due (m .effects)) due (m .effects) (J.addMove j m)) rest
+move-step : (due n : ℕ) (j : J.Job) (m : J.Move) (rest : List (List ℕ)) → length (j .formulas) ≤ mostFormulas → MoveFits (length (j .formulas)) m
+    → m .first ≡ length (j .effects)
+    → readFrom n (on (Of Move) (suc due) 0 j) (moveLine m ∷ rest) ≡ readFrom (n + 1)
+    (on (afterRow Effect due (m .effects)) due (m .effects) (J.addMove j m)) rest
 move-step due n j m rest h f e =
     row-line Move _ (suc due) 0 due (m .effects) n j (m .pre) (m .class ∷ m .effects ∷ []) rest refl refl
     (omega (arith, f .pre), (omega (arith, f .class), (omega (arith, f .effects), tt))) (le-leb _ _ (f .effects))
     (and-both (ltb (m .pre) (length (j .formulas))) (leb (m .class) lastClass) (lt-ltb _ _ (f .pre)) (le-leb _ _ (f .class))) (omega arith) refl
-    ∙ ap (λ i. readFrom (n + 1) (on (afterRow Effect due (m .effects)) due (m .effects) (J.addMove j (J.moveOf i (m .pre ∷ m .class ∷ m .effects ∷ [])))) rest) (sym e)
+    ∙ ap (λ i. readFrom (n + 1) (on (afterRow Effect due (m .effects)) due (m .effects)
+    (J.addMove j (J.moveOf i (m .pre ∷ m .class ∷ m .effects ∷ [])))) rest) (sym e)
 
 -- the moves, each with its effects
 module _ (sc : J.Scalars) (fs : List J.Formula) (few : length fs ≤ mostFormulas) where
@@ -233,7 +240,8 @@ module _ (sc : J.Scalars) (fs : List J.Formula) (few : length fs ≤ mostFormula
       rw (ne-eqb (suc (length ms)) 0 (λ z. omega arith), append-assoc (map effectLine a) (moveLines ms b) tail)
       (move-step (length ms) n (made sc fs ms₀ es₀ []) m (map effectLine a ++ rest) few (f .0) (t .0)
       ∙ ap (λ k. readFrom (n + 1) (on (afterRow Effect (length ms) k) (length ms) k (mk es₀)) (map effectLine a ++ rest)) (sym la)
-      ∙ rows-read J.addEffect mk (λ l x. refl) EffectText (λ i x. P x) (λ l x h. h) (λ k j. on (afterRow Effect (length ms) k) (length ms) k j) effectLine (effect-step (length ms))
+      ∙ rows-read J.addEffect mk (λ l x. refl) EffectText (λ i x. P x) (λ l x h. h)
+      (λ k j. on (afterRow Effect (length ms) k) (length ms) k j) effectLine (effect-step (length ms))
       a es₀ (n + 1) rest (all-from P a (length es₀) (all-take P (m .effects) es g))
       ∙ moves-read ms b (ms₀ ++ (m ∷ [])) (es₀ ++ a) (n + 1 + length a) tail (rw (e₂, e₁) (t .1)) (f .1) (all-drop P (m .effects) es g)
       ∙ rw (append-assoc ms₀ (m ∷ []) ms, append-assoc es₀ a b, take-append-drop (m .effects) es, e₃))
@@ -254,7 +262,8 @@ module _ (j : J.Job) (w : WellFormed j) where
   formula-texts = every-from (J.formulaOf []) FormulaAt (j .formulas) 0 (λ i h.
       let e : i ≡ 0 + i = omega arith in
       subst (λ k. FormulaAt k (getD (j .formulas) i (J.formulaOf []))) e
-      (kind-text (beforeFormula facts i) formulaFields (omega arith) (bound-small _ (w .facts) (omega (arith, w .formulas)) (omega arith) (omega arith)) _ _ _ (w .formula i h)))
+      (kind-text (beforeFormula facts i) formulaFields (omega arith)
+      (bound-small _ (w .facts) (omega (arith, w .formulas)) (omega arith) (omega arith)) _ _ _ (w .formula i h)))
 
   abbrev RowAt : ℕ → J.Row → Type 0
   RowAt i r = KindText (beforeRow j i) rowFields (r .kind) (r .a ∷ r .b ∷ r .c ∷ [])
@@ -282,22 +291,27 @@ module _ (j : J.Job) (w : WellFormed j) where
 
   head-read : (n : ℕ) (tail : List (List ℕ))
       → readFrom n begun
-      (lineOf (One Job) (1 ∷ []) ∷ lineOf (One Facts) (facts ∷ []) ∷ lineOf (One Init) (j .scalars .init ∷ []) ∷ lineOf (One Formulas) (length (j .formulas) ∷ []) ∷ tail)
+      (lineOf (One Job) (1 ∷ []) ∷ lineOf (One Facts) (facts ∷ []) ∷ lineOf (One Init) (j .scalars .init ∷ []) ∷ lineOf (One Formulas)
+      (length (j .formulas) ∷ []) ∷ tail)
       ≡ readFrom (n + 1 + 1 + 1 + 1) (on (afterRow Formula (length (j .formulas)) 0) (length (j .formulas)) 0 (made sc [] [] [] [])) tail
   head-read n tail =
       one-line Job 0 (begun .job) n 1 _ (omega arith) (omega arith) (omega arith)
       ∙ one-line Facts 1 (begun .job) (n + 1) facts _ (omega (arith, w .facts)) (omega arith) (omega (arith, w .facts))
-      ∙ one-line Init facts (made (record { facts = facts; init = 0; goal = 0 }) [] [] [] []) (n + 1 + 1) (j .scalars .init) _ init-small (omega arith) (w .init)
+      ∙ one-line Init facts (made (record { facts = facts; init = 0; goal = 0 }) [] [] [] []) (n + 1 + 1) (j .scalars .init) _ init-small (omega arith)
+      (w .init)
       ∙ one-line Formulas (j .scalars .init) (made sc [] [] [] []) (n + 1 + 1 + 1) (length (j .formulas)) tail
       (omega (arith, w .formulas)) (omega (arith, w .goal)) (omega (arith, w .formulas))
 
-  program-read : (n : ℕ) → readFrom n (on (One Goal) 0 0 (made sc (j .formulas) (j .moves) (j .effects) [])) (programLines j) ≡ read (n + 1 + 1 + length (j .program)) j
+  program-read : (n : ℕ) → readFrom n (on (One Goal) 0 0 (made sc (j .formulas) (j .moves) (j .effects) [])) (programLines j) ≡ read
+      (n + 1 + 1 + length (j .program)) j
   program-read n =
       let mk : List J.Row → J.Job = λ l. made (j .scalars) (j .formulas) (j .moves) (j .effects) l in
       let st : ℕ → J.Job → Reading = λ k q. on (afterRow Row k 0) k 0 q in
-      one-line Goal 0 (made sc (j .formulas) (j .moves) (j .effects) []) n (j .scalars .goal) (lineOf (One Program) (length (j .program) ∷ []) ∷ map rowLine (j .program))
+      one-line Goal 0 (made sc (j .formulas) (j .moves) (j .effects) []) n (j .scalars .goal)
+      (lineOf (One Program) (length (j .program) ∷ []) ∷ map rowLine (j .program))
       (omega (arith, w .goal, w .formulas)) (omega arith) (w .goal)
-      ∙ one-line Program (j .scalars .goal) (mk []) (n + 1) (length (j .program)) (map rowLine (j .program)) (omega (arith, w .program)) (w .last) (omega (arith, w .program))
+      ∙ one-line Program (j .scalars .goal) (mk []) (n + 1) (length (j .program)) (map rowLine (j .program)) (omega (arith, w .program)) (w .last)
+      (omega (arith, w .program))
       ∙ ap (readFrom (n + 1 + 1) (st (length (j .program)) (mk []))) (sym (append-nil (map rowLine (j .program))))
       ∙ rows-read J.addRow mk (λ l x. refl) RowText RowAt (λ l r h. h) st rowLine row-step (j .program) [] (n + 1 + 1) [] row-texts
       ∙ read-end (n + 1 + 1 + length (j .program)) j
@@ -311,11 +325,20 @@ module _ (j : J.Job) (w : WellFormed j) where
       let n : ℕ = 4 + length fs in
       let z : 0 + length es ≡ length es = omega arith in
       let e : 4 + length fs + 1 + length (moveLines ms es) + 1 + 1 + length (j .program) ≡ length (jobLines j) =
-      omega (arith, length-append (map formulaLine fs) after, length-map fs formulaLine, length-append (moveLines ms es) (programLines j), length-map (j .program) rowLine) in
+      omega (
+        arith,
+        length-append (map formulaLine fs) after,
+        length-map fs formulaLine,
+        length-append (moveLines ms es) (programLines j),
+        length-map
+            (j .program) rowLine,
+      ) in
       head-read 0 (map formulaLine fs ++ after)
-      ∙ rows-read J.addFormula (λ l. made sc l [] [] []) (λ l x. refl) FormulaText FormulaAt (λ l f h. h) (λ k q. on (afterRow Formula k 0) k 0 q) formulaLine formula-step
+      ∙ rows-read J.addFormula (λ l. made sc l [] [] []) (λ l x. refl) FormulaText FormulaAt (λ l f h. h)
+      (λ k q. on (afterRow Formula k 0) k 0 q) formulaLine formula-step
       fs [] 4 after formula-texts
-      ∙ one-line Moves 0 (made sc fs [] [] []) n (length ms) (moveLines ms es ++ programLines j) (omega (arith, w .moves)) (omega arith) (omega (arith, w .moves))
+      ∙ one-line Moves 0 (made sc fs [] [] []) n (length ms) (moveLines ms es ++ programLines j) (omega (arith, w .moves)) (omega arith)
+      (omega (arith, w .moves))
       ∙ moves-read sc fs (w .formulas) ms es [] [] (n + 1) (programLines j) (rw z (w .tiled)) move-texts effect-texts
       ∙ program-read (n + 1 + length (moveLines ms es))
       ∙ ap (λ k. read k j) e
@@ -352,8 +375,11 @@ all-both (x ∷ a) b f g = (f .0, all-both a b (f .1) g)
 move-once : (ms : List J.Move) (es : List J.Effect) → All Once (moveLines ms es)
 unfolding moveLines
 move-once [] es = tt
-move-once (m ∷ ms) es =
-    (once (Of Move) _ _, all-both (map effectLine (take (m .effects) es)) (moveLines ms (drop (m .effects) es)) (all-map effectLine (take (m .effects) es) (λ e. once (Of Effect) _ _)) (move-once ms (drop (m .effects) es)))
+move-once (m ∷ ms) es = (
+  once (Of Move) _ _,
+  all-both (map effectLine (take (m .effects) es)) (moveLines ms (drop (m .effects) es))
+      (all-map effectLine (take (m .effects) es) (λ e. once (Of Effect) _ _)) (move-once ms (drop (m .effects) es)),
+)
 
 job-once : (j : J.Job) → All Once (jobLines j)
 job-once j =
@@ -365,7 +391,9 @@ job-once j =
           once (One Init) _ _,
           (
             once (One Formulas) _ _,
-            all-both (map formulaLine (j .formulas)) (lineOf (One Moves) (length (j .moves) ∷ []) ∷ (moveLines (j .moves) (j .effects) ++ programLines j)) (all-map formulaLine (j .formulas) (λ f. once (Of Formula) _ _))
+            all-both (map formulaLine (j .formulas))
+                (lineOf (One Moves) (length (j .moves) ∷ []) ∷ (moveLines (j .moves) (j .effects) ++ programLines j))
+                (all-map formulaLine (j .formulas) (λ f. once (Of Formula) _ _))
                 (once (One Moves) _ _, all-both (moveLines (j .moves) (j .effects)) (programLines j) (move-once (j .moves) (j .effects)) end),
           ),
         ),

@@ -1,5 +1,4 @@
 use borrow.Author.Tests.{lt-leb, le-leb}
-use borrow.Author.Needs.{needs}
 use Rattle.job.proofs.fault.is_in.Statement.{statement}
 use Rattle.job.proofs.fault.is_in.Tie as tie
 

@@ -1,7 +1,6 @@
-use mathlib.Core.Path.{sym, _∙_, ap}
-use mathlib.Core.Bool.{cond}
+use mathlib.Core.Path.{sym, _∙_}
 use borrow.Author.Tests.{not-true, not-false}
-use Rattle.job.specs.Fault.{fault, isIn}
+use Rattle.job.specs.Fault.{fault}
 use Rattle.job.specs.declared.line.Line.the-variants.{One, Of, End}
 use Rattle.job.proofs.FaultLaws.{fault-of, fault-form}
 use borrow.Author.Needs.{needs}

@@ -9,7 +9,8 @@ use Rattle.job.proofs.fault.row_reason.Tie as tie
 returns : tie.Need-returns
 returns c =
     let a = c .before .before .before .before .args in
-    by-sort (a .counts) (a .numbers) Formula (c .before .before .enum-told .given .1) (c .unless .ensures ∙ ap (λ b. cond b 0 3) (c .before .formula-right .ensures))
+    by-sort (a .counts) (a .numbers) Formula (c .before .before .enum-told .given .1)
+    (c .unless .ensures ∙ ap (λ b. cond b 0 3) (c .before .formula-right .ensures))
 
 returns-2 : tie.Need-returns-2
 returns-2 c =
@@ -19,7 +20,8 @@ returns-2 c =
 returns-3 : tie.Need-returns-3
 returns-3 c =
     let a = c .before .before .before .before .args in
-    by-sort (a .counts) (a .numbers) Effect (c .before .before .enum-told3 .given .1) (c .unless2 .ensures ∙ ap (λ b. cond b 0 3) (c .before .effect-right .ensures))
+    by-sort (a .counts) (a .numbers) Effect (c .before .before .enum-told3 .given .1)
+    (c .unless2 .ensures ∙ ap (λ b. cond b 0 3) (c .before .effect-right .ensures))
 
 returns-4 : tie.Need-returns-4
 returns-4 c =

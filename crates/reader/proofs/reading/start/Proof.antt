@@ -1,6 +1,5 @@
 use mathlib.Core.Path.{refl}
 use Rattle.job.specs.Store.{rowsFrom}
-use borrow.Author.Needs.{needs}
 use Rattle.reader.proofs.reading.start.Statement.{statement}
 use Rattle.reader.proofs.reading.start.Tie as tie
 
