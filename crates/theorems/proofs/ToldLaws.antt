@@ -201,27 +201,27 @@ module _ (s : Reading) (r : List ℕ) where
   Told k = toldAt (takenAt k s r .next) (takenAt k s r .due) (takenAt k s r .job) ≡ toldAt k (s .due) j ++ (lineOf k r ∷ [])
 
   -- a line's numbers are as many as it has
-  told-line : (k : Line) (ls : List (List ℕ)) → length r ≡ formOf k .width
-      → ls ++ (lineOf k (numbersFrom 0 (formOf k .width) r) ∷ []) ≡ ls ++ (lineOf k r ∷ [])
-  told-line k ls w = ap (λ q. ls ++ (lineOf k q ∷ [])) (numbers-of (formOf k .width) r w)
+  told-line : (k : Line) → length r ≡ formOf k .width
+      → toldAt k (s .due) j ++ (lineOf k (numbersFrom 0 (formOf k .width) r) ∷ []) ≡ toldAt k (s .due) j ++ (lineOf k r ∷ [])
+  told-line k w = ap (λ q. toldAt k (s .due) j ++ (lineOf k q ∷ [])) (numbers-of (formOf k .width) r w)
 
   told-one : (h : Heading) → length r ≡ 1 → Right (One h) c r → Room (One h) (s .due) (s .effects) c → Told (One h)
-  told-one Job w x h = let e : 1 ≡ getD r 0 0 = omega (arith, x) in ap (λ (q : ℕ). lineOf (One Job) (q ∷ []) ∷ []) e ∙ told-line (One Job) [] w
-  told-one Facts w x h = told-line (One Facts) (lineOf (One Job) (1 ∷ []) ∷ []) w
-  told-one Init w x h = told-line (One Init) (lineOf (One Job) (1 ∷ []) ∷ lineOf (One Facts) (j .scalars .facts ∷ []) ∷ []) w
+  told-one Job w x h = let e : 1 ≡ getD r 0 0 = omega (arith, x) in ap (λ (q : ℕ). lineOf (One Job) (q ∷ []) ∷ []) e ∙ told-line (One Job) w
+  told-one Facts w x h = told-line (One Facts) w
+  told-one Init w x h = told-line (One Init) w
   told-one Formulas w x h =
       let z : length (j .formulas) ≡ 0 = omega (arith, h .fit .formulas) in
       rows-told (getD r 0 0) 0 (takenAt (One Formulas) s r .job) Formula (λ y. absurd (y refl)) (getD r 0 0) (omega arith)
-      ∙ rw (nil-of (j .formulas) z) (told-line (One Formulas) (scalarLines j) w)
+      ∙ rw (nil-of (j .formulas) z) (told-line (One Formulas) w)
   told-one Moves w x h =
       let z : length (j .moves) ≡ 0 = omega (arith, h .fit .moves) in
       rows-told (getD r 0 0) 0 (takenAt (One Moves) s r .job) Move (λ y. refl) (getD r 0 0) (omega arith)
-      ∙ rw (nil-of (j .moves) z, no-moves (j .effects)) (told-line (One Moves) (part j Formula (count j Formula)) w)
-  told-one Goal w x h = told-line (One Goal) (part j Move (count j Move)) w
+      ∙ rw (nil-of (j .moves) z, no-moves (j .effects)) (told-line (One Moves) w)
+  told-one Goal w x h = told-line (One Goal) w
   told-one Program w x h =
       let z : length (j .program) ≡ 0 = omega (arith, h .fit .program) in
       rows-told (getD r 0 0) 0 (takenAt (One Program) s r .job) Row (λ y. absurd (y refl)) (getD r 0 0) (omega arith)
-      ∙ rw (nil-of (j .program) z) (told-line (One Program) (goalPart j) w)
+      ∙ rw (nil-of (j .program) z) (told-line (One Program) w)
 
   told-row : (k : Sort) → length r ≡ formOf (Of k) .width → Room (Of k) (s .due) (s .effects) c → Fits (s .effects) j → Open (j .moves) (s .effects)
       → Told (Of k)
@@ -229,7 +229,7 @@ module _ (s : Reading) (r : List ℕ) where
       let l = length-append (j .formulas) (formulaOf r ∷ []) in
       rows-told (s .due - 1) (s .effects) (J.addFormula j (formulaOf r)) Formula (λ y. absurd (y (h .owed .1))) (length (j .formulas) + s .due)
       (omega (arith, l, h .owed .0))
-      ∙ formula-told j (length (j .formulas) + s .due) (formulaOf r) ∙ told-line (Of Formula) _ w
+      ∙ formula-told j (length (j .formulas) + s .due) (formulaOf r) ∙ told-line (Of Formula) w
   told-row Move w h f o =
       let m : J.Move = moveOf (length (j .effects)) r in
       let l = length-append (j .moves) (m ∷ []) in
@@ -237,19 +237,19 @@ module _ (s : Reading) (r : List ℕ) where
       rows-told (s .due - 1) (getD r 2 0) (J.addMove j m) Move (λ y. refl) (length (j .moves) + s .due) (omega (arith, l, h .owed .0))
       ∙ move-told j (length (j .moves) + s .due) (j .moves ++ (m ∷ [])) (j .effects) (moveLine m)
       (moves-more (j .moves) (j .effects) m 0 (subst (Tiled 0 (j .moves)) d (f .tiled)))
-      ∙ told-line (Of Move) _ w
+      ∙ told-line (Of Move) w
   told-row Effect w h f o =
       let e : J.Effect = effectOf r in
       let d : length (j .effects) + s .effects ≡ 0 + length (j .effects) + s .effects = omega arith in
       rows-told (s .due) (s .effects - 1) (J.addEffect j e) Effect (λ y. refl) (length (j .moves) + s .due) refl
       ∙ move-told j (length (j .moves) + s .due) (j .moves) (j .effects ++ (e ∷ [])) (effectLine e)
       (effects-more (j .moves) (j .effects) e 0 (s .effects) (subst (Tiled 0 (j .moves)) d (f .tiled)) (h .owed) o)
-      ∙ told-line (Of Effect) _ w
+      ∙ told-line (Of Effect) w
   told-row Row w h f o =
       let l = length-append (j .program) (rowOf r ∷ []) in
       rows-told (s .due - 1) (s .effects) (J.addRow j (rowOf r)) Row (λ y. absurd (y (h .owed .1))) (length (j .program) + s .due)
       (omega (arith, l, h .owed .0))
-      ∙ row-told j (length (j .program) + s .due) (rowOf r) ∙ told-line (Of Row) _ w
+      ∙ row-told j (length (j .program) + s .due) (rowOf r) ∙ told-line (Of Row) w
 
   told-at : (k : Line) → length r ≡ formOf k .width → Right k c r → Room k (s .due) (s .effects) c → Fits (s .effects) j → Open (j .moves) (s .effects) → Told k
   told-at (One k) w x h f o = told-one k w x h
