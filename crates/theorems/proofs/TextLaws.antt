@@ -3,7 +3,7 @@
 use Prim.Native.Nat.{ℕ, zero, suc, _+_, _-_, _^_, _≤_, _<_}
 use mathlib.Core.Path.{_≡_, refl, sym, _∙_, ap, subst}
 use mathlib.Core.Bool.{true}
-use mathlib.Core.List.{List, [], _∷_, _++_, map, foldl, flatten, append-assoc, append-nil}
+use mathlib.Core.List.{List, [], _∷_, _++_, map, flatten, append-assoc, append-nil}
 use mathlib.Core.Option.{some}
 use native.Mathlib.Omega.{arith}
 use native.Mathlib.Nat.{pow-le-pow-right}
@@ -93,58 +93,22 @@ row-line k next due effects d e n j a ns rest g w t x y f h =
     ∙ ap (λ (i : ℕ). readFrom (n + 1) (on (afterRow k i (effectsAfter k effects (a ∷ ns))) i (effectsAfter k effects (a ∷ ns)) (jobAfter k j (a ∷ ns))) rest) f
     ∙ ap (λ (i : ℕ). readFrom (n + 1) (on (afterRow k d i) d i (jobAfter k j (a ∷ ns))) rest) h
 
--- rows of one sort, one after the other: `st m` is the reading with m of them due
-Along : {A : Type 0} → (J.Job → A → Type 0) → (J.Job → A → J.Job) → J.Job → List A → Type 0
-Along Q put j [] = Unit {0}
-Along Q put j (a ∷ l) = Q j a × Along Q put (put j a) l
-
-module _ {A : Type 0} (st : ℕ → J.Job → Reading) (ln : A → List ℕ) (put : J.Job → A → J.Job) (Q : J.Job → A → Type 0)
-    (step : (m n : ℕ) (j : J.Job) (a : A) (rest : List (List ℕ)) → Q j a
-    → readFrom n (st (suc m) j) (ln a ∷ rest) ≡ readFrom (n + 1) (st m (put j a)) rest) where
-  section : (l : List A) (j : J.Job) (n : ℕ) (tail : List (List ℕ)) → Along Q put j l
-      → readFrom n (st (length l) j) (map ln l ++ tail) ≡ readFrom (n + length l) (st 0 (foldl put j l)) tail
-  unfolding Along
-  section [] j n tail h = let e : n ≡ n + 0 = omega arith in ap (λ k. readFrom k (st 0 j) tail) e
-  section (a ∷ l) j n tail h =
+-- rows of one sort, one after the other: `mk l` is the job with the rows l, `st m` the reading with m
+-- more of them due, and P i what the line of row i wants
+module _ {A : Type 0} (d : A) (mk : List A → J.Job) (P : ℕ → A → Type 0) (st : ℕ → J.Job → Reading) (ln : A → List ℕ)
+    (step : (m n : ℕ) (done : List A) (a : A) (rest : List (List ℕ)) → P (length done) a
+    → readFrom n (st (suc m) (mk done)) (ln a ∷ rest) ≡ readFrom (n + 1) (st m (mk (done ++ (a ∷ [])))) rest) where
+  rows-read : (l done : List A) (n : ℕ) (tail : List (List ℕ)) → ((i : ℕ) → i < length l → P (length done + i) (getD l i d))
+      → readFrom n (st (length l) (mk done)) (map ln l ++ tail) ≡ readFrom (n + length l) (st 0 (mk (done ++ l))) tail
+  rows-read [] done n tail h = let e : n + 0 ≡ n = omega arith in rw (append-nil done, e)
+  rows-read (a ∷ l) done n tail h =
+      let z : length done + 0 ≡ length done = omega arith in
       let e : n + 1 + length l ≡ n + suc (length l) = omega arith in
-      step (length l) n j a (map ln l ++ tail) (h .0) ∙ section l (put j a) (n + 1) tail (h .1)
-      ∙ ap (λ k. readFrom k (st 0 (foldl put (put j a) l)) tail) e
-
--- P holds of each element at its place, counted from k
-abbrev EveryFrom : {A : Type 0} → ℕ → (ℕ → A → Type 0) → List A → Type 0
-EveryFrom k P [] = Unit {0}
-EveryFrom k P (a ∷ l) = P k a × EveryFrom (k + 1) P l
-
-every-from : {A : Type 0} (d : A) (P : ℕ → A → Type 0) (l : List A) (k : ℕ) → ((i : ℕ) → i < length l → P (k + i) (getD l i d)) → EveryFrom k P l
-every-from d P [] k h = tt
-every-from d P (a ∷ l) k h =
-    let e : k + 0 ≡ k = omega arith in (
-      subst (λ i. P i a) e (h 0 (omega arith)),
-      every-from d P l (k + 1) (λ i g. let f : k + suc i ≡ k + 1 + i = omega arith in subst (λ m. P m (getD l i d)) f (h (suc i) (omega arith))),
-    )
-
--- jobs that differ in the rows of one sort: `mk l` has the rows l
-module _ {A : Type 0} (put : J.Job → A → J.Job) (mk : List A → J.Job) (same : (l : List A) (a : A) → put (mk l) a ≡ mk (l ++ (a ∷ []))) where
-  fold-all : (l done : List A) → foldl put (mk done) l ≡ mk (done ++ l)
-  fold-all [] done = ap mk (sym (append-nil done))
-  fold-all (a ∷ l) done = ap (λ j. foldl put j l) (same done a) ∙ fold-all l (done ++ (a ∷ [])) ∙ ap mk (append-assoc done (a ∷ []) l)
-
-  module _ (Q : J.Job → A → Type 0) (P : ℕ → A → Type 0) (fits : (l : List A) (a : A) → P (length l) a → Q (mk l) a) where
-    along-all : (l done : List A) (k : ℕ) → length done ≡ k → EveryFrom k P l → Along Q put (mk done) l
-    unfolding Along
-    along-all [] done k e h = tt
-    along-all (a ∷ l) done k e h =
-        let g : length (done ++ (a ∷ [])) ≡ k + 1 = length-append done (a ∷ []) ∙ omega arith in
-        (fits done a (subst (λ i. P i a) (sym e) (h .0)), subst (λ j. Along Q put j l) (sym (same done a)) (along-all l (done ++ (a ∷ [])) (k + 1) g (h .1)))
-
-    module _ (st : ℕ → J.Job → Reading) (ln : A → List ℕ)
-        (step : (m n : ℕ) (j : J.Job) (a : A) (rest : List (List ℕ)) → Q j a
-        → readFrom n (st (suc m) j) (ln a ∷ rest) ≡ readFrom (n + 1) (st m (put j a)) rest) where
-      rows-read : (l done : List A) (n : ℕ) (tail : List (List ℕ)) → EveryFrom (length done) P l
-          → readFrom n (st (length l) (mk done)) (map ln l ++ tail) ≡ readFrom (n + length l) (st 0 (mk (done ++ l))) tail
-      rows-read l done n tail h =
-          section st ln put Q step l (mk done) n tail (along-all l done (length done) refl h)
-          ∙ ap (λ j. readFrom (n + length l) (st 0 j) tail) (fold-all l done)
+      let more : (i : ℕ) → i < length l → P (length (done ++ (a ∷ [])) + i) (getD l i d) = λ i g.
+      let f : length done + suc i ≡ length (done ++ (a ∷ [])) + i = omega (arith, length-append done (a ∷ [])) in
+      subst (λ k. P k (getD l i d)) f (h (suc i) (omega arith)) in
+      step (length l) n done a (map ln l ++ tail) (subst (λ i. P i a) z (h 0 (omega arith)))
+      ∙ rows-read l (done ++ (a ∷ [])) (n + 1) tail more ∙ rw (append-assoc done (a ∷ []) l, e)
 
 -- formulas and program rows
 abbrev FormulaText : J.Job → J.Formula → Type 0
@@ -186,9 +150,10 @@ all-every : {A : Type 0} (d : A) (P : A → Type 0) (l : List A) → ((i : ℕ) 
 all-every d P [] h = tt
 all-every d P (a ∷ l) h = (h 0 (omega arith), all-every d P l (λ i g. h (suc i) (omega arith)))
 
-all-from : {A : Type 0} (P : A → Type 0) (l : List A) (k : ℕ) → All P l → EveryFrom k (λ i a. P a) l
-all-from P [] k h = tt
-all-from P (a ∷ l) k h = (h .0, all-from P l (k + 1) (h .1))
+all-at : {A : Type 0} (d : A) (P : A → Type 0) (l : List A) → All P l → (i : ℕ) → i < length l → P (getD l i d)
+all-at d P [] h i g = absurd (omega arith)
+all-at d P (a ∷ l) h zero g = h .0
+all-at d P (a ∷ l) h (suc i) g = all-at d P l (h .1) i (omega arith)
 
 all-take : {A : Type 0} (P : A → Type 0) (c : ℕ) (l : List A) → All P l → All P (take c l)
 all-take P zero l h = tt
@@ -240,9 +205,8 @@ module _ (sc : J.Scalars) (fs : List J.Formula) (few : length fs ≤ mostFormula
       rw (ne-eqb (suc (length ms)) 0 (λ z. omega arith), append-assoc (map effectLine a) (moveLines ms b) tail)
       (move-step (length ms) n (made sc fs ms₀ es₀ []) m (map effectLine a ++ rest) few (f .0) (t .0)
       ∙ ap (λ k. readFrom (n + 1) (on (afterRow Effect (length ms) k) (length ms) k (mk es₀)) (map effectLine a ++ rest)) (sym la)
-      ∙ rows-read J.addEffect mk (λ l x. refl) EffectText (λ i x. P x) (λ l x h. h)
-      (λ k j. on (afterRow Effect (length ms) k) (length ms) k j) effectLine (effect-step (length ms))
-      a es₀ (n + 1) rest (all-from P a (length es₀) (all-take P (m .effects) es g))
+      ∙ rows-read (J.effectOf []) mk (λ i x. P x) (λ k j. on (afterRow Effect (length ms) k) (length ms) k j) effectLine
+      (λ k i done. effect-step (length ms) k i (mk done)) a es₀ (n + 1) rest (all-at (J.effectOf []) P a (all-take P (m .effects) es g))
       ∙ moves-read ms b (ms₀ ++ (m ∷ [])) (es₀ ++ a) (n + 1 + length a) tail (rw (e₂, e₁) (t .1)) (f .1) (all-drop P (m .effects) es g)
       ∙ rw (append-assoc ms₀ (m ∷ []) ms, append-assoc es₀ a b, take-append-drop (m .effects) es, e₃))
 
@@ -258,21 +222,21 @@ module _ (j : J.Job) (w : WellFormed j) where
   abbrev FormulaAt : ℕ → J.Formula → Type 0
   FormulaAt i f = KindText (beforeFormula facts i) formulaFields (f .kind) (f .a ∷ f .b ∷ [])
 
-  formula-texts : EveryFrom 0 FormulaAt (j .formulas)
-  formula-texts = every-from (J.formulaOf []) FormulaAt (j .formulas) 0 (λ i h.
+  formula-texts : (i : ℕ) → i < length (j .formulas) → FormulaAt (0 + i) (getD (j .formulas) i (J.formulaOf []))
+  formula-texts i h =
       let e : i ≡ 0 + i = omega arith in
       subst (λ k. FormulaAt k (getD (j .formulas) i (J.formulaOf []))) e
       (kind-text (beforeFormula facts i) formulaFields (omega arith)
-      (bound-small _ (w .facts) (omega (arith, w .formulas)) (omega arith) (omega arith)) _ _ _ (w .formula i h)))
+      (bound-small _ (w .facts) (omega (arith, w .formulas)) (omega arith) (omega arith)) _ _ _ (w .formula i h))
 
   abbrev RowAt : ℕ → J.Row → Type 0
   RowAt i r = KindText (beforeRow j i) rowFields (r .kind) (r .a ∷ r .b ∷ r .c ∷ [])
 
-  row-texts : EveryFrom 0 RowAt (j .program)
-  row-texts = every-from (J.rowOf []) RowAt (j .program) 0 (λ i h.
+  row-texts : (i : ℕ) → i < length (j .program) → RowAt (0 + i) (getD (j .program) i (J.rowOf []))
+  row-texts i h =
       let e : i ≡ 0 + i = omega arith in
       subst (λ k. RowAt k (getD (j .program) i (J.rowOf []))) e
-      (kind-text (beforeRow j i) rowFields (omega arith) (bound-small _ (w .facts) (w .formulas) (w .moves) (omega (arith, w .program))) _ _ _ (w .row i h)))
+      (kind-text (beforeRow j i) rowFields (omega arith) (bound-small _ (w .facts) (w .formulas) (w .moves) (omega (arith, w .program))) _ _ _ (w .row i h))
 
   effect-texts : All (P (j .scalars) (j .formulas) (w .formulas)) (j .effects)
   effect-texts = all-every (J.effectOf []) (P (j .scalars) (j .formulas) (w .formulas)) (j .effects) (λ i h.
@@ -313,7 +277,7 @@ module _ (j : J.Job) (w : WellFormed j) where
       ∙ one-line Program (j .scalars .goal) (mk []) (n + 1) (length (j .program)) (map rowLine (j .program)) (omega (arith, w .program)) (w .last)
       (omega (arith, w .program))
       ∙ ap (readFrom (n + 1 + 1) (st (length (j .program)) (mk []))) (sym (append-nil (map rowLine (j .program))))
-      ∙ rows-read J.addRow mk (λ l x. refl) RowText RowAt (λ l r h. h) st rowLine row-step (j .program) [] (n + 1 + 1) [] row-texts
+      ∙ rows-read (J.rowOf []) mk RowAt st rowLine (λ k i done. row-step k i (mk done)) (j .program) [] (n + 1 + 1) [] row-texts
       ∙ read-end (n + 1 + 1 + length (j .program)) j
 
   lines-read : readFrom 0 begun (jobLines j) ≡ read (length (jobLines j)) j
@@ -323,6 +287,7 @@ module _ (j : J.Job) (w : WellFormed j) where
       let es : List J.Effect = j .effects in
       let after : List (List ℕ) = lineOf (One Moves) (length ms ∷ []) ∷ (moveLines ms es ++ programLines j) in
       let n : ℕ = 4 + length fs in
+      let mk : List J.Formula → J.Job = λ l. made sc l [] [] [] in
       let z : 0 + length es ≡ length es = omega arith in
       let e : 4 + length fs + 1 + length (moveLines ms es) + 1 + 1 + length (j .program) ≡ length (jobLines j) =
       omega (
@@ -334,8 +299,7 @@ module _ (j : J.Job) (w : WellFormed j) where
             (j .program) rowLine,
       ) in
       head-read 0 (map formulaLine fs ++ after)
-      ∙ rows-read J.addFormula (λ l. made sc l [] [] []) (λ l x. refl) FormulaText FormulaAt (λ l f h. h)
-      (λ k q. on (afterRow Formula k 0) k 0 q) formulaLine formula-step
+      ∙ rows-read (J.formulaOf []) mk FormulaAt (λ k q. on (afterRow Formula k 0) k 0 q) formulaLine (λ k i done. formula-step k i (mk done))
       fs [] 4 after formula-texts
       ∙ one-line Moves 0 (made sc fs [] [] []) n (length ms) (moveLines ms es ++ programLines j) (omega (arith, w .moves)) (omega arith)
       (omega (arith, w .moves))
