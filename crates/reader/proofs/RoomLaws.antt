@@ -1,6 +1,6 @@
 -- A right line that is taken in leaves room for the rows that may still come.
 -- Assumes nothing.
-use Prim.Native.Nat.{ℕ, _-_, _≤_, _<_}
+use Prim.Native.Nat.{ℕ, _+_, _-_, _≤_, _<_}
 use mathlib.Core.Path.{_≡_, refl}
 use mathlib.Core.Bool.{Bool, true, false, cond}
 use mathlib.Core.List.{List, [], _∷_}
@@ -10,7 +10,7 @@ use lib.Dec.{eqb, leb, ltb}
 use lib.ListN.{length, getD, length-append}
 use borrow.Author.Tests.{eqb-true, eqb-false, leb-true, ltb-true}
 use Rattle.laws.proofs.Tests.{and-left, and-right, cond-has}
-use Rattle.limits.specs.Limits.{mostFacts, mostMoveEffects}
+use Rattle.limits.specs.Limits.{mostFacts, mostFormulas, mostMoves, mostMoveEffects, mostEffects, mostProgram}
 use Rattle.job.specs.Job.{countsOf, formulaOf, moveOf, effectOf, rowOf}
 use Rattle.job.specs.Fault.{rangeOf, isIn, criteria, reasonOf, fault}
 use Rattle.job.specs.ReadJob.{Reading, past, again, afterRow, jobAfter, takenAt, taken}
@@ -22,7 +22,7 @@ use Rattle.job.specs.declared.line.Sort.the-variants.{Formula, Move, Effect, Ro
 use Rattle.job.specs.declared.line.Line.{Line}
 use Rattle.job.specs.declared.line.Line.the-variants.{One, Of, End}
 use Rattle.job.proofs.FaultLaws.{range-reason}
-use Rattle.reader.specs.Room.{ahead, Fit, Due, Room}
+use Rattle.reader.specs.Room.{Ahead, ahead, Fit, Due, Room}
 
 -- a line that no reason refuses
 abbrev pub Right : Line → Counts → List ℕ → Type 0
@@ -61,15 +61,19 @@ rows-has P k due effects f g h = cond-has P (eqb effects 0) (cond (eqb due 0) (p
     (λ z. cond-has P (eqb due 0) (past k) (Of (again k)) (λ y. f (eqb-true effects 0 z) (eqb-true due 0 y)) (λ y. g (eqb-true effects 0 z) (eqb-false due 0 y)))
     (λ z. h (eqb-false effects 0 z))
 
+room-for : {a : Ahead} {c : Counts} → c .formulas + a .formulas ≤ mostFormulas → c .moves + a .moves ≤ mostMoves → c .effects + a .effects ≤ mostEffects
+    → c .program + a .program ≤ mostProgram → Fit a c
+room-for f m e p = record { formulas = f; moves = m; effects = e; program = p }
+
 module _ (due effects : ℕ) (c : Counts) where
   moves-past : Fit (ahead (Of Move) due effects) c → Fit (ahead (One Goal) due effects) c
-  moves-past f = record { formulas = f .formulas; moves = omega (arith, f .moves); effects = omega (arith, f .effects); program = f .program }
+  moves-past f = room-for (f .formulas) (omega (arith, f .moves)) (omega (arith, f .effects)) (f .program)
 
   past-fit : (k : Sort) → Fit (ahead (Of (again k)) due effects) c → Fit (ahead (past k) due effects) c
-  past-fit Formula f = record { formulas = omega (arith, f .formulas); moves = f .moves; effects = f .effects; program = f .program }
+  past-fit Formula f = room-for (omega (arith, f .formulas)) (f .moves) (f .effects) (f .program)
   past-fit Move f = moves-past f
   past-fit Effect f = moves-past f
-  past-fit Row f = record { formulas = f .formulas; moves = f .moves; effects = f .effects; program = omega (arith, f .program) }
+  past-fit Row f = room-for (f .formulas) (f .moves) (f .effects) (omega (arith, f .program))
 
   past-due : (k : Sort) → effects ≡ 0 → Due (past k) due effects
   past-due Formula e = e
@@ -101,65 +105,43 @@ module _ (s : Reading) (r : List ℕ) where
   one-room Job x h = record { facts = h .facts; fit = h .fit; owed = h .owed }
   one-room Facts x h = record {
     facts = omega (arith, x .1);
-    fit = record { formulas = h .fit .formulas; moves = h .fit .moves; effects = h .fit .effects; program = h .fit .program };
+    fit = room-for (h .fit .formulas) (h .fit .moves) (h .fit .effects) (h .fit .program);
     owed = h .owed;
   }
   one-room Init x h = record { facts = h .facts; fit = h .fit; owed = h .owed }
   one-room Formulas x h =
-      let f : Fit (ahead (Of Formula) n 0) c = record {
-        formulas = omega (arith, h .fit .formulas, x .1);
-        moves = h .fit .moves;
-        effects = h .fit .effects;
-        program = h .fit .program;
-      } in
+      let f : Fit (ahead (Of Formula) n 0) c = room-for (omega (arith, h .fit .formulas, x .1)) (h .fit .moves) (h .fit .effects) (h .fit .program) in
       rw (h .owed) (rows-room n 0 c Formula (h .facts) f (λ z. absurd (z refl)))
   one-room Moves x h =
-      let f : Fit (ahead (Of Move) n 0) c = record {
-        formulas = h .fit .formulas;
-        moves = omega (arith, h .fit .moves, x .1);
-        effects = omega (arith, h .fit .effects, x .1);
-        program = h .fit .program;
-      } in
+      let f : Fit (ahead (Of Move) n 0) c = room-for (h .fit .formulas) (omega (arith, h .fit .moves, x .1)) (omega (arith, h .fit .effects, x .1))
+      (h .fit .program) in
       rw (h .owed) (rows-room n 0 c Move (h .facts) f (λ z. absurd (z refl)))
   one-room Goal x h = record { facts = h .facts; fit = h .fit; owed = h .owed }
   one-room Program x h =
-      let f : Fit (ahead (Of Row) n 0) c = record {
-        formulas = h .fit .formulas;
-        moves = h .fit .moves;
-        effects = h .fit .effects;
-        program = omega (arith, h .fit .program, x .1);
-      } in
+      let f : Fit (ahead (Of Row) n 0) c = room-for (h .fit .formulas) (h .fit .moves) (h .fit .effects) (omega (arith, h .fit .program, x .1)) in
       rw (h .owed) (rows-room n 0 c Row (h .facts) f (λ z. absurd (z refl)))
 
   row-room : (k : Sort) → Right (Of k) c r → Room (Of k) (s .due) (s .effects) c → RoomOf (takenAt (Of k) s r)
   row-room Formula x h =
       let l = length-append (s .job .formulas) (formulaOf r ∷ []) in
       rows-room (s .due - 1) (s .effects) (countsOf (jobAfter Formula (s .job) r)) Formula (h .facts)
-      (record { formulas = omega (arith, h .fit .formulas, h .owed .0, l); moves = h .fit .moves; effects = h .fit .effects; program = h .fit .program })
+      (room-for (omega (arith, h .fit .formulas, h .owed .0, l)) (h .fit .moves) (h .fit .effects) (h .fit .program))
       (λ z. absurd (z (h .owed .1)))
   row-room Move x h =
       let l = length-append (s .job .moves) (moveOf (length (s .job .effects)) r ∷ []) in
       let n = leb-true (getD r 2 0) mostMoveEffects (x .0) in
-      let f : Fit (ahead (Of Move) (s .due - 1) (getD r 2 0)) (countsOf (jobAfter Move (s .job) r)) = record {
-        formulas = h .fit .formulas;
-        moves = omega (arith, h .fit .moves, h .owed .0, l);
-        effects = omega (arith, h .fit .effects, h .owed .0, n);
-        program = h .fit .program;
-      } in
+      let f : Fit (ahead (Of Move) (s .due - 1) (getD r 2 0)) (countsOf (jobAfter Move (s .job) r)) = room-for (h .fit .formulas)
+      (omega (arith, h .fit .moves, h .owed .0, l)) (omega (arith, h .fit .effects, h .owed .0, n)) (h .fit .program) in
       rows-room (s .due - 1) (getD r 2 0) (countsOf (jobAfter Move (s .job) r)) Move (h .facts) f (λ z. f)
   row-room Effect x h =
       let l = length-append (s .job .effects) (effectOf r ∷ []) in
-      let f : Fit (ahead (Of Effect) (s .due) (s .effects - 1)) (countsOf (jobAfter Effect (s .job) r)) = record {
-        formulas = h .fit .formulas;
-        moves = h .fit .moves;
-        effects = omega (arith, h .fit .effects, h .owed, l);
-        program = h .fit .program;
-      } in
+      let f : Fit (ahead (Of Effect) (s .due) (s .effects - 1)) (countsOf (jobAfter Effect (s .job) r)) = room-for (h .fit .formulas) (h .fit .moves)
+      (omega (arith, h .fit .effects, h .owed, l)) (h .fit .program) in
       rows-room (s .due) (s .effects - 1) (countsOf (jobAfter Effect (s .job) r)) Effect (h .facts) f (λ z. f)
   row-room Row x h =
       let l = length-append (s .job .program) (rowOf r ∷ []) in
       rows-room (s .due - 1) (s .effects) (countsOf (jobAfter Row (s .job) r)) Row (h .facts)
-      (record { formulas = h .fit .formulas; moves = h .fit .moves; effects = h .fit .effects; program = omega (arith, h .fit .program, h .owed .0, l) })
+      (room-for (h .fit .formulas) (h .fit .moves) (h .fit .effects) (omega (arith, h .fit .program, h .owed .0, l)))
       (λ z. absurd (z (h .owed .1)))
 
   room-at : (k : Line) → Right k c r → Room k (s .due) (s .effects) c → RoomOf (takenAt k s r)
