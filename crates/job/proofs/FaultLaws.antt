@@ -14,7 +14,7 @@ use Rattle.job.specs.declared.head.Counts.{Counts}
 use Rattle.job.specs.declared.line.Line.{Line}
 use Rattle.job.specs.declared.line.Heading.{Heading}
 use Rattle.job.specs.declared.line.Heading.the-variants.{Job, Facts, Init, Formulas, Moves, Goal, Program}
-use Rattle.job.specs.declared.line.Sort.{Sort}
+use Rattle.job.specs.declared.line.RowSort.{RowSort}
 use Rattle.job.specs.declared.line.LineNumbers.{LineNumbers}
 use Rattle.job.proofs.FrontLaws.{line-front}
 
@@ -29,7 +29,7 @@ range-reason Goal c = omega arith
 range-reason Program c = omega arith
 
 -- the reason by a row's sort
-pub by-sort : (c : Counts) (n : List ℕ) {sort : Sort} {reason : ℕ} (k : Sort) → sort ≡ k → reason ≡ firstReason (criteria k c n)
+pub by-sort : (c : Counts) (n : List ℕ) {sort : RowSort} {reason : ℕ} (k : RowSort) → sort ≡ k → reason ≡ firstReason (criteria k c n)
     → reason ≡ firstReason (criteria sort c n)
 by-sort c n k e h = rw e h
 

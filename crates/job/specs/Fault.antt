@@ -12,8 +12,8 @@ use Rattle.job.specs.declared.head.Counts.{Counts}
 use Rattle.job.specs.declared.fault.Range.{Range}
 use Rattle.job.specs.declared.line.Heading.{Heading}
 use Rattle.job.specs.declared.line.Heading.the-variants.{Job, Facts, Init, Formulas, Moves, Goal, Program}
-use Rattle.job.specs.declared.line.Sort.{Sort}
-use Rattle.job.specs.declared.line.Sort.the-variants.{Formula, Move, Effect, Row}
+use Rattle.job.specs.declared.line.RowSort.{RowSort}
+use Rattle.job.specs.declared.line.RowSort.the-variants.{Formula, Move, Effect, Row}
 use Rattle.job.specs.declared.line.Line.{Line}
 use Rattle.job.specs.declared.line.Line.the-variants.{One, Of, End}
 
@@ -44,7 +44,7 @@ pub record Criteria : Type 0 where
 abbrev criterion : Bool → Bool → Criteria
 criterion range fields = record { range = range; fields = fields }
 
-abbrev pub criteria : Sort → Counts → List ℕ → Criteria
+abbrev pub criteria : RowSort → Counts → List ℕ → Criteria
 criteria Formula c r = criterion true (within c (getD formulaFields (getD r 0 0) []) (getD r 1 0 ∷ getD r 2 0 ∷ []))
 criteria Move c r = criterion (leb (getD r 2 0) mostMoveEffects) (ltb (getD r 0 0) (c .formulas) && leb (getD r 1 0) lastClass)
 criteria Effect c r = criterion true (ltb (getD r 0 0) (c .formulas) && (ltb (getD r 1 0) (c .facts) && leb (getD r 2 0) 1))

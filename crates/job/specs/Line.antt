@@ -10,7 +10,7 @@ use Rattle.job.specs.declared.line.Line.{Line}
 use Rattle.job.specs.declared.line.Line.the-variants.{One, Of, End}
 use Rattle.job.specs.declared.line.Heading.{Heading}
 use Rattle.job.specs.declared.line.Heading.the-variants.{Job, Facts, Init, Formulas, Moves, Goal, Program}
-use Rattle.job.specs.declared.line.Sort.the-variants.{Formula, Move, Effect, Row}
+use Rattle.job.specs.declared.line.RowSort.the-variants.{Formula, Move, Effect, Row}
 
 -- the key of a line, and how many numbers its value has
 pub record Form : Type 0 where

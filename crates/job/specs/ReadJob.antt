@@ -12,8 +12,8 @@ use Rattle.job.specs.Line.{lineNumbers}
 use Rattle.job.specs.Fault.{fault}
 use Rattle.job.specs.declared.line.Heading.{Heading}
 use Rattle.job.specs.declared.line.Heading.the-variants.{Job, Facts, Init, Formulas, Moves, Goal, Program}
-use Rattle.job.specs.declared.line.Sort.{Sort}
-use Rattle.job.specs.declared.line.Sort.the-variants.{Formula, Move, Effect, Row}
+use Rattle.job.specs.declared.line.RowSort.{RowSort}
+use Rattle.job.specs.declared.line.RowSort.the-variants.{Formula, Move, Effect, Row}
 use Rattle.job.specs.declared.line.Line.{Line}
 use Rattle.job.specs.declared.line.Line.the-variants.{One, Of, End}
 
@@ -30,20 +30,20 @@ on next due effects job = record { next = next; due = due; effects = effects; jo
 
 -- what comes once no more rows are due, and a row of which sort while they are: moves follow a
 -- move's effects
-abbrev pub past : Sort → Line
+abbrev pub past : RowSort → Line
 past Formula = One Moves
 past Move = One Goal
 past Effect = One Goal
 past Row = End
 
-abbrev pub again : Sort → Sort
+abbrev pub again : RowSort → RowSort
 again Formula = Formula
 again Move = Move
 again Effect = Move
 again Row = Row
 
 -- "formulas=N, then N lines"; "Each is a line m=.. followed by its E lines"; "program=P, then P lines"
-abbrev pub afterRow : Sort → ℕ → ℕ → Line
+abbrev pub afterRow : RowSort → ℕ → ℕ → Line
 afterRow k due effects = cond (eqb effects 0) (cond (eqb due 0) (past k) (Of (again k))) (Of Effect)
 
 -- what comes after a line of one number n
@@ -67,19 +67,19 @@ scalarsAfter Goal n s = record { facts = s .facts; init = s .init; goal = n }
 scalarsAfter Program n s = s
 
 -- after a row: how many rows of its sort, and how many effects of the last move, are due, and the job
-abbrev pub dueAfter : Sort → ℕ → ℕ
+abbrev pub dueAfter : RowSort → ℕ → ℕ
 dueAfter Formula due = due - 1
 dueAfter Move due = due - 1
 dueAfter Effect due = due
 dueAfter Row due = due - 1
 
-abbrev pub effectsAfter : Sort → ℕ → List ℕ → ℕ
+abbrev pub effectsAfter : RowSort → ℕ → List ℕ → ℕ
 effectsAfter Formula effects r = effects
 effectsAfter Move effects r = getD r 2 0
 effectsAfter Effect effects r = effects - 1
 effectsAfter Row effects r = effects
 
-abbrev pub jobAfter : Sort → J.Job → List ℕ → J.Job
+abbrev pub jobAfter : RowSort → J.Job → List ℕ → J.Job
 jobAfter Formula j r = addFormula j (formulaOf r)
 jobAfter Move j r = addMove j (moveOf (length (j .effects)) r)
 jobAfter Effect j r = addEffect j (effectOf r)
@@ -89,7 +89,7 @@ jobAfter Row j r = addRow j (rowOf r)
 abbrev pub takenOne : Heading → Reading → ℕ → Reading
 takenOne h s n = on (afterOne h n) n (s .effects) (withScalars (s .job) (scalarsAfter h n (s .job .scalars)))
 
-abbrev pub takenRow : Sort → Reading → List ℕ → Reading
+abbrev pub takenRow : RowSort → Reading → List ℕ → Reading
 takenRow k s r =
     on (afterRow k (dueAfter k (s .due)) (effectsAfter k (s .effects) r)) (dueAfter k (s .due)) (effectsAfter k (s .effects) r) (jobAfter k (s .job) r)
 

@@ -11,7 +11,7 @@ use crate::head::Counts;
 use crate::line::Heading;
 use crate::line::Line;
 use crate::line::LineNumbers;
-use crate::line::Sort;
+use crate::line::RowSort;
 use crate::rows::WIDTH;
 use limits::FACTS;
 use limits::FORMULAS;
@@ -95,14 +95,14 @@ fn effect_right(numbers: [u16; WIDTH], facts: u16, formulas: u16) -> bool
 }
 
 // The reason that refuses a row, or 0.
-fn row_reason(sort: Sort, numbers: [u16; WIDTH], counts: Counts) -> u8
+fn row_reason(sort: RowSort, numbers: [u16; WIDTH], counts: Counts) -> u8
     ensures { λ r. ⌜ r ≡ firstReason (criteria sort counts numbers) ⌝ }
 {
     match sort {
-        Sort::Formula => unless(crate::fields::formula_right(numbers, counts), 3),
-        Sort::Move => move_reason(numbers, counts.formulas),
-        Sort::Effect => unless(effect_right(numbers, counts.facts, counts.formulas), 3),
-        Sort::Row => unless(crate::fields::row_right(numbers, counts), 3),
+        RowSort::Formula => unless(crate::fields::formula_right(numbers, counts), 3),
+        RowSort::Move => move_reason(numbers, counts.formulas),
+        RowSort::Effect => unless(effect_right(numbers, counts.facts, counts.formulas), 3),
+        RowSort::Row => unless(crate::fields::row_right(numbers, counts), 3),
     }
 }
 

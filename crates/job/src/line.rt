@@ -13,7 +13,7 @@ pub enum Heading {
 }
 
 // The sorts of rows.
-pub enum Sort {
+pub enum RowSort {
     Formula,
     Move,
     Effect,
@@ -23,7 +23,7 @@ pub enum Sort {
 // A line of one number, or of a row; the end is where no line may come.
 pub enum Line {
     One(Heading),
-    Of(Sort),
+    Of(RowSort),
     End,
 }
 

@@ -58,8 +58,11 @@ abbrev pub stepKey : List ℕ
 stepKey = bytes "t"
 
 -- a plan as text
+abbrev pub entryLines : List ℕ → List ℕ → List (List ℕ)
+entryLines key es = map (λ e. lineText key (e ∷ [])) es
+
 abbrev pub planText : List ℕ → List ℕ → List ℕ
-planText key es = lineText (bytes "plan") (length es ∷ []) ++ flatten (map (λ e. lineText key (e ∷ [])) es)
+planText key es = lineText (bytes "plan") (length es ∷ []) ++ flatten (entryLines key es)
 
 -- what the reader's answer says, beside a list whose front then holds the entries
 abbrev pub planOf : PlanAnswer → List ℕ → PlanOutcome

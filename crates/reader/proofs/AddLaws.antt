@@ -15,8 +15,8 @@ use Rattle.job.specs.Stored.{Limited}
 use Rattle.job.specs.declared.head.Counts.{Counts}
 use Rattle.job.specs.declared.head.Head.{Head}
 use Rattle.job.specs.declared.line.Heading.{Heading}
-use Rattle.job.specs.declared.line.Sort.{Sort}
-use Rattle.job.specs.declared.line.Sort.the-variants.{Formula, Move, Effect, Row}
+use Rattle.job.specs.declared.line.RowSort.{RowSort}
+use Rattle.job.specs.declared.line.RowSort.the-variants.{Formula, Move, Effect, Row}
 use Rattle.job.specs.declared.line.Line.{Line}
 use Rattle.job.specs.declared.line.Line.the-variants.{Of}
 use Rattle.job.specs.declared.line.LineNumbers.{LineNumbers}
@@ -30,7 +30,7 @@ use Rattle.reader.specs.declared.taking.ReaderState.{ReaderState}
 pub head-is : (n : ℕ) (h : Head) {heading k : Heading} → heading ≡ k → headAfter k n h ≡ headAfter heading n h
 head-is n h e = rw e
 
-pub counts-are : (c : Counts) {sort k : Sort} → sort ≡ k → oneMore k c ≡ oneMore sort c
+pub counts-are : (c : Counts) {sort k : RowSort} → sort ≡ k → oneMore k c ≡ oneMore sort c
 counts-are c e = rw e
 
 -- there are no more rows of a sort than it has room for, and where a row's line comes next there is
@@ -45,7 +45,7 @@ module _ {due effects : ℕ} {c : Counts} where
     program = omega (arith, h .fit .program);
   }
 
-  pub place-within : (k : Sort) → Room (Of k) due effects c → placeOf k c < allRows
+  pub place-within : (k : RowSort) → Room (Of k) due effects c → placeOf k c < allRows
   place-within Formula h = omega (arith, h .fit .formulas)
   place-within Move h = omega (arith, h .fit .moves, h .owed)
   place-within Effect h = omega (arith, h .fit .effects, h .owed)
@@ -65,13 +65,13 @@ module _ (h : Head) (l n : List ℕ) (len : length l ≡ storeSize) (eight : len
   abbrev v : List ℕ
   v = set n firstEffect (c .effects)
 
-  abbrev with-row : Sort → J.Job
+  abbrev with-row : RowSort → J.Job
   with-row k = jobOf (record { counts = oneMore k c; init = h .init; goal = h .goal }) (sets l (placeOf k c * width) v)
 
   wide : length v ≡ width
   wide = simp length-set eight
 
-  pub row-added : (k : Sort) → Room (Of k) due effects c → with-row k ≡ jobAfter k (jobOf h l) n
+  pub row-added : (k : RowSort) → Room (Of k) due effects c → with-row k ≡ jobAfter k (jobOf h l) n
   row-added Formula room =
       let i : ℕ = placeOf Formula c in
       let w = rows-within room in

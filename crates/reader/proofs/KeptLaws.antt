@@ -20,8 +20,8 @@ use Rattle.job.specs.WellFormed.{FormulaRows, MoveRows, MoveFits, Tiled, Effect
 use Rattle.job.specs.declared.head.Counts.{Counts}
 use Rattle.job.specs.declared.line.Heading.{Heading}
 use Rattle.job.specs.declared.line.Heading.the-variants.{Job, Facts, Init, Formulas, Moves, Goal, Program}
-use Rattle.job.specs.declared.line.Sort.{Sort}
-use Rattle.job.specs.declared.line.Sort.the-variants.{Formula, Move, Effect, Row}
+use Rattle.job.specs.declared.line.RowSort.{RowSort}
+use Rattle.job.specs.declared.line.RowSort.the-variants.{Formula, Move, Effect, Row}
 use Rattle.job.specs.declared.line.Line.{Line}
 use Rattle.job.specs.declared.line.Line.the-variants.{One, Of, End}
 use Rattle.job.proofs.RowLaws.{within-true}
@@ -98,7 +98,7 @@ module _ (s : Reading) (r : List ℕ) where
   one-fits Goal h f = same-facts _ refl f
   one-fits Program h f = same-facts _ refl f
 
-  row-fits : (k : Sort) → Right (Of k) c r → Room (Of k) (s .due) (s .effects) c → Fits (s .effects) j
+  row-fits : (k : RowSort) → Right (Of k) c r → Room (Of k) (s .due) (s .effects) c → Fits (s .effects) j
       → Fits (takenAt (Of k) s r .effects) (takenAt (Of k) s r .job)
   row-fits Formula x h f =
       let a : 0 ≡ length (j .moves) = omega (arith, h .fit .moves) in
@@ -163,7 +163,7 @@ module _ (s : Reading) (r : List ℕ) where
   fits-at End x h f = f
 
   -- what was settled stays so while rows come
-  settled-rows : (k : Sort) (due effects : ℕ) (q : J.Job) → (due ≡ 0 → Settled (past k) q) → Settled (Of (again k)) q → InitRight q
+  settled-rows : (k : RowSort) (due effects : ℕ) (q : J.Job) → (due ≡ 0 → Settled (past k) q) → Settled (Of (again k)) q → InitRight q
       → Settled (afterRow k due effects) q
   settled-rows k due effects q f g h = rows-has (λ l. Settled l q) k due effects (λ y z. f z) (λ y z. g) (λ z. h)
 

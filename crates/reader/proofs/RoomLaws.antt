@@ -17,12 +17,12 @@ use Rattle.job.specs.ReadJob.{Reading, past, again, afterRow, jobAfter, takenAt
 use Rattle.job.specs.declared.head.Counts.{Counts}
 use Rattle.job.specs.declared.line.Heading.{Heading}
 use Rattle.job.specs.declared.line.Heading.the-variants.{Job, Facts, Init, Formulas, Moves, Goal, Program}
-use Rattle.job.specs.declared.line.Sort.{Sort}
-use Rattle.job.specs.declared.line.Sort.the-variants.{Formula, Move, Effect, Row}
+use Rattle.job.specs.declared.line.RowSort.{RowSort}
+use Rattle.job.specs.declared.line.RowSort.the-variants.{Formula, Move, Effect, Row}
 use Rattle.job.specs.declared.line.Line.{Line}
 use Rattle.job.specs.declared.line.Line.the-variants.{One, Of, End}
 use Rattle.job.proofs.FaultLaws.{range-reason}
-use Rattle.reader.specs.Room.{Ahead, ahead, Fit, Due, Room}
+use Rattle.reader.specs.Room.{Ahead, ahead, RoomFor, Due, Room}
 
 -- a line that no reason refuses
 abbrev pub Right : Line → Counts → List ℕ → Type 0
@@ -55,39 +55,40 @@ abbrev pub RoomOf : Reading → Type 0
 RoomOf s = Room (s .next) (s .due) (s .effects) (countsOf (s .job))
 
 -- what comes after a row, or after the line that counts rows
-pub rows-has : (P : Line → Type 0) (k : Sort) (due effects : ℕ) → (effects ≡ 0 → due ≡ 0 → P (past k)) → (effects ≡ 0 → (due ≡ 0 → ⊥) → P (Of (again k)))
+pub rows-has : (P : Line → Type 0) (k : RowSort) (due effects : ℕ) → (effects ≡ 0 → due ≡ 0 → P (past k)) → (effects ≡ 0 → (due ≡ 0 → ⊥) → P (Of (again k)))
     → ((effects ≡ 0 → ⊥) → P (Of Effect)) → P (afterRow k due effects)
 rows-has P k due effects f g h = cond-has P (eqb effects 0) (cond (eqb due 0) (past k) (Of (again k))) (Of Effect)
     (λ z. cond-has P (eqb due 0) (past k) (Of (again k)) (λ y. f (eqb-true effects 0 z) (eqb-true due 0 y)) (λ y. g (eqb-true effects 0 z) (eqb-false due 0 y)))
     (λ z. h (eqb-false effects 0 z))
 
 room-for : {a : Ahead} {c : Counts} → c .formulas + a .formulas ≤ mostFormulas → c .moves + a .moves ≤ mostMoves → c .effects + a .effects ≤ mostEffects
-    → c .program + a .program ≤ mostProgram → Fit a c
+    → c .program + a .program ≤ mostProgram → RoomFor a c
 room-for f m e p = record { formulas = f; moves = m; effects = e; program = p }
 
 module _ (due effects : ℕ) (c : Counts) where
-  moves-past : Fit (ahead (Of Move) due effects) c → Fit (ahead (One Goal) due effects) c
+  moves-past : RoomFor (ahead (Of Move) due effects) c → RoomFor (ahead (One Goal) due effects) c
   moves-past f = room-for (f .formulas) (omega (arith, f .moves)) (omega (arith, f .effects)) (f .program)
 
-  past-fit : (k : Sort) → Fit (ahead (Of (again k)) due effects) c → Fit (ahead (past k) due effects) c
+  past-fit : (k : RowSort) → RoomFor (ahead (Of (again k)) due effects) c → RoomFor (ahead (past k) due effects) c
   past-fit Formula f = room-for (omega (arith, f .formulas)) (f .moves) (f .effects) (f .program)
   past-fit Move f = moves-past f
   past-fit Effect f = moves-past f
   past-fit Row f = room-for (f .formulas) (f .moves) (f .effects) (omega (arith, f .program))
 
-  past-due : (k : Sort) → effects ≡ 0 → Due (past k) due effects
+  past-due : (k : RowSort) → effects ≡ 0 → Due (past k) due effects
   past-due Formula e = e
   past-due Move e = e
   past-due Effect e = e
   past-due Row e = e
 
-  again-due : (k : Sort) → (0 < due) × (effects ≡ 0) → Due (Of (again k)) due effects
+  again-due : (k : RowSort) → (0 < due) × (effects ≡ 0) → Due (Of (again k)) due effects
   again-due Formula h = h
   again-due Move h = h
   again-due Effect h = h
   again-due Row h = h
 
-  rows-room : (k : Sort) → c .facts ≤ mostFacts → Fit (ahead (Of (again k)) due effects) c → ((effects ≡ 0 → ⊥) → Fit (ahead (Of Effect) due effects) c)
+  rows-room : (k : RowSort) → c .facts ≤ mostFacts → RoomFor (ahead (Of (again k)) due effects) c
+      → ((effects ≡ 0 → ⊥) → RoomFor (ahead (Of Effect) due effects) c)
       → Room (afterRow k due effects) due effects c
   rows-room k h f g = rows-has (λ l. Room l due effects c) k due effects
       (λ y z. record { facts = h; fit = past-fit k f; owed = past-due k y })
@@ -110,18 +111,18 @@ module _ (s : Reading) (r : List ℕ) where
   }
   one-room Init x h = record { facts = h .facts; fit = h .fit; owed = h .owed }
   one-room Formulas x h =
-      let f : Fit (ahead (Of Formula) n 0) c = room-for (omega (arith, h .fit .formulas, x .1)) (h .fit .moves) (h .fit .effects) (h .fit .program) in
+      let f : RoomFor (ahead (Of Formula) n 0) c = room-for (omega (arith, h .fit .formulas, x .1)) (h .fit .moves) (h .fit .effects) (h .fit .program) in
       rw (h .owed) (rows-room n 0 c Formula (h .facts) f (λ z. absurd (z refl)))
   one-room Moves x h =
-      let f : Fit (ahead (Of Move) n 0) c = room-for (h .fit .formulas) (omega (arith, h .fit .moves, x .1)) (omega (arith, h .fit .effects, x .1))
+      let f : RoomFor (ahead (Of Move) n 0) c = room-for (h .fit .formulas) (omega (arith, h .fit .moves, x .1)) (omega (arith, h .fit .effects, x .1))
       (h .fit .program) in
       rw (h .owed) (rows-room n 0 c Move (h .facts) f (λ z. absurd (z refl)))
   one-room Goal x h = record { facts = h .facts; fit = h .fit; owed = h .owed }
   one-room Program x h =
-      let f : Fit (ahead (Of Row) n 0) c = room-for (h .fit .formulas) (h .fit .moves) (h .fit .effects) (omega (arith, h .fit .program, x .1)) in
+      let f : RoomFor (ahead (Of Row) n 0) c = room-for (h .fit .formulas) (h .fit .moves) (h .fit .effects) (omega (arith, h .fit .program, x .1)) in
       rw (h .owed) (rows-room n 0 c Row (h .facts) f (λ z. absurd (z refl)))
 
-  row-room : (k : Sort) → Right (Of k) c r → Room (Of k) (s .due) (s .effects) c → RoomOf (takenAt (Of k) s r)
+  row-room : (k : RowSort) → Right (Of k) c r → Room (Of k) (s .due) (s .effects) c → RoomOf (takenAt (Of k) s r)
   row-room Formula x h =
       let l = length-append (s .job .formulas) (formulaOf r ∷ []) in
       rows-room (s .due - 1) (s .effects) (countsOf (jobAfter Formula (s .job) r)) Formula (h .facts)
@@ -130,12 +131,12 @@ module _ (s : Reading) (r : List ℕ) where
   row-room Move x h =
       let l = length-append (s .job .moves) (moveOf (length (s .job .effects)) r ∷ []) in
       let n = leb-true (getD r 2 0) mostMoveEffects (x .0) in
-      let f : Fit (ahead (Of Move) (s .due - 1) (getD r 2 0)) (countsOf (jobAfter Move (s .job) r)) = room-for (h .fit .formulas)
+      let f : RoomFor (ahead (Of Move) (s .due - 1) (getD r 2 0)) (countsOf (jobAfter Move (s .job) r)) = room-for (h .fit .formulas)
       (omega (arith, h .fit .moves, h .owed .0, l)) (omega (arith, h .fit .effects, h .owed .0, n)) (h .fit .program) in
       rows-room (s .due - 1) (getD r 2 0) (countsOf (jobAfter Move (s .job) r)) Move (h .facts) f (λ z. f)
   row-room Effect x h =
       let l = length-append (s .job .effects) (effectOf r ∷ []) in
-      let f : Fit (ahead (Of Effect) (s .due) (s .effects - 1)) (countsOf (jobAfter Effect (s .job) r)) = room-for (h .fit .formulas) (h .fit .moves)
+      let f : RoomFor (ahead (Of Effect) (s .due) (s .effects - 1)) (countsOf (jobAfter Effect (s .job) r)) = room-for (h .fit .formulas) (h .fit .moves)
       (omega (arith, h .fit .effects, h .owed, l)) (h .fit .program) in
       rows-room (s .due) (s .effects - 1) (countsOf (jobAfter Effect (s .job) r)) Effect (h .facts) f (λ z. f)
   row-room Row x h =

@@ -8,8 +8,8 @@ use Rattle.job.specs.declared.head.Counts.{Counts}
 use Rattle.job.specs.declared.head.Head.{Head}
 use Rattle.job.specs.declared.head.Refusal.{Refusal}
 use Rattle.job.specs.declared.line.Heading.{Heading}
-use Rattle.job.specs.declared.line.Sort.{Sort}
-use Rattle.job.specs.declared.line.Sort.the-variants.{Formula, Move, Effect, Row}
+use Rattle.job.specs.declared.line.RowSort.{RowSort}
+use Rattle.job.specs.declared.line.RowSort.the-variants.{Formula, Move, Effect, Row}
 use Rattle.reader.specs.declared.taking.ReaderState.{ReaderState}
 use Rattle.reader.specs.declared.reading.Answer.{Answer}
 use Rattle.reader.specs.declared.reading.Answer.the-variants.{Read, Refused}
@@ -26,13 +26,13 @@ abbrev pub headAfter : Heading → ℕ → Head → Head
 headAfter k n h = withScalars h (scalarsAfter k n (record { facts = h .counts .facts; init = h .init; goal = h .goal }))
 
 -- where a row is stored, behind the earlier rows of its sort, and the counts with it
-abbrev pub placeOf : Sort → Counts → ℕ
+abbrev pub placeOf : RowSort → Counts → ℕ
 placeOf Formula c = c .formulas
 placeOf Move c = movesFrom + c .moves
 placeOf Effect c = effectsFrom + c .effects
 placeOf Row c = programFrom + c .program
 
-abbrev pub oneMore : Sort → Counts → Counts
+abbrev pub oneMore : RowSort → Counts → Counts
 oneMore Formula c = counts (c .facts) (c .formulas + 1) (c .moves) (c .effects) (c .program)
 oneMore Move c = counts (c .facts) (c .formulas) (c .moves + 1) (c .effects) (c .program)
 oneMore Effect c = counts (c .facts) (c .formulas) (c .moves) (c .effects + 1) (c .program)

@@ -7,7 +7,7 @@ use Rattle.job.specs.declared.line.Line.{Line}
 use Rattle.job.specs.declared.line.Line.the-variants.{One, Of, End}
 use Rattle.job.specs.declared.line.Heading.{Heading}
 use Rattle.job.specs.declared.line.Heading.the-variants.{Job, Facts, Init, Formulas, Moves, Goal, Program}
-use Rattle.job.specs.declared.line.Sort.the-variants.{Formula, Move, Effect, Row}
+use Rattle.job.specs.declared.line.RowSort.the-variants.{Formula, Move, Effect, Row}
 
 -- how many rows of each sort may still come
 pub record Ahead : Type 0 where
@@ -38,7 +38,7 @@ ahead (Of Effect) due effects = may 0 due (effects + mostMoveEffects * due) most
 ahead (Of Row) due effects = may 0 0 0 due
 ahead End due effects = may 0 0 0 0
 
-pub record Fit (a : Ahead) (c : Counts) : Type 0 where
+pub record RoomFor (a : Ahead) (c : Counts) : Type 0 where
   pub formulas : c .formulas + a .formulas ≤ mostFormulas
   pub moves : c .moves + a .moves ≤ mostMoves
   pub effects : c .effects + a .effects ≤ mostEffects
@@ -55,5 +55,5 @@ Due End due effects = effects ≡ 0
 
 pub record Room (next : Line) (due effects : ℕ) (c : Counts) : Type 0 where
   pub facts : c .facts ≤ mostFacts
-  pub fit : Fit (ahead next due effects) c
+  pub fit : RoomFor (ahead next due effects) c
   pub owed : Due next due effects

@@ -6,7 +6,7 @@ ghost use Rattle.reader.specs.Form.{HasForm};
 use job::line::Heading;
 use job::line::Line;
 use job::line::LineNumbers;
-use job::line::Sort;
+use job::line::RowSort;
 use job::rows::WIDTH;
 
 // How many numbers a line has, and its key, which is the front of eight bytes.
@@ -42,14 +42,14 @@ fn heading_form(heading: Heading) -> Form
     }
 }
 
-fn row_form(sort: Sort) -> Form
+fn row_form(sort: RowSort) -> Form
     ensures { λ r. ⌜ HasForm r (formOf (Line.Of sort)) ⌝ }
 {
     match sort {
-        Sort::Formula => Form::new(3, 1, *b"f       "),
-        Sort::Move => Form::new(3, 1, *b"m       "),
-        Sort::Effect => Form::new(3, 1, *b"e       "),
-        Sort::Row => Form::new(4, 1, *b"p       "),
+        RowSort::Formula => Form::new(3, 1, *b"f       "),
+        RowSort::Move => Form::new(3, 1, *b"m       "),
+        RowSort::Effect => Form::new(3, 1, *b"e       "),
+        RowSort::Row => Form::new(4, 1, *b"p       "),
     }
 }
 

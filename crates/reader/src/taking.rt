@@ -14,7 +14,7 @@ use job::head::Head;
 use job::line::Heading;
 use job::line::Line;
 use job::line::LineNumbers;
-use job::line::Sort;
+use job::line::RowSort;
 use job::rows::EFFECTS_FROM;
 use job::rows::MOVES_FROM;
 use job::rows::PROGRAM_FROM;
@@ -29,29 +29,29 @@ pub struct ReaderState {
     pub head: Head,
 }
 
-fn past(sort: Sort) -> Line
+fn past(sort: RowSort) -> Line
     ensures { λ r. ⌜ r ≡ pastOf sort ⌝ }
 {
     match sort {
-        Sort::Formula => Line::One(Heading::Moves),
-        Sort::Move => Line::One(Heading::Goal),
-        Sort::Effect => Line::One(Heading::Goal),
-        Sort::Row => Line::End,
+        RowSort::Formula => Line::One(Heading::Moves),
+        RowSort::Move => Line::One(Heading::Goal),
+        RowSort::Effect => Line::One(Heading::Goal),
+        RowSort::Row => Line::End,
     }
 }
 
-fn again(sort: Sort) -> Sort
+fn again(sort: RowSort) -> RowSort
     ensures { λ r. ⌜ r ≡ againOf sort ⌝ }
 {
     match sort {
-        Sort::Formula => Sort::Formula,
-        Sort::Move => Sort::Move,
-        Sort::Effect => Sort::Move,
-        Sort::Row => Sort::Row,
+        RowSort::Formula => RowSort::Formula,
+        RowSort::Move => RowSort::Move,
+        RowSort::Effect => RowSort::Move,
+        RowSort::Row => RowSort::Row,
     }
 }
 
-fn after_row(sort: Sort, due: u16, effects: u16) -> Line
+fn after_row(sort: RowSort, due: u16, effects: u16) -> Line
     ensures { λ r. ⌜ r ≡ afterRow sort due effects ⌝ }
 {
     if effects == 0 {
@@ -60,7 +60,7 @@ fn after_row(sort: Sort, due: u16, effects: u16) -> Line
         }
         return Line::Of(again(sort));
     }
-    Line::Of(Sort::Effect)
+    Line::Of(RowSort::Effect)
 }
 
 fn after_one(heading: Heading, n: u16) -> Line
@@ -70,10 +70,10 @@ fn after_one(heading: Heading, n: u16) -> Line
         Heading::Job => Line::One(Heading::Facts),
         Heading::Facts => Line::One(Heading::Init),
         Heading::Init => Line::One(Heading::Formulas),
-        Heading::Formulas => after_row(Sort::Formula, n, 0),
-        Heading::Moves => after_row(Sort::Move, n, 0),
+        Heading::Formulas => after_row(RowSort::Formula, n, 0),
+        Heading::Moves => after_row(RowSort::Move, n, 0),
         Heading::Goal => Line::One(Heading::Program),
-        Heading::Program => after_row(Sort::Row, n, 0),
+        Heading::Program => after_row(RowSort::Row, n, 0),
     }
 }
 
@@ -112,28 +112,28 @@ fn take_one(s: ReaderState, heading: Heading, n: u16) -> ReaderState
     on(after_one(heading, n), n, s.effects, h)
 }
 
-fn place(sort: Sort, c: Counts) -> u16
+fn place(sort: RowSort, c: Counts) -> u16
     requires { ⌜ Limited c ⌝ }
     ensures { λ r. ⌜ r ≡ placeOf sort c ⌝ }
 {
     match sort {
-        Sort::Formula => c.formulas,
-        Sort::Move => MOVES_FROM + c.moves,
-        Sort::Effect => EFFECTS_FROM + c.effects,
-        Sort::Row => PROGRAM_FROM + c.program,
+        RowSort::Formula => c.formulas,
+        RowSort::Move => MOVES_FROM + c.moves,
+        RowSort::Effect => EFFECTS_FROM + c.effects,
+        RowSort::Row => PROGRAM_FROM + c.program,
     }
 }
 
-fn one_more(sort: Sort, c: Counts) -> Counts
+fn one_more(sort: RowSort, c: Counts) -> Counts
     requires { ⌜ Limited c ⌝ }
     ensures { λ r. ⌜ r ≡ oneMore sort c ⌝ }
 {
     let mut d = c;
     match sort {
-        Sort::Formula => d.formulas += 1,
-        Sort::Move => d.moves += 1,
-        Sort::Effect => d.effects += 1,
-        Sort::Row => d.program += 1,
+        RowSort::Formula => d.formulas += 1,
+        RowSort::Move => d.moves += 1,
+        RowSort::Effect => d.effects += 1,
+        RowSort::Row => d.program += 1,
     }
     d
 }
@@ -144,30 +144,30 @@ fn one_less(n: u16) -> u16
     if n == 0 { 0 } else { n - 1 }
 }
 
-fn due_after(sort: Sort, due: u16) -> u16
+fn due_after(sort: RowSort, due: u16) -> u16
     ensures { λ r. ⌜ r ≡ dueAfter sort due ⌝ }
 {
     match sort {
-        Sort::Formula => one_less(due),
-        Sort::Move => one_less(due),
-        Sort::Effect => due,
-        Sort::Row => one_less(due),
+        RowSort::Formula => one_less(due),
+        RowSort::Move => one_less(due),
+        RowSort::Effect => due,
+        RowSort::Row => one_less(due),
     }
 }
 
-fn effects_after(sort: Sort, effects: u16, numbers: [u16; WIDTH]) -> u16
+fn effects_after(sort: RowSort, effects: u16, numbers: [u16; WIDTH]) -> u16
     ensures { λ r. ⌜ r ≡ effectsAfter sort effects numbers ⌝ }
 {
     match sort {
-        Sort::Formula => effects,
-        Sort::Move => job::rows::effect_count(numbers),
-        Sort::Effect => one_less(effects),
-        Sort::Row => effects,
+        RowSort::Formula => effects,
+        RowSort::Move => job::rows::effect_count(numbers),
+        RowSort::Effect => one_less(effects),
+        RowSort::Row => effects,
     }
 }
 
 // A row is stored behind the earlier rows of its sort.
-fn take_row(s: ReaderState, sort: Sort, numbers: [u16; WIDTH], rows: &mut [u16]) -> ReaderState
+fn take_row(s: ReaderState, sort: RowSort, numbers: [u16; WIDTH], rows: &mut [u16]) -> ReaderState
     requires { ⌜ Room (Line.Of sort) (s .due) (s .effects) (s .head .counts) ⌝ }
     requires { ⌜ length (now rows) ≡ storeSize ⌝ }
     ensures { λ r. ⌜ readingOf r (now (rows .exit)) ≡ takenRow sort (readingOf s (now (rows .entry))) numbers ⌝ }

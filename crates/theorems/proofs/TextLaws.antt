@@ -29,8 +29,8 @@ use Rattle.job.specs.declared.fields.Field.{Field}
 use Rattle.job.specs.declared.fields.Field.the-variants as F
 use Rattle.job.specs.declared.line.Heading.{Heading}
 use Rattle.job.specs.declared.line.Heading.the-variants.{Job, Facts, Init, Formulas, Moves, Goal, Program}
-use Rattle.job.specs.declared.line.Sort.{Sort}
-use Rattle.job.specs.declared.line.Sort.the-variants.{Formula, Move, Effect, Row}
+use Rattle.job.specs.declared.line.RowSort.{RowSort}
+use Rattle.job.specs.declared.line.RowSort.the-variants.{Formula, Move, Effect, Row}
 use Rattle.job.specs.declared.line.Line.{Line}
 use Rattle.job.specs.declared.line.Line.the-variants.{One, Of, End}
 use Rattle.job.proofs.RowLaws.{kind-listed, tiled-own}
@@ -83,7 +83,7 @@ one-line : (h : Heading) (due : ℕ) (j : J.Job) (n a : ℕ) (rest : List (List 
 one-line h due j n a rest t x y = text-line (on (One h) due 0 j) n a [] rest refl (t, tt) (rw (le-leb _ _ x, lt-ltb _ _ y))
 
 -- a row's line, after which so many rows and effects are due
-row-line : (k : Sort) (next : Line) (due effects d e n : ℕ) (j : J.Job) (a : ℕ) (ns : List ℕ) (rest : List (List ℕ)) → next ≡ Of k
+row-line : (k : RowSort) (next : Line) (due effects d e n : ℕ) (j : J.Job) (a : ℕ) (ns : List ℕ) (rest : List (List ℕ)) → next ≡ Of k
     → length (a ∷ ns) ≡ formOf (Of k) .width → Small (a ∷ ns) → criteria k (countsOf j) (a ∷ ns) .range ≡ true → criteria k (countsOf j) (a ∷ ns) .fields ≡ true
     → dueAfter k due ≡ d → effectsAfter k effects (a ∷ ns) ≡ e
     → readFrom n (on next due effects j) (lineOf (Of k) (a ∷ ns) ∷ rest) ≡ readFrom (n + 1) (on (afterRow k d e) d e (jobAfter k j (a ∷ ns))) rest

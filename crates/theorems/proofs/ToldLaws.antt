@@ -19,8 +19,8 @@ use Rattle.job.specs.WellFormed.{Tiled}
 use Rattle.job.specs.declared.head.Counts.{Counts}
 use Rattle.job.specs.declared.line.Heading.{Heading}
 use Rattle.job.specs.declared.line.Heading.the-variants.{Job, Facts, Init, Formulas, Moves, Goal, Program}
-use Rattle.job.specs.declared.line.Sort.{Sort}
-use Rattle.job.specs.declared.line.Sort.the-variants.{Formula, Move, Effect, Row}
+use Rattle.job.specs.declared.line.RowSort.{RowSort}
+use Rattle.job.specs.declared.line.RowSort.the-variants.{Formula, Move, Effect, Row}
 use Rattle.job.specs.declared.line.Line.{Line}
 use Rattle.job.specs.declared.line.Line.the-variants.{One, Of, End}
 use Rattle.job.proofs.RowLaws.{tiled-own}
@@ -104,13 +104,13 @@ module _ (j : J.Job) where
   rowPart n = goalPart ++ (lineOf (One Program) (n ∷ []) ∷ map rowLine (j .program))
 
   -- the part that ends in rows of a sort, and how many of them it has
-  abbrev part : Sort → ℕ → List (List ℕ)
+  abbrev part : RowSort → ℕ → List (List ℕ)
   part Formula n = formulaPart n
   part Move n = movePart n
   part Effect n = movePart n
   part Row n = rowPart n
 
-  abbrev count : Sort → ℕ
+  abbrev count : RowSort → ℕ
   count Formula = length (j .formulas)
   count Move = length (j .moves)
   count Effect = length (j .moves)
@@ -129,19 +129,19 @@ toldAt End due j = part j Row (count j Row)
 
 -- what was read before the line that comes after a row, or after the line that counts the rows
 module _ (due effects : ℕ) (j : J.Job) where
-  past-told : (k : Sort) → toldAt (past k) due j ≡ part j k (count j k)
+  past-told : (k : RowSort) → toldAt (past k) due j ≡ part j k (count j k)
   past-told Formula = refl
   past-told Move = refl
   past-told Effect = refl
   past-told Row = refl
 
-  again-told : (k : Sort) → toldAt (Of (again k)) due j ≡ part j k (count j k + due)
+  again-told : (k : RowSort) → toldAt (Of (again k)) due j ≡ part j k (count j k + due)
   again-told Formula = refl
   again-told Move = refl
   again-told Effect = refl
   again-told Row = refl
 
-  rows-told : (k : Sort) → ((effects ≡ 0 → ⊥) → toldAt (Of Effect) due j ≡ part j k (count j k + due)) → (n : ℕ) → count j k + due ≡ n
+  rows-told : (k : RowSort) → ((effects ≡ 0 → ⊥) → toldAt (Of Effect) due j ≡ part j k (count j k + due)) → (n : ℕ) → count j k + due ≡ n
       → toldAt (afterRow k due effects) due j ≡ part j k n
   rows-told k f n e =
       rows-has (λ l. toldAt l due j ≡ part j k (count j k + due)) k due effects
@@ -223,7 +223,7 @@ module _ (s : Reading) (r : List ℕ) where
       rows-told (getD r 0 0) 0 (takenAt (One Program) s r .job) Row (λ y. absurd (y refl)) (getD r 0 0) (omega arith)
       ∙ rw (nil-of (j .program) z) (told-line (One Program) w)
 
-  told-row : (k : Sort) → length r ≡ formOf (Of k) .width → Room (Of k) (s .due) (s .effects) c → Fits (s .effects) j → Open (j .moves) (s .effects)
+  told-row : (k : RowSort) → length r ≡ formOf (Of k) .width → Room (Of k) (s .due) (s .effects) c → Fits (s .effects) j → Open (j .moves) (s .effects)
       → Told (Of k)
   told-row Formula w h f o =
       let l = length-append (j .formulas) (formulaOf r ∷ []) in

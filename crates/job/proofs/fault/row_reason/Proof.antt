@@ -1,6 +1,6 @@
 use mathlib.Core.Path.{_∙_, ap}
 use mathlib.Core.Bool.{cond}
-use Rattle.job.specs.declared.line.Sort.the-variants.{Formula, Move, Effect, Row}
+use Rattle.job.specs.declared.line.RowSort.the-variants.{Formula, Move, Effect, Row}
 use Rattle.job.proofs.FaultLaws.{by-sort}
 use borrow.Author.Needs.{needs}
 use Rattle.job.proofs.fault.row_reason.Statement.{statement}
