@@ -1,4 +1,5 @@
 pub mod StoreLaws
+pub mod FrontLaws
 pub mod FaultLaws
 pub mod RowLaws
 pub mod StoredLaws

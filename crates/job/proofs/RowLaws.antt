@@ -53,7 +53,8 @@ kind-listed c kinds kind x xs w = elim (decLt kind (length kinds)) [
 ]
 
 -- a move's effects are among all of them
-pub tiled-own : (d : J.Move) (first last : ℕ) (ms : List J.Move) → Tiled first ms last → (i : ℕ) → i < length ms → getD ms i d .first + getD ms i d .effects ≤ last
+pub tiled-own : (d : J.Move) (first last : ℕ) (ms : List J.Move) → Tiled first ms last → (i : ℕ) → i < length ms
+    → getD ms i d .first + getD ms i d .effects ≤ last
 tiled-own d first last [] t i h = absurd (omega arith)
 tiled-own d first last (m ∷ ms) t zero h = omega (arith, t .0, tiled-le (first + m .effects) last ms (t .1))
   where

@@ -1,4 +1,5 @@
--- Laws of the store: what a row that is written leaves of the others, and that it stands behind those of its sort.
+-- Laws of the store: what a row that is written leaves of the others, and that it stands behind
+-- those of its sort.
 -- Assumes nothing.
 use Prim.Native.Nat.{ℕ, zero, suc, _+_, _*_, _≤_, _<_}
 use mathlib.Core.Path.{_≡_, refl, sym, _∙_, ap}
@@ -86,7 +87,8 @@ module _ {A : Type 0} (f : List ℕ → A) (l : List ℕ) (i : ℕ) (v : List �
       let z : i * width + 0 ≡ i * width = omega arith in
       let e : getD put (i * width) 0 ≡ getD v 0 0 = ap (λ (k : ℕ). getD put k 0) (sym z) ∙ at 0 (omega arith) in
       rw (e, at 1 (omega arith), at 2 (omega arith), at 3 (omega arith), at 4 (omega arith), at 5 (omega arith), at 6 (omega arith), at 7 (omega arith))
-      (by-columns (λ u. getD u 0 0 ∷ getD u 1 0 ∷ getD u 2 0 ∷ getD u 3 0 ∷ getD u 4 0 ∷ getD u 5 0 ∷ getD u 6 0 ∷ getD u 7 0 ∷ [] ≡ u) (λ a b c d e f g h. refl) v eight)
+      (by-columns (λ u. getD u 0 0 ∷ getD u 1 0 ∷ getD u 2 0 ∷ getD u 3 0 ∷ getD u 4 0 ∷ getD u 5 0 ∷ getD u 6 0 ∷ getD u 7 0 ∷ [] ≡ u)
+      (λ a b c d e f g h. refl) v eight)
 
   pub put-next : i ≡ first + n → i * width + width ≤ length l → rowsFrom f put first (n + 1) ≡ rowsFrom f l first n ++ (f v ∷ [])
   unfolding rowsFrom

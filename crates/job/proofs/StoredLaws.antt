@@ -5,13 +5,12 @@ use mathlib.Core.Path.{_≡_}
 use mathlib.Core.List.{List, [], _∷_}
 use native.Mathlib.Omega.{arith}
 use lib.ListN.{length, getD}
-use Rattle.limits.specs.Limits.{mostFacts, mostFormulas, mostMoves, mostEffects, lastClass, mostProgram}
+use Rattle.limits.specs.Limits.{mostFacts, lastClass}
 use Rattle.job.specs.Job.{formulaOf, moveOf, effectOf, rowOf, formulaAt, moveAt, effectAt, programRowAt}
 use Rattle.job.specs.Fields.{Within, formulaFields, rowFields}
 use Rattle.job.specs.Store.{formulasFrom, movesFrom, effectsFrom, programFrom, rowAt, storedMove, jobOf}
 use Rattle.job.specs.WellFormed.{beforeFormula, beforeRow}
-use Rattle.job.specs.Stored.{Stored}
-use Rattle.job.specs.declared.head.Counts.{Counts}
+use Rattle.job.specs.Stored.{Limited, Stored}
 use Rattle.job.specs.declared.head.Head.{Head}
 use Rattle.job.proofs.StoreLaws.{rows-length, rows-at}
 use Rattle.job.proofs.RowLaws.{tiled-own}
@@ -43,14 +42,6 @@ module _ (h : Head) (l : List ℕ) where
     pub row-is : i < h .counts .program → programRowAt (jobOf h l) i ≡ rowOf (rowAt l (programFrom + i))
     row-is = rows-at rowOf l programFrom (rowOf []) (h .counts .program) i
 
--- at most so many of each
-pub record Limited (c : Counts) : Type 0 where
-  pub facts : c .facts ≤ mostFacts
-  pub formulas : c .formulas ≤ mostFormulas
-  pub moves : c .moves ≤ mostMoves
-  pub effects : c .effects ≤ mostEffects
-  pub program : c .program ≤ mostProgram
-
 module _ {h : Head} {l : List ℕ} (s : Stored h l) where
   pub limited : Limited (h .counts)
   limited = record {
@@ -68,7 +59,8 @@ module _ {h : Head} {l : List ℕ} (s : Stored h l) where
   module _ (i : ℕ) where
     -- what a formula and a program row refer to
     pub formula-within : i < h .counts .formulas
-        → Within (beforeFormula (h .counts .facts) i) (getD formulaFields (formulaAt (jobOf h l) i .kind) []) (formulaAt (jobOf h l) i .a ∷ formulaAt (jobOf h l) i .b ∷ [])
+        → Within (beforeFormula (h .counts .facts) i) (getD formulaFields (formulaAt (jobOf h l) i .kind) [])
+        (formulaAt (jobOf h l) i .a ∷ formulaAt (jobOf h l) i .b ∷ [])
     formula-within g = s .job .formula i (omega (arith, formula-count h l))
 
     pub row-within : i < h .counts .program
@@ -85,7 +77,12 @@ module _ {h : Head} {l : List ℕ} (s : Stored h l) where
 
     pub move-effects : i < h .counts .moves → moveAt (jobOf h l) i .first + moveAt (jobOf h l) i .effects ≤ h .counts .effects
     move-effects g =
-        omega (arith, tiled-own (moveOf 0 []) 0 (length (jobOf h l .effects)) (jobOf h l .moves) (s .job .tiled) i (omega (arith, move-count h l)), effect-count h l)
+        omega (
+          arith,
+          tiled-own (moveOf 0 []) 0 (length (jobOf h l .effects)) (jobOf h l .moves) (s .job .tiled) i
+              (omega (arith, move-count h l)),
+          effect-count h l,
+        )
 
     pub effect-fact : i < h .counts .effects → effectAt (jobOf h l) i .fact < mostFacts
     effect-fact g = omega (arith, s .job .effect i (omega (arith, effect-count h l)) .fact, s .job .facts)

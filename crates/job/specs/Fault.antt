@@ -1,47 +1,66 @@
 -- Which reason refuses a line: "The first bad line decides; on it, form before 2 before 3."
-use Prim.Native.Nat.{ℕ}
-use mathlib.Core.Bool.{Bool, true, false, cond, _&&_}
+use Prim.Native.Nat.{ℕ, _+_}
+use mathlib.Core.Bool.{Bool, true, cond, _&&_}
 use mathlib.Core.List.{List, [], _∷_}
 use mathlib.Core.Option.{Option, none, some}
-use lib.Dec.{eqb, ltb, leb}
+use lib.Dec.{ltb, leb}
 use lib.ListN.{getD}
 use Rattle.limits.specs.Limits.{mostFacts, mostFormulas, mostMoves, mostMoveEffects, lastClass, mostProgram}
 use Rattle.job.specs.StateCount.{stateCount}
 use Rattle.job.specs.Fields.{formulaFields, rowFields, within}
 use Rattle.job.specs.declared.head.Counts.{Counts}
+use Rattle.job.specs.declared.fault.Range.{Range}
+use Rattle.job.specs.declared.line.Heading.{Heading}
+use Rattle.job.specs.declared.line.Heading.the-variants.{Job, Facts, Init, Formulas, Moves, Goal, Program}
+use Rattle.job.specs.declared.line.RowSort.{RowSort}
+use Rattle.job.specs.declared.line.RowSort.the-variants.{Formula, Move, Effect, Row}
 use Rattle.job.specs.declared.line.Line.{Line}
-use Rattle.job.specs.declared.line.Line.the-variants.{Job, Facts, Init, Formulas, Formula, Moves, Move, Effect, Goal, Program, Row, End}
+use Rattle.job.specs.declared.line.Line.the-variants.{One, Of, End}
 
--- what a line of right numbers must pass, by reason
+abbrev range : ℕ → ℕ → ℕ → Range
+range from below reason = record { from = from; below = below; reason = reason }
+
+-- a line of one number: from which number on, below which number, and which reason refuses any
+-- other. `job=1` is the only first line; reason 2 is "count or init outside its range"; the goal is
+-- a reference
+abbrev pub rangeOf : Heading → Counts → Range
+rangeOf Job c = range 1 2 1
+rangeOf Facts c = range 0 (mostFacts + 1) 2
+rangeOf Init c = range 0 (stateCount (c .facts)) 2
+rangeOf Formulas c = range 1 (mostFormulas + 1) 2
+rangeOf Moves c = range 0 (mostMoves + 1) 2
+rangeOf Goal c = range 0 (c .formulas) 3
+rangeOf Program c = range 1 (mostProgram + 1) 2
+
+abbrev pub isIn : Range → ℕ → Bool
+isIn g n = leb (g .from) n && ltb n (g .below)
+
+-- what a row must pass, by reason: its count, and its fields. Reason 3: "kind, reference, class,
+-- value or unused field wrong", beside so many facts and earlier rows
 pub record Criteria : Type 0 where
-  pub form : Bool
   pub range : Bool
   pub fields : Bool
 
-abbrev criterion : Bool → Bool → Bool → Criteria
-criterion form range fields = record { form = form; range = range; fields = fields }
+abbrev criterion : Bool → Bool → Criteria
+criterion range fields = record { range = range; fields = fields }
 
--- reason 1: `job=1` is the only first line, and no line may follow the last. Reason 2: "count or init outside its range". Reason 3: "kind, reference,
--- class, value or unused field wrong", beside so many facts and earlier rows
-abbrev pub criteria : Line → Counts → List ℕ → Criteria
-criteria Job c r = criterion (eqb (getD r 0 0) 1) true true
-criteria Facts c r = criterion true (leb (getD r 0 0) mostFacts) true
-criteria Init c r = criterion true (ltb (getD r 0 0) (stateCount (c .facts))) true
-criteria Formulas c r = criterion true (leb 1 (getD r 0 0) && leb (getD r 0 0) mostFormulas) true
-criteria Formula c r = criterion true true (within c (getD formulaFields (getD r 0 0) []) (getD r 1 0 ∷ getD r 2 0 ∷ []))
-criteria Moves c r = criterion true (leb (getD r 0 0) mostMoves) true
-criteria Move c r = criterion true (leb (getD r 2 0) mostMoveEffects) (ltb (getD r 0 0) (c .formulas) && leb (getD r 1 0) lastClass)
-criteria Effect c r = criterion true true (ltb (getD r 0 0) (c .formulas) && (ltb (getD r 1 0) (c .facts) && leb (getD r 2 0) 1))
-criteria Goal c r = criterion true true (ltb (getD r 0 0) (c .formulas))
-criteria Program c r = criterion true (leb 1 (getD r 0 0) && leb (getD r 0 0) mostProgram) true
-criteria Row c r = criterion true true (within c (getD rowFields (getD r 0 0) []) (getD r 1 0 ∷ getD r 2 0 ∷ getD r 3 0 ∷ []))
-criteria End c r = criterion false true true
+abbrev pub criteria : RowSort → Counts → List ℕ → Criteria
+criteria Formula c r = criterion true (within c (getD formulaFields (getD r 0 0) []) (getD r 1 0 ∷ getD r 2 0 ∷ []))
+criteria Move c r = criterion (leb (getD r 2 0) mostMoveEffects) (ltb (getD r 0 0) (c .formulas) && leb (getD r 1 0) lastClass)
+criteria Effect c r = criterion true (ltb (getD r 0 0) (c .formulas) && (ltb (getD r 1 0) (c .facts) && leb (getD r 2 0) 1))
+criteria Row c r = criterion true (within c (getD rowFields (getD r 0 0) []) (getD r 1 0 ∷ getD r 2 0 ∷ getD r 3 0 ∷ []))
 
--- "form before 2 before 3"
+-- "2 before 3"
 abbrev pub firstReason : Criteria → ℕ
-firstReason k = cond (k .form) (cond (k .range) (cond (k .fields) 0 3) 2) 1
+firstReason k = cond (k .range) (cond (k .fields) 0 3) 2
+
+-- the reason by the numbers of a line that has the form: no line may follow the last
+abbrev pub reasonOf : Line → Counts → List ℕ → ℕ
+reasonOf (One h) c r = cond (isIn (rangeOf h c) (getD r 0 0)) 0 (rangeOf h c .reason)
+reasonOf (Of s) c r = firstReason (criteria s c r)
+reasonOf End c r = 1
 
 -- which reason refuses a line, by its numbers if it has the form; 0 where none does
 unfoldable pub fault : Line → Counts → Option (List ℕ) → ℕ
 fault next c none = 1
-fault next c (some r) = firstReason (criteria next c r)
+fault next c (some r) = reasonOf next c r

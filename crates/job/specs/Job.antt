@@ -43,14 +43,11 @@ pub record Job : Type 0 where
   pub program : List Row
 
 -- how many there are of each
+abbrev pub counts : ℕ → ℕ → ℕ → ℕ → ℕ → Counts
+counts facts formulas moves effects program = record { facts = facts; formulas = formulas; moves = moves; effects = effects; program = program }
+
 abbrev pub countsOf : Job → Counts
-countsOf j = record {
-  facts = j .scalars .facts;
-  formulas = length (j .formulas);
-  moves = length (j .moves);
-  effects = length (j .effects);
-  program = length (j .program);
-}
+countsOf j = counts (j .scalars .facts) (length (j .formulas)) (length (j .moves)) (length (j .effects)) (length (j .program))
 
 -- rows from their numbers
 abbrev pub formulaOf : List ℕ → Formula
@@ -78,48 +75,21 @@ effectAt j i = getD (j .effects) i (effectOf [])
 abbrev pub programRowAt : Job → ℕ → Row
 programRowAt j i = getD (j .program) i (rowOf [])
 
--- a job with a row more, or with other scalars
+-- a job of these parts; a job with a row more, or with other scalars
+abbrev pub made : Scalars → List Formula → List Move → List Effect → List Row → Job
+made s fs ms es ps = record { scalars = s; formulas = fs; moves = ms; effects = es; program = ps }
+
 abbrev pub addFormula : Job → Formula → Job
-addFormula j f = record {
-  scalars = j .scalars;
-  formulas = j .formulas ++ (f ∷ []);
-  moves = j .moves;
-  effects = j .effects;
-  program = j .program;
-}
+addFormula j f = made (j .scalars) (j .formulas ++ (f ∷ [])) (j .moves) (j .effects) (j .program)
 
 abbrev pub addMove : Job → Move → Job
-addMove j m = record {
-  scalars = j .scalars;
-  formulas = j .formulas;
-  moves = j .moves ++ (m ∷ []);
-  effects = j .effects;
-  program = j .program;
-}
+addMove j m = made (j .scalars) (j .formulas) (j .moves ++ (m ∷ [])) (j .effects) (j .program)
 
 abbrev pub addEffect : Job → Effect → Job
-addEffect j e = record {
-  scalars = j .scalars;
-  formulas = j .formulas;
-  moves = j .moves;
-  effects = j .effects ++ (e ∷ []);
-  program = j .program;
-}
+addEffect j e = made (j .scalars) (j .formulas) (j .moves) (j .effects ++ (e ∷ [])) (j .program)
 
 abbrev pub addRow : Job → Row → Job
-addRow j r = record {
-  scalars = j .scalars;
-  formulas = j .formulas;
-  moves = j .moves;
-  effects = j .effects;
-  program = j .program ++ (r ∷ []);
-}
+addRow j r = made (j .scalars) (j .formulas) (j .moves) (j .effects) (j .program ++ (r ∷ []))
 
-abbrev pub withScalars : Job → ℕ → ℕ → ℕ → Job
-withScalars j facts init goal = record {
-  scalars = record { facts = facts; init = init; goal = goal };
-  formulas = j .formulas;
-  moves = j .moves;
-  effects = j .effects;
-  program = j .program;
-}
+abbrev pub withScalars : Job → Scalars → Job
+withScalars j s = made s (j .formulas) (j .moves) (j .effects) (j .program)

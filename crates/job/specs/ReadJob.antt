@@ -10,10 +10,15 @@ use Rattle.job.specs.Job as J
 use Rattle.job.specs.Job.{addFormula, addMove, addEffect, addRow, withScalars, formulaOf, moveOf, effectOf, rowOf, countsOf}
 use Rattle.job.specs.Line.{lineNumbers}
 use Rattle.job.specs.Fault.{fault}
+use Rattle.job.specs.declared.line.Heading.{Heading}
+use Rattle.job.specs.declared.line.Heading.the-variants.{Job, Facts, Init, Formulas, Moves, Goal, Program}
+use Rattle.job.specs.declared.line.RowSort.{RowSort}
+use Rattle.job.specs.declared.line.RowSort.the-variants.{Formula, Move, Effect, Row}
 use Rattle.job.specs.declared.line.Line.{Line}
-use Rattle.job.specs.declared.line.Line.the-variants.{Job, Facts, Init, Formulas, Formula, Moves, Move, Effect, Goal, Program, Row, End}
+use Rattle.job.specs.declared.line.Line.the-variants.{One, Of, End}
 
--- a text that is being read: the line that comes next, how many rows of its sort are due and how many effects of the last move, and the job so far
+-- a text that is being read: the line that comes next, how many rows are due by the number of the
+-- last line of one number, how many effects of the last move are due, and the job so far
 pub record Reading : Type 0 where
   pub next : Line
   pub due : ℕ
@@ -23,32 +28,74 @@ pub record Reading : Type 0 where
 abbrev pub on : Line → ℕ → ℕ → J.Job → Reading
 on next due effects job = record { next = next; due = due; effects = effects; job = job }
 
--- "formulas=N, then N lines"
-abbrev pub afterFormulas : ℕ → Line
-afterFormulas due = cond (eqb due 0) Moves Formula
+-- what comes once no more rows are due, and a row of which sort while they are: moves follow a
+-- move's effects
+abbrev pub past : RowSort → Line
+past Formula = One Moves
+past Move = One Goal
+past Effect = One Goal
+past Row = End
 
--- "Each is a line m=.. followed by its E lines"
-abbrev pub afterMoves : ℕ → ℕ → Line
-afterMoves due effects = cond (eqb effects 0) (cond (eqb due 0) Goal Move) Effect
+abbrev pub again : RowSort → RowSort
+again Formula = Formula
+again Move = Move
+again Effect = Move
+again Row = Row
 
--- "program=P, then P lines"
-abbrev pub afterRows : ℕ → Line
-afterRows due = cond (eqb due 0) End Row
+-- "formulas=N, then N lines"; "Each is a line m=.. followed by its E lines"; "program=P, then P lines"
+abbrev pub afterRow : RowSort → ℕ → ℕ → Line
+afterRow k due effects = cond (eqb effects 0) (cond (eqb due 0) (past k) (Of (again k))) (Of Effect)
+
+-- what comes after a line of one number n
+abbrev pub afterOne : Heading → ℕ → Line
+afterOne Job n = One Facts
+afterOne Facts n = One Init
+afterOne Init n = One Formulas
+afterOne Formulas n = afterRow Formula n 0
+afterOne Moves n = afterRow Move n 0
+afterOne Goal n = One Program
+afterOne Program n = afterRow Row n 0
+
+-- the scalars after it
+abbrev pub scalarsAfter : Heading → ℕ → J.Scalars → J.Scalars
+scalarsAfter Job n s = s
+scalarsAfter Facts n s = record { facts = n; init = s .init; goal = s .goal }
+scalarsAfter Init n s = record { facts = s .facts; init = n; goal = s .goal }
+scalarsAfter Formulas n s = s
+scalarsAfter Moves n s = s
+scalarsAfter Goal n s = record { facts = s .facts; init = s .init; goal = n }
+scalarsAfter Program n s = s
+
+-- after a row: how many rows of its sort, and how many effects of the last move, are due, and the job
+abbrev pub dueAfter : RowSort → ℕ → ℕ
+dueAfter Formula due = due - 1
+dueAfter Move due = due - 1
+dueAfter Effect due = due
+dueAfter Row due = due - 1
+
+abbrev pub effectsAfter : RowSort → ℕ → List ℕ → ℕ
+effectsAfter Formula effects r = effects
+effectsAfter Move effects r = getD r 2 0
+effectsAfter Effect effects r = effects - 1
+effectsAfter Row effects r = effects
+
+abbrev pub jobAfter : RowSort → J.Job → List ℕ → J.Job
+jobAfter Formula j r = addFormula j (formulaOf r)
+jobAfter Move j r = addMove j (moveOf (length (j .effects)) r)
+jobAfter Effect j r = addEffect j (effectOf r)
+jobAfter Row j r = addRow j (rowOf r)
 
 -- the numbers of a right line taken in
+abbrev pub takenOne : Heading → Reading → ℕ → Reading
+takenOne h s n = on (afterOne h n) n (s .effects) (withScalars (s .job) (scalarsAfter h n (s .job .scalars)))
+
+abbrev pub takenRow : RowSort → Reading → List ℕ → Reading
+takenRow k s r =
+    on (afterRow k (dueAfter k (s .due)) (effectsAfter k (s .effects) r)) (dueAfter k (s .due)) (effectsAfter k (s .effects) r) (jobAfter k (s .job) r)
+
 abbrev pub takenAt : Line → Reading → List ℕ → Reading
-takenAt Job s r = on Facts (s .due) (s .effects) (s .job)
-takenAt Facts s r = on Init (s .due) (s .effects) (withScalars (s .job) (getD r 0 0) (s .job .scalars .init) (s .job .scalars .goal))
-takenAt Init s r = on Formulas (s .due) (s .effects) (withScalars (s .job) (s .job .scalars .facts) (getD r 0 0) (s .job .scalars .goal))
-takenAt Formulas s r = on Formula (getD r 0 0) (s .effects) (s .job)
-takenAt Formula s r = on (afterFormulas (s .due - 1)) (s .due - 1) (s .effects) (addFormula (s .job) (formulaOf r))
-takenAt Moves s r = on (afterMoves (getD r 0 0) 0) (getD r 0 0) 0 (s .job)
-takenAt Move s r =
-    on (afterMoves (s .due - 1) (getD r 2 0)) (s .due - 1) (getD r 2 0) (addMove (s .job) (moveOf (length (s .job .effects)) r))
-takenAt Effect s r = on (afterMoves (s .due) (s .effects - 1)) (s .due) (s .effects - 1) (addEffect (s .job) (effectOf r))
-takenAt Goal s r = on Program (s .due) (s .effects) (withScalars (s .job) (s .job .scalars .facts) (s .job .scalars .init) (getD r 0 0))
-takenAt Program s r = on Row (getD r 0 0) (s .effects) (s .job)
-takenAt Row s r = on (afterRows (s .due - 1)) (s .due - 1) (s .effects) (addRow (s .job) (rowOf r))
+takenAt (One h) s r = takenOne h s (getD r 0 0)
+takenAt (Of k) s r = takenRow k s r
 takenAt End s r = s
 
 unfoldable pub taken : Reading → List ℕ → Reading
@@ -60,17 +107,8 @@ pub data Outcome : Type 0 where
   refused : ℕ → ℕ → Outcome
 
 abbrev pub isEnd : Line → Bool
-isEnd Job = false
-isEnd Facts = false
-isEnd Init = false
-isEnd Formulas = false
-isEnd Formula = false
-isEnd Moves = false
-isEnd Move = false
-isEnd Effect = false
-isEnd Goal = false
-isEnd Program = false
-isEnd Row = false
+isEnd (One h) = false
+isEnd (Of k) = false
 isEnd End = true
 
 -- "A missing line's place is one past the last."
@@ -86,7 +124,7 @@ readFrom n s (line ∷ rest) =
     cond (eqb reason 0) (readFrom (n + 1) (taken s (Option·getD numbers [])) rest) (refused reason (n + 1))
 
 abbrev pub begun : Reading
-begun = on Job 0 0 (record { scalars = record { facts = 0; init = 0; goal = 0 }; formulas = []; moves = []; effects = []; program = [] })
+begun = on (One Job) 0 0 (record { scalars = record { facts = 0; init = 0; goal = 0 }; formulas = []; moves = []; effects = []; program = [] })
 
 unfoldable pub readJob : List ℕ → Outcome
 readJob text = readFrom 0 begun (lines text)

@@ -1,4 +1,5 @@
--- What the store of a job stands for: a head of numbers, and rows of eight numbers each in one list, every sort from a row of its own on.
+-- What the store of a job stands for: a head of numbers, and rows of eight numbers each in one
+-- list, every sort from a row of its own on.
 use Prim.Native.Nat.{ℕ, zero, suc, _+_, _*_}
 use mathlib.Core.Bool.{cond}
 use mathlib.Core.List.{List, [], _∷_, _++_}

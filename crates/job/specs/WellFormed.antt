@@ -5,7 +5,7 @@ use mathlib.Core.List.{List, [], _∷_}
 use lib.ListN.{length, getD}
 use Rattle.limits.specs.Limits.{mostFacts, mostFormulas, mostMoves, mostMoveEffects, mostEffects, lastClass, mostProgram}
 use Rattle.job.specs.StateCount.{stateCount}
-use Rattle.job.specs.Job.{Job, Formula, Move, Effect, Row, formulaOf, moveOf, effectOf, rowOf}
+use Rattle.job.specs.Job.{Job, Formula, Move, Effect, Row, counts, formulaOf, moveOf, effectOf, rowOf}
 use Rattle.job.specs.Fields.{formulaFields, rowFields, Within}
 use Rattle.job.specs.declared.head.Counts.{Counts}
 
@@ -15,7 +15,7 @@ Every d P l = (i : ℕ) → i < length l → P i (getD l i d)
 
 -- what a formula may refer to: facts, and the i formulas before it
 abbrev pub beforeFormula : ℕ → ℕ → Counts
-beforeFormula facts i = record { facts = facts; formulas = i; moves = 0; effects = 0; program = 0 }
+beforeFormula facts i = counts facts i 0 0 0
 
 abbrev pub FormulaRows : ℕ → List Formula → Type 0
 FormulaRows facts = Every (formulaOf []) (λ i f. Within (beforeFormula facts i) (getD formulaFields (f .kind) []) (f .a ∷ f .b ∷ []))
@@ -29,7 +29,8 @@ pub record MoveFits (formulas : ℕ) (m : Move) : Type 0 where
 abbrev pub MoveRows : ℕ → List Move → Type 0
 MoveRows formulas = Every (moveOf 0 []) (λ i m. MoveFits formulas m)
 
--- the effects of the moves stand move after move, from number `first` on, and are all before number `last`
+-- the effects of the moves stand move after move, from number `first` on, and are all before number
+-- `last`
 abbrev pub Tiled : ℕ → List Move → ℕ → Type 0
 Tiled first [] last = first ≡ last
 Tiled first (m ∷ ms) last = (m .first ≡ first) × Tiled (first + m .effects) ms last
@@ -45,13 +46,7 @@ EffectRows facts formulas = Every (effectOf []) (λ i e. EffectFits facts formul
 
 -- what a program row may refer to: facts, formulas, moves, and the i rows before it
 abbrev pub beforeRow : Job → ℕ → Counts
-beforeRow j i = record {
-  facts = j .scalars .facts;
-  formulas = length (j .formulas);
-  moves = length (j .moves);
-  effects = length (j .effects);
-  program = i;
-}
+beforeRow j i = counts (j .scalars .facts) (length (j .formulas)) (length (j .moves)) (length (j .effects)) i
 
 abbrev pub ProgramRows : Job → List Row → Type 0
 ProgramRows j = Every (rowOf []) (λ i r. Within (beforeRow j i) (getD rowFields (r .kind) []) (r .a ∷ r .b ∷ r .c ∷ []))

@@ -5,12 +5,13 @@ ghost use Prim.Native.Nat.{_≤_};
 ghost use lib.Dec.{leb, ltb};
 ghost use lib.ListN.{getD};
 ghost use Rattle.limits.specs.Limits.{mostFacts, mostMoveEffects, lastClass};
-ghost use Rattle.job.specs.Fault.{fault};
-ghost use Rattle.job.specs.StateCount.{stateCount};
+ghost use Rattle.job.specs.Fault.{rangeOf, isIn, criteria, firstReason, fault};
 ghost use Rattle.job.specs.Store.{numbersOf};
 use crate::head::Counts;
+use crate::line::Heading;
 use crate::line::Line;
 use crate::line::LineNumbers;
+use crate::line::RowSort;
 use crate::rows::WIDTH;
 use limits::FACTS;
 use limits::FORMULAS;
@@ -26,13 +27,47 @@ fn unless(right: bool, reason: u8) -> u8
     if right { 0 } else { reason }
 }
 
-fn one_to(most: u16, n: u16) -> bool
-    ensures { λ r. ⌜ r ≡ (leb 1 n && leb n most) ⌝ }
+// The numbers that a line of one number may have, and the reason that refuses it else.
+pub struct Range {
+    pub from: u16,
+    pub below: u16,
+    pub reason: u8,
+}
+
+impl Range {
+    fn new(from: u16, below: u16, reason: u8) -> Range
+        ensures { λ r. ⌜ r ≡ record { from = from; below = below; reason = reason } ⌝ }
+    {
+        Range {
+            from: from,
+            below: below,
+            reason: reason,
+        }
+    }
+}
+
+fn range_of(heading: Heading, counts: Counts) -> Range
+    requires { ⌜ counts .facts ≤ mostFacts ⌝ }
+    ensures { λ r. ⌜ r ≡ rangeOf heading counts ⌝ }
 {
-    if n < 1 {
+    match heading {
+        Heading::Job => Range::new(1, 2, 1),
+        Heading::Facts => Range::new(0, FACTS + 1, 2),
+        Heading::Init => Range::new(0, crate::states::state_count(counts.facts), 2),
+        Heading::Formulas => Range::new(1, FORMULAS + 1, 2),
+        Heading::Moves => Range::new(0, MOVES + 1, 2),
+        Heading::Goal => Range::new(0, counts.formulas, 3),
+        Heading::Program => Range::new(1, PROGRAM + 1, 2),
+    }
+}
+
+fn is_in(range: Range, n: u16) -> bool
+    ensures { λ r. ⌜ r ≡ isIn range n ⌝ }
+{
+    if n < range.from {
         return false;
     }
-    n <= most
+    n < range.below
 }
 
 fn move_reason(numbers: [u16; WIDTH], formulas: u16) -> u8
@@ -59,14 +94,19 @@ fn effect_right(numbers: [u16; WIDTH], facts: u16, formulas: u16) -> bool
     false
 }
 
-fn init_right(init: u16, facts: u16) -> bool
-    requires { ⌜ facts ≤ mostFacts ⌝ }
-    ensures { λ r. ⌜ r ≡ ltb init (stateCount facts) ⌝ }
+// The reason that refuses a row, or 0.
+fn row_reason(sort: RowSort, numbers: [u16; WIDTH], counts: Counts) -> u8
+    ensures { λ r. ⌜ r ≡ firstReason (criteria sort counts numbers) ⌝ }
 {
-    init < crate::states::state_count(facts)
+    match sort {
+        RowSort::Formula => unless(crate::fields::formula_right(numbers, counts), 3),
+        RowSort::Move => move_reason(numbers, counts.formulas),
+        RowSort::Effect => unless(effect_right(numbers, counts.facts, counts.formulas), 3),
+        RowSort::Row => unless(crate::fields::row_right(numbers, counts), 3),
+    }
 }
 
-// The reason that refuses a line of the sort that comes next, or 0.
+// The reason that refuses a line of those that come next, or 0.
 pub fn reason(next: Line, line: LineNumbers, counts: Counts) -> u8
     requires { ⌜ counts .facts ≤ mostFacts ⌝ }
     ensures { λ r. ⌜ r ≡ fault next counts (numbersOf next line) ⌝ }
@@ -74,20 +114,13 @@ pub fn reason(next: Line, line: LineNumbers, counts: Counts) -> u8
     if !line.formed {
         return 1;
     }
-    let n = line.numbers;
-    let first = n[0];
+    let numbers = line.numbers;
     match next {
-        Line::Job => unless(first == 1, 1),
-        Line::Facts => unless(first <= FACTS, 2),
-        Line::Init => unless(init_right(first, counts.facts), 2),
-        Line::Formulas => unless(one_to(FORMULAS, first), 2),
-        Line::Formula => unless(crate::fields::formula_right(n, counts), 3),
-        Line::Moves => unless(first <= MOVES, 2),
-        Line::Move => move_reason(n, counts.formulas),
-        Line::Effect => unless(effect_right(n, counts.facts, counts.formulas), 3),
-        Line::Goal => unless(first < counts.formulas, 3),
-        Line::Program => unless(one_to(PROGRAM, first), 2),
-        Line::Row => unless(crate::fields::row_right(n, counts), 3),
+        Line::One(heading) => {
+            let range = range_of(heading, counts);
+            unless(is_in(range, numbers[0]), range.reason)
+        }
+        Line::Of(sort) => row_reason(sort, numbers, counts),
         Line::End => 1,
     }
 }

@@ -1,19 +1,29 @@
-// The sorts of lines, and the numbers of a line.
+// The lines of a job text, and the numbers of a line.
 use crate::rows::WIDTH;
 
-// The sorts of lines in the order in which they first come; the end is where no line may come.
-pub enum Line {
+// The lines of one number, in the order in which they come. Rows follow those that count them.
+pub enum Heading {
     Job,
     Facts,
     Init,
     Formulas,
-    Formula,
     Moves,
-    Move,
-    Effect,
     Goal,
     Program,
+}
+
+// The sorts of rows.
+pub enum RowSort {
+    Formula,
+    Move,
+    Effect,
     Row,
+}
+
+// A line of one number, or of a row; the end is where no line may come.
+pub enum Line {
+    One(Heading),
+    Of(RowSort),
     End,
 }
 

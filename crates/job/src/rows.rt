@@ -3,7 +3,7 @@ ghost use mathlib.Core.Path.{_≡_};
 ghost use Prim.Native.Nat.{_*_, _<_};
 ghost use lib.ListN.{length, getD, set};
 ghost use lib.Seq.{sets};
-ghost use Rattle.job.specs.Store.{allRows, width, storeSize, firstEffect, effectCount};
+ghost use Rattle.job.specs.Store.{allRows, width, storeSize, firstEffect, effectCount, rowAt};
 
 // How many numbers a row has; no other crate knows which of them is which.
 pub const WIDTH: usize = 8;
@@ -32,13 +32,31 @@ pub fn effect_count(line: [u16; WIDTH]) -> u16
     line[EFFECT_COUNT]
 }
 
-// The row of a move: the numbers of its line, and the number of its first effect.
-pub fn move_row(line: [u16; WIDTH], first: u16) -> [u16; WIDTH]
-    ensures { λ r. ⌜ r ≡ set line firstEffect first ⌝ }
+// The row of a line: its numbers, and how many effects stand before it, where a move's own begin.
+pub fn stored_row(line: [u16; WIDTH], effects: u16) -> [u16; WIDTH]
+    ensures { λ r. ⌜ r ≡ set line firstEffect effects ⌝ }
 {
     let mut numbers = line;
-    numbers[FIRST_EFFECT] = first;
+    numbers[FIRST_EFFECT] = effects;
     numbers
+}
+
+// The numbers of row i.
+pub fn row_at(rows: &[u16], i: u16) -> [u16; WIDTH]
+    requires { ⌜ (i < allRows) × (length (now rows) ≡ storeSize) ⌝ }
+    ensures { λ r. ⌜ r ≡ rowAt (now (rows .entry)) i ⌝ }
+{
+    let at = (i as usize) * WIDTH;
+    [
+        rows[at],
+        rows[at + 1],
+        rows[at + 2],
+        rows[at + 3],
+        rows[at + 4],
+        rows[at + 5],
+        rows[at + 6],
+        rows[at + 7],
+    ]
 }
 
 // Row i, written anew.

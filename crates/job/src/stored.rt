@@ -10,7 +10,7 @@ use crate::rows::EFFECTS_FROM;
 use crate::rows::FIRST_EFFECT;
 use crate::rows::MOVES_FROM;
 use crate::rows::PROGRAM_FROM;
-use crate::rows::WIDTH;
+use crate::rows::row_at;
 
 // A formula: its kind, and what it refers to.
 pub struct Formula {
@@ -46,11 +46,11 @@ pub fn formula_at(head: Head, rows: &[u16], i: u16) -> Formula
     requires { ⌜ Stored head (now rows) × (i < head .counts .formulas) ⌝ }
     ensures { λ r. ⌜ formulaIn r ≡ formulaAt (jobOf head (now (rows .entry))) i ⌝ }
 {
-    let at = (i as usize) * WIDTH;
+    let r = row_at(rows, i);
     Formula {
-        kind: rows[at],
-        a: rows[at + 1],
-        b: rows[at + 2],
+        kind: r[0],
+        a: r[1],
+        b: r[2],
     }
 }
 
@@ -58,12 +58,12 @@ pub fn move_at(head: Head, rows: &[u16], i: u16) -> Move
     requires { ⌜ Stored head (now rows) × (i < head .counts .moves) ⌝ }
     ensures { λ r. ⌜ moveIn r ≡ moveAt (jobOf head (now (rows .entry))) i ⌝ }
 {
-    let at = ((MOVES_FROM + i) as usize) * WIDTH;
+    let r = row_at(rows, MOVES_FROM + i);
     Move {
-        pre: rows[at],
-        class: rows[at + 1],
-        effects: rows[at + EFFECT_COUNT],
-        first: rows[at + FIRST_EFFECT],
+        pre: r[0],
+        class: r[1],
+        effects: r[EFFECT_COUNT],
+        first: r[FIRST_EFFECT],
     }
 }
 
@@ -71,11 +71,11 @@ pub fn effect_at(head: Head, rows: &[u16], i: u16) -> Effect
     requires { ⌜ Stored head (now rows) × (i < head .counts .effects) ⌝ }
     ensures { λ r. ⌜ effectIn r ≡ effectAt (jobOf head (now (rows .entry))) i ⌝ }
 {
-    let at = ((EFFECTS_FROM + i) as usize) * WIDTH;
+    let r = row_at(rows, EFFECTS_FROM + i);
     Effect {
-        cond: rows[at],
-        fact: rows[at + 1],
-        value: rows[at + 2],
+        cond: r[0],
+        fact: r[1],
+        value: r[2],
     }
 }
 
@@ -83,11 +83,11 @@ pub fn program_row_at(head: Head, rows: &[u16], i: u16) -> ProgramRow
     requires { ⌜ Stored head (now rows) × (i < head .counts .program) ⌝ }
     ensures { λ r. ⌜ rowIn r ≡ programRowAt (jobOf head (now (rows .entry))) i ⌝ }
 {
-    let at = ((PROGRAM_FROM + i) as usize) * WIDTH;
+    let r = row_at(rows, PROGRAM_FROM + i);
     ProgramRow {
-        kind: rows[at],
-        a: rows[at + 1],
-        b: rows[at + 2],
-        c: rows[at + 3],
+        kind: r[0],
+        a: r[1],
+        b: r[2],
+        c: r[3],
     }
 }

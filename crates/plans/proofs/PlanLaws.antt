@@ -8,7 +8,7 @@ use mathlib.Core.Option.{Option, none, some}
 use native.Mathlib.Omega.{arith}
 use native.Mathlib.Numerals.{add-one}
 use lib.Dec.{ltb}
-use lib.ListN.{length, getD, take, drop, set}
+use lib.ListN.{length, getD, take, drop, set, length-set}
 use lib.Seq.{length-take-le, take-suc-set, take-nil}
 use borrow.Author.Tests.{lt-ltb, le-ltb, ltb-true}
 use Rattle.laws.proofs.Tests.{cond-has}
@@ -51,7 +51,8 @@ module _ (key : List ℕ) (bound : ℕ) (line : List ℕ) (rest : List (List ℕ
 
 -- one line more, as entries are due or not
 module _ (key : List ℕ) (bound : ℕ) (got line : List ℕ) (rest : List (List ℕ)) where
-  pub line-right : (due v : ℕ) → entryIn key bound line ≡ some v → readEntries key bound got (suc due) (line ∷ rest) ≡ readEntries key bound (got ++ (v ∷ [])) due rest
+  pub line-right : (due v : ℕ) → entryIn key bound line ≡ some v
+      → readEntries key bound got (suc due) (line ∷ rest) ≡ readEntries key bound (got ++ (v ∷ [])) due rest
   unfolding readEntries
   line-right due v e = rw (e, readEntries)
 
@@ -60,10 +61,14 @@ module _ (key : List ℕ) (bound : ℕ) (got line : List ℕ) (rest : List (List
   line-wrong due e = rw (e, readEntries)
 
 -- n of the entries were read, the list's front holds them, and the text goes on at place i
-module _ (key : List ℕ) (bound : ℕ) (o : PlanOutcome) (text entries : List ℕ) (count n i : ℕ) (few : n ≤ count) (room : count ≤ length entries)
-    (so-far : o ≡ readEntries key bound (take n entries) (count - n) (lines (drop i text))) where
+pub record SoFar (key : List ℕ) (bound : ℕ) (o : PlanOutcome) (text entries : List ℕ) (count n i : ℕ) : Type 0 where
+  pub few : n ≤ count
+  pub room : count ≤ length entries
+  pub goes : o ≡ readEntries key bound (take n entries) (count - n) (lines (drop i text))
+
+module _ {key : List ℕ} {bound : ℕ} {o : PlanOutcome} {text entries : List ℕ} {count n i : ℕ} (p : SoFar key bound o text entries count n i) where
   place : refused (length (take n entries) + 2) ≡ refused (n + 2)
-  place = ap (λ k. refused (k + 2)) (length-take-le n entries (omega arith))
+  place = ap (λ k. refused (k + 2)) (length-take-le n entries (omega (arith, p .few, p .room)))
 
   abbrev from : ℕ → List (List ℕ) → PlanOutcome
   from due ls = readEntries key bound (take n entries) due ls
@@ -75,24 +80,27 @@ module _ (key : List ℕ) (bound : ℕ) (o : PlanOutcome) (text entries : List �
   some-due h ls = let d : count - n ≡ suc (count - (n + 1)) = omega arith in ap (λ k. from k ls) d
 
   -- its first line ends at e
-  module _ (e : ℕ) (within : i < length text) (line-end : e ≡ i + lineLength (drop i text)) where
+  module _ {e : ℕ} (within : i < length text) (line-end : e ≡ i + lineLength (drop i text)) where
     first : o ≡ from (count - n) (take (e - i) (drop i text) ∷ lines (drop e text))
-    first = so-far ∙ ap (from (count - n)) (lines-at text i e within line-end)
+    first = p .goes ∙ ap (from (count - n)) (lines-at text i e within line-end)
 
-    pub entry-more : (v : ℕ) → n < count → entryIn key bound (take (e - i) (drop i text)) ≡ some v
-        → o ≡ readEntries key bound (take (n + 1) (set entries n v)) (count - (n + 1)) (lines (drop e text))
-    entry-more v h g = first ∙ some-due h _ ∙ line-right key bound (take n entries) _ _ _ v g ∙ rw (add-one n, take-suc-set entries n v (omega arith))
+    pub entry-more : (v : ℕ) → n < count → entryIn key bound (take (e - i) (drop i text)) ≡ some v → SoFar key bound o text (set entries n v) count (n + 1) e
+    entry-more v h g = record {
+      few = omega arith;
+      room = simp length-set (p .room);
+      goes = first ∙ some-due h _ ∙ line-right key bound (take n entries) _ _ _ v g ∙ rw (add-one n, take-suc-set entries n v (omega (arith, p .room)));
+    }
 
     pub entry-wrong : n < count → entryIn key bound (take (e - i) (drop i text)) ≡ none → o ≡ refused (n + 2)
     entry-wrong h g = first ∙ some-due h _ ∙ line-wrong key bound (take n entries) _ _ _ g ∙ place
 
   pub entry-extra : i < length text → n ≡ count → o ≡ refused (count + 2)
   unfolding readEntries
-  entry-extra h g = first _ h refl ∙ none-due (omega arith) _ ∙ place ∙ ap (λ k. refused (k + 2)) g
+  entry-extra h g = first h refl ∙ none-due (omega arith) _ ∙ place ∙ ap (λ k. refused (k + 2)) g
 
   -- it has no more lines
   ended : length text ≤ i → o ≡ from (count - n) []
-  ended h = so-far ∙ ap (from (count - n)) (lines-past text i h)
+  ended h = p .goes ∙ ap (from (count - n)) (lines-past text i h)
 
   pub entry-missing : length text ≤ i → n < count → o ≡ refused (n + 2)
   unfolding readEntries

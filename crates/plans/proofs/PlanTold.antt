@@ -2,7 +2,7 @@
 -- Assumes nothing.
 use Prim.Native.Nat.{ℕ, zero, suc, _+_, _≤_, _<_}
 use mathlib.Core.Path.{_≡_, refl, sym, _∙_, ap}
-use mathlib.Core.List.{List, [], _∷_, _++_, map, map-append, flatten, append-assoc, append-nil}
+use mathlib.Core.List.{List, [], _∷_, _++_, map-append, flatten, append-assoc, append-nil}
 use mathlib.Core.Option.{Option, none, some}
 use native.Mathlib.Omega.{arith}
 use lib.ListN.{length, getD, length-append}
@@ -13,7 +13,7 @@ use Rattle.text.specs.Lines.{lines}
 use Rattle.text.specs.Written.{lineText}
 use Rattle.text.proofs.LineLaws.{flatten-lines}
 use Rattle.text.proofs.LineText.{line-sound}
-use Rattle.plans.specs.PlanText.{listed, refused, entryIn, readEntries, readLines, readPlan, planText}
+use Rattle.plans.specs.PlanText.{listed, refused, entryIn, readEntries, readLines, readPlan, entryLines, planText}
 use Rattle.plans.proofs.PlanLaws.{countIn, count-right, count-wrong, line-right, line-wrong, entry-number}
 
 not-listed : {A : Type 0} (line : ℕ) (es : List ℕ) → refused line ≡ listed es → A
@@ -24,31 +24,30 @@ entry-text : (key line : List ℕ) (limit v : ℕ) → entryIn key limit line �
 entry-text key line limit v e = line-sound key 1 (v ∷ []) line (entry-number key line limit v e .1) .1
 
 -- each entry is below the bound
-abbrev Below : ℕ → List ℕ → Type 0
+abbrev pub Below : ℕ → List ℕ → Type 0
 Below bound es = (i : ℕ) → i < length es → getD es i 0 < bound
 
 module _ (key : List ℕ) (bound : ℕ) where
-  abbrev entryLines : List ℕ → List (List ℕ)
-  entryLines es = map (λ e. lineText key (e ∷ [])) es
-
   module _ (es : List ℕ) where
     -- what was read before the lines, and the lines, are all of the entries
     record Whole (got : List ℕ) (due : ℕ) (ls : List (List ℕ)) : Type 0 where
       count : length got + due ≡ length es
-      lines : entryLines got ++ ls ≡ entryLines es
+      lines : entryLines key got ++ ls ≡ entryLines key es
       below : Below bound es
 
     abbrev Reads : List ℕ → ℕ → List (List ℕ) → Type 0
     Reads got due ls = Below bound got → readEntries key bound got due ls ≡ listed es → Whole got due ls
 
-    whole-by : (got : List ℕ) (due : ℕ) (line : List ℕ) (ls : List (List ℕ)) (o : Option ℕ) → entryIn key bound line ≡ o → ((v : ℕ) → Reads (got ++ (v ∷ [])) due ls)
+    whole-by : (got : List ℕ) (due : ℕ) (line : List ℕ) (ls : List (List ℕ)) (o : Option ℕ) → entryIn key bound line ≡ o
+        → ((v : ℕ) → Reads (got ++ (v ∷ [])) due ls)
         → Reads got (suc due) (line ∷ ls)
     whole-by got due line ls none h f b e = not-listed _ es (sym (line-wrong key bound got line ls due h) ∙ e)
     whole-by got due line ls (some v) h f b e =
         let w = f v (every-more 0 (λ i x. x < bound) got v b (entry-number key line bound v h .0)) (sym (line-right key bound got line ls due v h) ∙ e) in
         record {
           count = omega (arith, w .count, length-append got (v ∷ []));
-          lines = ap (λ l. entryLines got ++ (l ∷ ls)) (entry-text key line bound v h) ∙ sym (append-assoc (entryLines got) (lineText key (v ∷ []) ∷ []) ls)
+          lines = ap (λ l. entryLines key got ++ (l ∷ ls)) (entry-text key line bound v h)
+              ∙ sym (append-assoc (entryLines key got) (lineText key (v ∷ []) ∷ []) ls)
               ∙ ap (λ q. q ++ ls) (sym (map-append (λ x. lineText key (x ∷ [])) got (v ∷ []))) ∙ w .lines;
           below = w .below;
         }
@@ -57,7 +56,7 @@ module _ (key : List ℕ) (bound : ℕ) where
     unfolding readEntries
     whole [] zero got b e =
         let g : got ≡ es = cc in
-        record { count = omega (arith, ap length g); lines = append-nil (entryLines got) ∙ ap (λ q. entryLines q) g; below = rw g at b }
+        record { count = omega (arith, ap length g); lines = append-nil (entryLines key got) ∙ ap (λ q. entryLines key q) g; below = rw g at b }
     whole [] (suc due) got b e = not-listed _ es e
     whole (line ∷ ls) zero got b e = not-listed _ es e
     whole (line ∷ ls) (suc due) got b e = whole-by got due line ls (entryIn key bound line) refl (λ v. whole ls due (got ++ (v ∷ []))) b e

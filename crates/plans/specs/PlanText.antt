@@ -28,7 +28,8 @@ below limit (some l) = cond (ltb (getD l 0 0) limit) (some (getD l 0 0)) none
 unfoldable pub entryIn : List ℕ → ℕ → List ℕ → Option ℕ
 entryIn key limit line = below limit (numbers 1 (valueOf key line))
 
--- the lines after the first: the entries read so far, and how many are due. "A missing line's place is one past the last."
+-- the lines after the first: the entries read so far, and how many are due. "A missing line's place
+-- is one past the last."
 unfoldable pub readEntries : List ℕ → ℕ → List ℕ → ℕ → List (List ℕ) → PlanOutcome
 readEntries key bound got zero [] = listed got
 readEntries key bound got (suc due) [] = refused (length got + 2)
@@ -57,8 +58,11 @@ abbrev pub stepKey : List ℕ
 stepKey = bytes "t"
 
 -- a plan as text
+abbrev pub entryLines : List ℕ → List ℕ → List (List ℕ)
+entryLines key es = map (λ e. lineText key (e ∷ [])) es
+
 abbrev pub planText : List ℕ → List ℕ → List ℕ
-planText key es = lineText (bytes "plan") (length es ∷ []) ++ flatten (map (λ e. lineText key (e ∷ [])) es)
+planText key es = lineText (bytes "plan") (length es ∷ []) ++ flatten (entryLines key es)
 
 -- what the reader's answer says, beside a list whose front then holds the entries
 abbrev pub planOf : PlanAnswer → List ℕ → PlanOutcome

@@ -72,7 +72,8 @@ fn read_entries(
     PlanAnswer::Read(n)
 }
 
-// Reads any bytes as a plan text whose entries come under this key and are below the bound. On a refusal nothing is said of the entries.
+// Reads any bytes as a plan text whose entries come under this key and are below the bound. On a
+// refusal nothing is said of the entries.
 pub fn read_plan(text: &[u8], key: &[u8], bound: u16, entries: &mut [u16]) -> PlanAnswer
     requires { ⌜ length (now entries) ≡ mostEntries ⌝ }
     ensures { λ r. ⌜ (planOf r (now (entries .exit)) ≡ readPlan (now (key .entry)) bound (now (text .entry))) × (entryCount r ≤ mostEntries) ⌝ }

@@ -1,140 +1,130 @@
--- A row that is written behind those of its sort is added to the job; what a state of reading stands for then.
+-- A line that is taken in: a row that is written behind those of its sort is added to the job, and
+-- what a state of reading stands for then.
 -- Assumes nothing.
-use Prim.Native.Nat.{ℕ, _+_, _-_, _*_, _<_}
+use Prim.Native.Nat.{ℕ, _*_, _<_}
 use mathlib.Core.Path.{_≡_, refl, _∙_, ap}
 use mathlib.Core.List.{List, [], _∷_}
 use native.Mathlib.Omega.{arith}
-use lib.ListN.{length, take, set, length-set}
+use lib.ListN.{length, set, length-set}
 use lib.Seq.{sets}
-use Rattle.limits.specs.Limits.{mostFormulas, mostMoves, mostEffects, mostProgram}
 use Rattle.job.specs.Job as J
-use Rattle.job.specs.Job.{formulaOf, moveOf, effectOf, rowOf, addFormula, addMove, addEffect, addRow}
-use Rattle.job.specs.Line.{formOf}
-use Rattle.job.specs.ReadJob.{Reading, on, taken, takenAt}
-use Rattle.job.specs.Store.{width, formulasFrom, movesFrom, effectsFrom, programFrom, storeSize, storedMove, jobOf, listOf, firstEffect}
+use Rattle.job.specs.Job.{formulaOf, moveOf, effectOf, rowOf}
+use Rattle.job.specs.ReadJob.{on, jobAfter, takenAt, taken}
+use Rattle.job.specs.Store.{width, formulasFrom, movesFrom, effectsFrom, programFrom, allRows, storeSize, storedMove, jobOf, listOf, firstEffect}
+use Rattle.job.specs.Stored.{Limited}
 use Rattle.job.specs.declared.head.Counts.{Counts}
 use Rattle.job.specs.declared.head.Head.{Head}
+use Rattle.job.specs.declared.line.Heading.{Heading}
+use Rattle.job.specs.declared.line.RowSort.{RowSort}
+use Rattle.job.specs.declared.line.RowSort.the-variants.{Formula, Move, Effect, Row}
 use Rattle.job.specs.declared.line.Line.{Line}
-use Rattle.job.specs.declared.line.Line.the-variants.{Job, Facts, Init, Formulas, Formula, Moves, Move, Effect, Goal, Program, Row, End}
+use Rattle.job.specs.declared.line.Line.the-variants.{Of}
 use Rattle.job.specs.declared.line.LineNumbers.{LineNumbers}
-use Rattle.job.proofs.StoredLaws.{Limited}
+use Rattle.job.proofs.FrontLaws.{line-front}
 use Rattle.job.proofs.StoreLaws.{rows-length, by-columns, put-behind, put-before, put-next}
-use Rattle.reader.specs.Reading.{readingOf}
+use Rattle.reader.specs.Reading.{readingOf, headAfter, placeOf, oneMore}
 use Rattle.reader.specs.Room.{Room}
-use Rattle.reader.specs.declared.reading.ReaderState.{ReaderState}
+use Rattle.reader.specs.declared.taking.ReaderState.{ReaderState}
 
-abbrev counted : Head → ℕ → ℕ → ℕ → ℕ → Head
-counted h f m e p = record {
-  counts = record { facts = h .counts .facts; formulas = f; moves = m; effects = e; program = p };
-  init = h .init;
-  goal = h .goal;
-}
+-- the head and the counts by the line that came
+pub head-is : (n : ℕ) (h : Head) {heading k : Heading} → heading ≡ k → headAfter k n h ≡ headAfter heading n h
+head-is n h e = rw e
 
--- a move's row, with the number of its first effect
-stored-move : (first : ℕ) (n : List ℕ) → length n ≡ width → storedMove (set n firstEffect first) ≡ moveOf first n
-stored-move first = by-columns (λ n. storedMove (set n firstEffect first) ≡ moveOf first n) (λ a b c d e f g h. refl)
+pub counts-are : (c : Counts) {sort k : RowSort} → sort ≡ k → oneMore k c ≡ oneMore sort c
+counts-are c e = rw e
+
+-- there are no more rows of a sort than it has room for, and where a row's line comes next there is
+-- room for it
+module _ {due effects : ℕ} {c : Counts} where
+  pub rows-within : {next : Line} → Room next due effects c → Limited c
+  rows-within h = record {
+    facts = h .facts;
+    formulas = omega (arith, h .fit .formulas);
+    moves = omega (arith, h .fit .moves);
+    effects = omega (arith, h .fit .effects);
+    program = omega (arith, h .fit .program);
+  }
+
+  pub place-within : (k : RowSort) → Room (Of k) due effects c → placeOf k c < allRows
+  place-within Formula h = omega (arith, h .fit .formulas)
+  place-within Move h = omega (arith, h .fit .moves, h .owed)
+  place-within Effect h = omega (arith, h .fit .effects, h .owed)
+  place-within Row h = omega (arith, h .fit .program, h .owed)
+
+-- the number behind a row's own says where a move's effects begin
+stored : {A : Type 0} (f g : List ℕ → A) (first : ℕ)
+    → ((a b c d p q x y : ℕ) → f (a ∷ b ∷ c ∷ d ∷ p ∷ q ∷ x ∷ first ∷ []) ≡ g (a ∷ b ∷ c ∷ d ∷ p ∷ q ∷ x ∷ y ∷ []))
+    → (n : List ℕ) → length n ≡ width → f (set n firstEffect first) ≡ g n
+stored f g first = by-columns (λ n. f (set n firstEffect first) ≡ g n)
 
 -- a row that is written behind those of its sort is added to the job
-module _ (h : Head) (l n : List ℕ) (len : length l ≡ storeSize) (eight : length n ≡ width) (room : Limited (h .counts)) where
-  abbrev with-row : ℕ → List ℕ → List ℕ
-  with-row i v = sets l (i * width) v
+module _ (h : Head) (l n : List ℕ) (len : length l ≡ storeSize) (eight : length n ≡ width) (due effects : ℕ) where
+  abbrev c : Counts
+  c = h .counts
 
-  pub formula-added : h .counts .formulas < mostFormulas
-      → jobOf (counted h (h .counts .formulas + 1) (h .counts .moves) (h .counts .effects) (h .counts .program)) (with-row (h .counts .formulas) n)
-      ≡ addFormula (jobOf h l) (formulaOf n)
-  formula-added g =
-      let i : ℕ = h .counts .formulas in
+  abbrev v : List ℕ
+  v = set n firstEffect (c .effects)
+
+  abbrev with-row : RowSort → J.Job
+  with-row k = jobOf (record { counts = oneMore k c; init = h .init; goal = h .goal }) (sets l (placeOf k c * width) v)
+
+  wide : length v ≡ width
+  wide = simp length-set eight
+
+  pub row-added : (k : RowSort) → Room (Of k) due effects c → with-row k ≡ jobAfter k (jobOf h l) n
+  row-added Formula room =
+      let i : ℕ = placeOf Formula c in
+      let w = rows-within room in
       rw (
-        put-next formulaOf l i n eight formulasFrom (h .counts .formulas) (omega arith) (omega arith),
-        put-before storedMove l i n eight movesFrom (h .counts .moves) (omega arith),
-        put-before effectOf l i n eight effectsFrom (h .counts .effects) (omega arith),
-        put-before rowOf l i n eight programFrom (h .counts .program) (omega arith),
+        put-next formulaOf l i v wide formulasFrom (c .formulas) (omega arith) (omega (arith, w .formulas)),
+        put-before storedMove l i v wide movesFrom (c .moves) (omega (arith, room .fit .formulas, room .owed)),
+        put-before effectOf l i v wide effectsFrom (c .effects) (omega (arith, w .formulas)),
+        put-before rowOf l i v wide programFrom (c .program) (omega (arith, w .formulas)),
+        stored formulaOf formulaOf (c .effects) (λ a b c d p q x y. refl) n eight,
       )
-
-  -- a move, whose effects begin behind all others
-  pub move-added : h .counts .moves < mostMoves
-      → jobOf (counted h (h .counts .formulas) (h .counts .moves + 1) (h .counts .effects) (h .counts .program))
-      (with-row (movesFrom + h .counts .moves) (set n firstEffect (h .counts .effects)))
-      ≡ addMove (jobOf h l) (moveOf (length (jobOf h l .effects)) n)
-  move-added g =
-      let i : ℕ = movesFrom + h .counts .moves in
-      let v : List ℕ = set n firstEffect (h .counts .effects) in
-      let w : length v ≡ width = simp length-set eight in
+  row-added Move room =
+      let i : ℕ = placeOf Move c in
+      let w = rows-within room in
       rw (
-        put-behind formulaOf l i v w formulasFrom (h .counts .formulas) (omega arith),
-        put-next storedMove l i v w movesFrom (h .counts .moves) (omega arith) (omega arith),
-        put-before effectOf l i v w effectsFrom (h .counts .effects) (omega arith),
-        put-before rowOf l i v w programFrom (h .counts .program) (omega arith),
-        rows-length effectOf l effectsFrom (h .counts .effects),
-        stored-move (h .counts .effects) n eight,
+        put-behind formulaOf l i v wide formulasFrom (c .formulas) (omega (arith, w .formulas)),
+        put-next storedMove l i v wide movesFrom (c .moves) (omega arith) (omega (arith, w .moves)),
+        put-before effectOf l i v wide effectsFrom (c .effects) (omega (arith, room .fit .moves, room .owed)),
+        put-before rowOf l i v wide programFrom (c .program) (omega (arith, w .moves)),
+        rows-length effectOf l effectsFrom (c .effects),
+        stored storedMove (moveOf (c .effects)) (c .effects) (λ a b c d p q x y. refl) n eight,
       )
-
-  pub effect-added : h .counts .effects < mostEffects
-      → jobOf (counted h (h .counts .formulas) (h .counts .moves) (h .counts .effects + 1) (h .counts .program)) (with-row (effectsFrom + h .counts .effects) n)
-      ≡ addEffect (jobOf h l) (effectOf n)
-  effect-added g =
-      let i : ℕ = effectsFrom + h .counts .effects in
+  row-added Effect room =
+      let i : ℕ = placeOf Effect c in
+      let w = rows-within room in
       rw (
-        put-behind formulaOf l i n eight formulasFrom (h .counts .formulas) (omega arith),
-        put-behind storedMove l i n eight movesFrom (h .counts .moves) (omega arith),
-        put-next effectOf l i n eight effectsFrom (h .counts .effects) (omega arith) (omega arith),
-        put-before rowOf l i n eight programFrom (h .counts .program) (omega arith),
+        put-behind formulaOf l i v wide formulasFrom (c .formulas) (omega (arith, w .formulas)),
+        put-behind storedMove l i v wide movesFrom (c .moves) (omega (arith, w .moves)),
+        put-next effectOf l i v wide effectsFrom (c .effects) (omega arith) (omega (arith, w .effects)),
+        put-before rowOf l i v wide programFrom (c .program) (omega (arith, room .fit .effects, room .owed)),
+        stored effectOf effectOf (c .effects) (λ a b c d p q x y. refl) n eight,
       )
-
-  pub row-added : h .counts .program < mostProgram
-      → jobOf (counted h (h .counts .formulas) (h .counts .moves) (h .counts .effects) (h .counts .program + 1)) (with-row (programFrom + h .counts .program) n)
-      ≡ addRow (jobOf h l) (rowOf n)
-  row-added g =
-      let i : ℕ = programFrom + h .counts .program in
+  row-added Row room =
+      let i : ℕ = placeOf Row c in
+      let w = rows-within room in
       rw (
-        put-behind formulaOf l i n eight formulasFrom (h .counts .formulas) (omega arith),
-        put-behind storedMove l i n eight movesFrom (h .counts .moves) (omega arith),
-        put-behind effectOf l i n eight effectsFrom (h .counts .effects) (omega arith),
-        put-next rowOf l i n eight programFrom (h .counts .program) (omega arith) (omega arith),
+        put-behind formulaOf l i v wide formulasFrom (c .formulas) (omega (arith, w .formulas)),
+        put-behind storedMove l i v wide movesFrom (c .moves) (omega (arith, w .moves)),
+        put-behind effectOf l i v wide effectsFrom (c .effects) (omega (arith, w .effects)),
+        put-next rowOf l i v wide programFrom (c .program) (omega arith) (omega (arith, room .fit .program, room .owed)),
+        stored rowOf rowOf (c .effects) (λ a b c d p q x y. refl) n eight,
       )
 
 -- what a state stands for, by its parts
-pub reading-of : {r : ReaderState} {t : List ℕ} (next : Line) (due effects : ℕ) (h : Head) (u : List ℕ) (n : Line) (g : Head) (j : J.Job)
-    → r ≡ record { next = next; due = due; effects = effects; head = h } → t ≡ u → next ≡ n → h ≡ g → jobOf g u ≡ j → readingOf r t ≡ on n due effects j
-reading-of next due effects h u n g j e f d b k = rw (e, f, d, b) (ap (on n due effects) k)
+pub reading-of : {s : ReaderState} {t : List ℕ} (next : Line) (due effects : ℕ) (h : Head) (u : List ℕ) (after : ℕ → ℕ → Line) (d e : ℕ) (g : Head) (j : J.Job)
+    → s ≡ record { next = next; due = due; effects = effects; head = h } → t ≡ u → next ≡ after due effects → due ≡ d → effects ≡ e → h ≡ g
+    → jobOf g u ≡ j → readingOf s t ≡ on (after d e) d e j
+reading-of next due effects h u after d e g j state rows line a b head job = rw (state, rows, line, a, b, head) (ap (on (after d e) d e) job)
 
--- taking a line in looks at no more numbers than a line of its sort has
-module _ (s : Reading) where
-  abbrev Front : Line → List ℕ → Type 0
-  Front k n = takenAt k s (take (formOf k .width) n) ≡ takenAt k s n
-
-  front : (k : Line) (x₀ x₁ x₂ x₃ x₄ x₅ x₆ x₇ : ℕ) → Front k (x₀ ∷ x₁ ∷ x₂ ∷ x₃ ∷ x₄ ∷ x₅ ∷ x₆ ∷ x₇ ∷ [])
-  front Job x₀ x₁ x₂ x₃ x₄ x₅ x₆ x₇ = refl
-  front Facts x₀ x₁ x₂ x₃ x₄ x₅ x₆ x₇ = refl
-  front Init x₀ x₁ x₂ x₃ x₄ x₅ x₆ x₇ = refl
-  front Formulas x₀ x₁ x₂ x₃ x₄ x₅ x₆ x₇ = refl
-  front Formula x₀ x₁ x₂ x₃ x₄ x₅ x₆ x₇ = refl
-  front Moves x₀ x₁ x₂ x₃ x₄ x₅ x₆ x₇ = refl
-  front Move x₀ x₁ x₂ x₃ x₄ x₅ x₆ x₇ = refl
-  front Effect x₀ x₁ x₂ x₃ x₄ x₅ x₆ x₇ = refl
-  front Goal x₀ x₁ x₂ x₃ x₄ x₅ x₆ x₇ = refl
-  front Program x₀ x₁ x₂ x₃ x₄ x₅ x₆ x₇ = refl
-  front Row x₀ x₁ x₂ x₃ x₄ x₅ x₆ x₇ = refl
-  front End x₀ x₁ x₂ x₃ x₄ x₅ x₆ x₇ = refl
-
-  taken-front : (k : Line) (n : List ℕ) → length n ≡ width → Front k n
-  taken-front k = by-columns (Front k) (front k)
-
--- a line taken in, by the sort that came next
+-- a line taken in, by which came next
 module _ (s : ReaderState) (l : List ℕ) (r : LineNumbers) (k : Line) (e : s .next ≡ k) where
   pub taken-of : length (r .numbers) ≡ width → taken (readingOf s l) (listOf (s .next) r) ≡ takenAt k (readingOf s l) (r .numbers)
   unfolding taken
-  taken-of h = ap (λ q. takenAt q (readingOf s l) (listOf q r)) e ∙ taken-front (readingOf s l) k (r .numbers) h
+  taken-of h = ap (λ q. takenAt q (readingOf s l) (listOf q r)) e ∙ line-front (s .head .counts) (readingOf s l) k (r .numbers) h .1
 
   pub room-of : {c : Counts} → Room (s .next) (s .due) (s .effects) c → Room k (s .due) (s .effects) c
   room-of h = rw e at h
-
--- there are no more rows of a sort than it has room for
-pub rows-within : {next : Line} {due effects : ℕ} {c : Counts} → Room next due effects c → Limited c
-rows-within h = record {
-  facts = h .facts;
-  formulas = omega (arith, h .formulas);
-  moves = omega (arith, h .moves);
-  effects = omega (arith, h .effects-room);
-  program = omega (arith, h .program);
-}

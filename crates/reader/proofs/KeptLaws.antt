@@ -2,42 +2,52 @@
 -- Assumes nothing.
 use Prim.Native.Nat.{ℕ, _+_, _-_, _<_}
 use mathlib.Core.Path.{_≡_, refl, sym, _∙_, subst}
-use mathlib.Core.Bool.{cond, _&&_}
+use mathlib.Core.Bool.{_&&_}
 use mathlib.Core.List.{List, [], _∷_, _++_}
 use native.Mathlib.Omega.{arith}
-use lib.Dec.{eqb, ltb, leb}
+use lib.Dec.{ltb, leb}
 use lib.ListN.{length, getD, length-append}
 use borrow.Author.Tests.{leb-true, ltb-true}
-use Rattle.laws.proofs.Tests.{never, and-left, and-right, cond-has}
+use Rattle.laws.proofs.Tests.{and-left, and-right}
 use Rattle.laws.proofs.Lists.{every-more}
 use Rattle.limits.specs.Limits.{lastClass, mostMoveEffects}
 use Rattle.job.specs.StateCount.{stateCount}
 use Rattle.job.specs.Job as J
 use Rattle.job.specs.Job.{countsOf, formulaOf, moveOf, effectOf, rowOf}
 use Rattle.job.specs.Fields.{Within, formulaFields, rowFields}
-use Rattle.job.specs.ReadJob.{Reading, begun, takenAt, taken}
+use Rattle.job.specs.ReadJob.{Reading, past, again, afterRow, begun, takenAt, taken}
 use Rattle.job.specs.WellFormed.{FormulaRows, MoveRows, MoveFits, Tiled, EffectRows, EffectFits, ProgramRows, WellFormed, beforeFormula, beforeRow}
 use Rattle.job.specs.declared.head.Counts.{Counts}
+use Rattle.job.specs.declared.line.Heading.{Heading}
+use Rattle.job.specs.declared.line.Heading.the-variants.{Job, Facts, Init, Formulas, Moves, Goal, Program}
+use Rattle.job.specs.declared.line.RowSort.{RowSort}
+use Rattle.job.specs.declared.line.RowSort.the-variants.{Formula, Move, Effect, Row}
 use Rattle.job.specs.declared.line.Line.{Line}
-use Rattle.job.specs.declared.line.Line.the-variants.{Job, Facts, Init, Formulas, Formula, Moves, Move, Effect, Goal, Program, Row, End}
+use Rattle.job.specs.declared.line.Line.the-variants.{One, Of, End}
 use Rattle.job.proofs.RowLaws.{within-true}
 use Rattle.reader.specs.Room.{Room}
-use Rattle.reader.proofs.RoomLaws.{Right, RoomOf, moves-has, taken-room}
+use Rattle.reader.proofs.RoomLaws.{Right, RoomOf, rows-has, taken-room}
 
 -- what is settled once a line has been read
+abbrev InitRight : J.Job → Type 0
+InitRight j = j .scalars .init < stateCount (j .scalars .facts)
+
+abbrev GoalRight : J.Job → Type 0
+GoalRight j = j .scalars .goal < length (j .formulas)
+
 abbrev Settled : Line → J.Job → Type 0
-Settled Job j = Unit {0}
-Settled Facts j = Unit {0}
-Settled Init j = Unit {0}
-Settled Formulas j = j .scalars .init < stateCount (j .scalars .facts)
-Settled Formula j = j .scalars .init < stateCount (j .scalars .facts)
-Settled Moves j = j .scalars .init < stateCount (j .scalars .facts)
-Settled Move j = j .scalars .init < stateCount (j .scalars .facts)
-Settled Effect j = j .scalars .init < stateCount (j .scalars .facts)
-Settled Goal j = j .scalars .init < stateCount (j .scalars .facts)
-Settled Program j = (j .scalars .init < stateCount (j .scalars .facts)) × (j .scalars .goal < length (j .formulas))
-Settled Row j = (j .scalars .init < stateCount (j .scalars .facts)) × (j .scalars .goal < length (j .formulas))
-Settled End j = (j .scalars .init < stateCount (j .scalars .facts)) × (j .scalars .goal < length (j .formulas)) × (0 < length (j .program))
+Settled (One Job) j = Unit {0}
+Settled (One Facts) j = Unit {0}
+Settled (One Init) j = Unit {0}
+Settled (One Formulas) j = InitRight j
+Settled (Of Formula) j = InitRight j
+Settled (One Moves) j = InitRight j
+Settled (Of Move) j = InitRight j
+Settled (Of Effect) j = InitRight j
+Settled (One Goal) j = InitRight j
+Settled (One Program) j = InitRight j × GoalRight j
+Settled (Of Row) j = InitRight j × GoalRight j
+Settled End j = InitRight j × GoalRight j × (0 < length (j .program))
 
 -- the rows so far are right, with so many effects of the last move still due
 pub record Fits (effects : ℕ) (j : J.Job) : Type 0 where
@@ -47,25 +57,10 @@ pub record Fits (effects : ℕ) (j : J.Job) : Type 0 where
   pub effect : EffectRows (j .scalars .facts) (length (j .formulas)) (j .effects)
   pub row : ProgramRows j (j .program)
 
--- no row is wrong where there is none
-module _ (j : J.Job) where
-  no-move : length (j .moves) ≡ 0 → MoveRows (length (j .formulas)) (j .moves)
-  no-move e i h = absurd (omega arith)
-
-  no-effect : length (j .effects) ≡ 0 → EffectRows (j .scalars .facts) (length (j .formulas)) (j .effects)
-  no-effect e i h = absurd (omega arith)
-
-  no-row : length (j .program) ≡ 0 → ProgramRows j (j .program)
-  no-row e i h = absurd (omega arith)
-
 -- one move more behind, with its effects to come
 tiled-more : (first last : ℕ) (ms : List J.Move) (m : J.Move) → Tiled first ms last → m .first ≡ last → Tiled first (ms ++ (m ∷ [])) (last + m .effects)
 tiled-more first last [] m t e = (e ∙ sym t, omega (arith, t))
 tiled-more first last (k ∷ ms) m t e = (t .0, tiled-more (first + k .effects) last ms m (t .1) e)
-
-tiled-none : (ms : List J.Move) (last : ℕ) → length ms ≡ 0 → last ≡ 0 → Tiled 0 ms last
-tiled-none [] last e h = sym h
-tiled-none (m ∷ ms) last e h = absurd (omega arith)
 
 module _ (s : Reading) (r : List ℕ) where
   abbrev j : J.Job
@@ -74,54 +69,72 @@ module _ (s : Reading) (r : List ℕ) where
   abbrev c : Counts
   c = countsOf j
 
-  fits-at : (k : Line) → Right k c r → Room k (s .due) (s .effects) c → Fits (s .effects) j → Fits (takenAt k s r .effects) (takenAt k s r .job)
-  fits-at Job x h f = f
-  fits-at Facts x h f =
-      let j′ : J.Job = takenAt Facts s r .job in
-      let a : length (j .formulas) ≡ 0 = omega (arith, h .formulas) in
-      let b : length (j .effects) ≡ 0 = omega (arith, h .effects-room) in
-      let d : length (j .program) ≡ 0 = omega (arith, h .program) in
-      record { formula = λ i h. absurd (omega arith); move = f .move; tiled = f .tiled; effect = no-effect j′ b; row = no-row j′ d }
-  fits-at Init x h f = record { formula = f .formula; move = f .move; tiled = f .tiled; effect = f .effect; row = f .row }
-  fits-at Formulas x h f = f
-  fits-at Formula x h f =
-      let a : 0 ≡ length (j .moves) = omega (arith, h .moves) in
-      let b : 0 ≡ length (j .effects) = omega (arith, h .effects-room) in
-      let d : 0 ≡ length (j .program) = omega (arith, h .program) in
-      let e : beforeFormula (j .scalars .facts) (length (j .formulas)) ≡ c = cc in
-      let j′ : J.Job = J.addFormula j (formulaOf r) in
+  -- a line of one number changes no row, and the number of facts only before the first
+  same-facts : (sc : J.Scalars) → sc .facts ≡ j .scalars .facts → Fits (s .effects) j → Fits (s .effects) (J.withScalars j sc)
+  same-facts sc e f = record {
+    formula = rw e (f .formula);
+    move = f .move;
+    tiled = f .tiled;
+    effect = rw e (f .effect);
+    row = rw e (f .row);
+  }
+
+  one-fits : (k : Heading) → Room (One k) (s .due) (s .effects) c → Fits (s .effects) j → Fits (s .effects) (takenAt (One k) s r .job)
+  one-fits Job h f = same-facts _ refl f
+  one-fits Facts h f =
+      let a : length (j .formulas) ≡ 0 = omega (arith, h .fit .formulas) in
+      let b : length (j .effects) ≡ 0 = omega (arith, h .fit .effects) in
+      let d : length (j .program) ≡ 0 = omega (arith, h .fit .program) in
       record {
-        formula = every-more (formulaOf []) (λ i f. Within (beforeFormula (j .scalars .facts) i) (getD formulaFields (f .kind) []) (f .a ∷ f .b ∷ [])) (j .formulas) (formulaOf r)
-            (f .formula) (rw e (within-true c (getD formulaFields (getD r 0 0) []) (getD r 1 0 ∷ getD r 2 0 ∷ []) (x .fields)));
-        move = no-move j′ (sym a);
+        formula = λ i g. absurd (omega arith);
+        move = f .move;
         tiled = f .tiled;
-        effect = no-effect j′ (sym b);
-        row = no-row j′ (sym d);
+        effect = λ i g. absurd (omega arith);
+        row = λ i g. absurd (omega arith);
       }
-  fits-at Moves x h f =
-      let a : length (j .moves) ≡ 0 = omega (arith, h .moves) in
-      let b : length (j .effects) + 0 ≡ 0 = omega (arith, h .effects-room) in
-      record { formula = f .formula; move = f .move; tiled = tiled-none (j .moves) _ a b; effect = f .effect; row = f .row }
-  fits-at Move x h f =
+  one-fits Init h f = same-facts _ refl f
+  one-fits Formulas h f = same-facts _ refl f
+  one-fits Moves h f = same-facts _ refl f
+  one-fits Goal h f = same-facts _ refl f
+  one-fits Program h f = same-facts _ refl f
+
+  row-fits : (k : RowSort) → Right (Of k) c r → Room (Of k) (s .due) (s .effects) c → Fits (s .effects) j
+      → Fits (takenAt (Of k) s r .effects) (takenAt (Of k) s r .job)
+  row-fits Formula x h f =
+      let a : 0 ≡ length (j .moves) = omega (arith, h .fit .moves) in
+      let b : 0 ≡ length (j .effects) = omega (arith, h .fit .effects) in
+      let d : 0 ≡ length (j .program) = omega (arith, h .fit .program) in
+      let e : beforeFormula (j .scalars .facts) (length (j .formulas)) ≡ c = cc in
+      record {
+        formula = every-more (formulaOf []) (λ i f. Within (beforeFormula (j .scalars .facts) i) (getD formulaFields (f .kind) []) (f .a ∷ f .b ∷ []))
+            (j .formulas) (formulaOf r)
+            (f .formula) (rw e (within-true c (getD formulaFields (getD r 0 0) []) (getD r 1 0 ∷ getD r 2 0 ∷ []) (x .1)));
+        move = λ i g. absurd (omega arith);
+        tiled = f .tiled;
+        effect = λ i g. absurd (omega arith);
+        row = λ i g. absurd (omega arith);
+      }
+  row-fits Move x h f =
       let m : J.Move = moveOf (length (j .effects)) r in
       let e : length (j .effects) + s .effects ≡ length (j .effects) = omega (arith, h .owed .1) in
-      let d : length (j .program) ≡ 0 = omega (arith, h .program) in
+      let d : length (j .program) ≡ 0 = omega (arith, h .fit .program) in
       record {
         formula = f .formula;
         move = every-more (moveOf 0 []) (λ i m. MoveFits (length (j .formulas)) m) (j .moves) m (f .move)
             (record {
-              pre = ltb-true (getD r 0 0) (c .formulas) (and-left (ltb (getD r 0 0) (c .formulas)) (leb (getD r 1 0) lastClass) (x .fields));
-              class = leb-true (getD r 1 0) lastClass (and-right (ltb (getD r 0 0) (c .formulas)) (leb (getD r 1 0) lastClass) (x .fields));
-              effects = leb-true (getD r 2 0) mostMoveEffects (x .range);
+              pre = ltb-true (getD r 0 0) (c .formulas) (and-left (ltb (getD r 0 0) (c .formulas)) (leb (getD r 1 0) lastClass) (x .1));
+              class = leb-true (getD r 1 0) lastClass (and-right (ltb (getD r 0 0) (c .formulas)) (leb (getD r 1 0) lastClass) (x .1));
+              effects = leb-true (getD r 2 0) mostMoveEffects (x .0);
             });
         tiled = tiled-more 0 (length (j .effects)) (j .moves) m (subst (Tiled 0 (j .moves)) e (f .tiled)) refl;
         effect = f .effect;
-        row = no-row (J.addMove j m) d;
+        row = λ i g. absurd (omega arith);
       }
-  fits-at Effect x h f =
-      let e : length (j .effects) + s .effects ≡ length (j .effects ++ (effectOf r ∷ [])) + (s .effects - 1) = omega (arith, h .owed, length-append (j .effects) (effectOf r ∷ [])) in
-      let d : length (j .program) ≡ 0 = omega (arith, h .program) in
-      let q = x .fields in
+  row-fits Effect x h f =
+      let e : length (j .effects) + s .effects ≡ length (j .effects ++ (effectOf r ∷ [])) + (s .effects - 1) = omega
+      (arith, h .owed, length-append (j .effects) (effectOf r ∷ [])) in
+      let d : length (j .program) ≡ 0 = omega (arith, h .fit .program) in
+      let q = x .1 in
       let q′ = and-right (ltb (getD r 0 0) (c .formulas)) (ltb (getD r 1 0) (c .facts) && leb (getD r 2 0) 1) q in
       record {
         formula = f .formula;
@@ -133,37 +146,42 @@ module _ (s : Reading) (r : List ℕ) where
               fact = ltb-true (getD r 1 0) (c .facts) (and-left (ltb (getD r 1 0) (c .facts)) _ q′);
               value = leb-true (getD r 2 0) 1 (and-right (ltb (getD r 1 0) (c .facts)) _ q′);
             });
-        row = no-row (J.addEffect j (effectOf r)) d;
+        row = λ i g. absurd (omega arith);
       }
-  fits-at Goal x h f = record { formula = f .formula; move = f .move; tiled = f .tiled; effect = f .effect; row = f .row }
-  fits-at Program x h f = f
-  fits-at Row x h f = record {
+  row-fits Row x h f = record {
     formula = f .formula;
     move = f .move;
     tiled = f .tiled;
     effect = f .effect;
     row = every-more (rowOf []) (λ i w. Within (beforeRow j i) (getD rowFields (w .kind) []) (w .a ∷ w .b ∷ w .c ∷ [])) (j .program) (rowOf r) (f .row)
-        (within-true c (getD rowFields (getD r 0 0) []) (getD r 1 0 ∷ getD r 2 0 ∷ getD r 3 0 ∷ []) (x .fields));
+        (within-true c (getD rowFields (getD r 0 0) []) (getD r 1 0 ∷ getD r 2 0 ∷ getD r 3 0 ∷ []) (x .1));
   }
+
+  fits-at : (k : Line) → Right k c r → Room k (s .due) (s .effects) c → Fits (s .effects) j → Fits (takenAt k s r .effects) (takenAt k s r .job)
+  fits-at (One k) x h f = one-fits k h f
+  fits-at (Of k) x h f = row-fits k x h f
   fits-at End x h f = f
 
+  -- what was settled stays so while rows come
+  settled-rows : (k : RowSort) (due effects : ℕ) (q : J.Job) → (due ≡ 0 → Settled (past k) q) → Settled (Of (again k)) q → InitRight q
+      → Settled (afterRow k due effects) q
+  settled-rows k due effects q f g h = rows-has (λ l. Settled l q) k due effects (λ y z. f z) (λ y z. g) (λ z. h)
+
   settled-at : (k : Line) → Right k c r → Settled k j → Settled (takenAt k s r .next) (takenAt k s r .job)
-  settled-at Job x f = tt
-  settled-at Facts x f = tt
-  settled-at Init x f = ltb-true _ _ (x .range)
-  settled-at Formulas x f = f
-  settled-at Formula x f = cond-has (λ k. Settled k (J.addFormula j (formulaOf r))) (eqb (s .due - 1) 0) Moves Formula (λ z. f) (λ z. f)
-  settled-at Moves x f = moves-has (λ k. Settled k j) (getD r 0 0) 0 (λ y z. f) (λ y z. f) (λ z. f)
-  settled-at Move x f =
-      moves-has (λ k. Settled k (takenAt Move s r .job)) (s .due - 1) (getD r 2 0) (λ y z. f) (λ y z. f) (λ z. f)
-  settled-at Effect x f =
-      moves-has (λ k. Settled k (takenAt Effect s r .job)) (s .due) (s .effects - 1) (λ y z. f) (λ y z. f) (λ z. f)
-  settled-at Goal x f = (f, ltb-true _ _ (x .fields))
-  settled-at Program x f = f
-  settled-at Row x f =
+  settled-at (One Job) x f = tt
+  settled-at (One Facts) x f = tt
+  settled-at (One Init) x f = x .1
+  settled-at (One Formulas) x f = settled-rows Formula (getD r 0 0) 0 (takenAt (One Formulas) s r .job) (λ z. f) f f
+  settled-at (Of Formula) x f = settled-rows Formula (s .due - 1) (s .effects) (takenAt (Of Formula) s r .job) (λ z. f) f f
+  settled-at (One Moves) x f = settled-rows Move (getD r 0 0) 0 (takenAt (One Moves) s r .job) (λ z. f) f f
+  settled-at (Of Move) x f = settled-rows Move (s .due - 1) (getD r 2 0) (takenAt (Of Move) s r .job) (λ z. f) f f
+  settled-at (Of Effect) x f = settled-rows Effect (s .due) (s .effects - 1) (takenAt (Of Effect) s r .job) (λ z. f) f f
+  settled-at (One Goal) x f = (f, x .1)
+  settled-at (One Program) x f = settled-rows Row (getD r 0 0) 0 (takenAt (One Program) s r .job) (λ z. absurd (omega (arith, x .0))) f (f .0)
+  settled-at (Of Row) x f =
       let l = length-append (j .program) (rowOf r ∷ []) in
-      cond-has (λ k. Settled k (J.addRow j (rowOf r))) (eqb (s .due - 1) 0) End Row (λ z. (f .0, f .1, omega (arith, l))) (λ z. f)
-  settled-at End x f = never (x .form)
+      settled-rows Row (s .due - 1) (s .effects) (takenAt (Of Row) s r .job) (λ z. (f .0, f .1, omega (arith, l))) f (f .0)
+  settled-at End x f = absurd x
 
 -- a state of reading whose rows are right
 pub record Kept (s : Reading) : Type 0 where
@@ -181,7 +199,11 @@ taken-kept s r x k = record {
 
 pub begun-kept : Kept begun
 begun-kept = record {
-  room = record { facts = omega arith; formulas = omega arith; moves = omega arith; effects-room = omega arith; program = omega arith; owed = tt };
+  room = record {
+    facts = omega arith;
+    fit = record { formulas = omega arith; moves = omega arith; effects = omega arith; program = omega arith };
+    owed = refl;
+  };
   fit = record {
     formula = λ i h. absurd (omega arith);
     move = λ i h. absurd (omega arith);
@@ -202,14 +224,14 @@ end-well-formed s k e =
       facts = h .facts;
       init = t .0;
       goal = t .1;
-      formulas = omega (arith, h .formulas);
+      formulas = omega (arith, h .fit .formulas);
       formula = k .fit .formula;
-      moves = omega (arith, h .moves);
+      moves = omega (arith, h .fit .moves);
       move = k .fit .move;
       tiled = subst (Tiled 0 (s .job .moves)) d (k .fit .tiled);
-      effects = omega (arith, h .effects-room);
+      effects = omega (arith, h .fit .effects);
       effect = k .fit .effect;
-      program = omega (arith, h .program);
+      program = omega (arith, h .fit .program);
       last = t .2;
       row = k .fit .row;
     }

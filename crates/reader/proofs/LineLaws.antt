@@ -1,37 +1,28 @@
 -- Laws of a line's numbers.
 -- Assumes nothing.
 use Prim.Native.Nat.{ℕ, _≤_}
-use mathlib.Core.Path.{_≡_, ap}
+use mathlib.Core.Path.{_≡_, refl, ap}
+use lib.ListN.{take}
 use mathlib.Core.Bool.{Bool, true, false}
 use mathlib.Core.List.{List}
 use mathlib.Core.Option.{some}
-use native.Mathlib.Omega.{arith}
-use Rattle.text.specs.Lines.{valueOf}
 use Rattle.text.specs.Progress.{answered}
+use Rattle.job.specs.Line as L
 use Rattle.job.specs.Line.{formOf}
-use Rattle.job.specs.Store.{width, listOf, numbersOf}
+use Rattle.job.specs.Store as S
+use Rattle.job.specs.Store.{listOf, numbersOf}
 use Rattle.job.specs.declared.line.Line.{Line}
-use Rattle.job.specs.declared.line.Line.the-variants.{Job, Facts, Init, Formulas, Formula, Moves, Move, Effect, Goal, Program, Row, End}
 use Rattle.job.specs.declared.line.LineNumbers.{LineNumbers}
+use Rattle.reader.specs.Form.{HasForm}
+use Rattle.reader.specs.declared.line.Form.{Form}
 
--- at most as many numbers as a row
-pub width-within : (next : Line) → formOf next .width ≤ width
-width-within Job = omega arith
-width-within Facts = omega arith
-width-within Init = omega arith
-width-within Formulas = omega arith
-width-within Formula = omega arith
-width-within Moves = omega arith
-width-within Move = omega arith
-width-within Effect = omega arith
-width-within Goal = omega arith
-width-within Program = omega arith
-width-within Row = omega arith
-width-within End = omega arith
+-- a form as its parts say it
+pub form-told : {f : Form} {form : L.Form} (width length : ℕ) (key : List ℕ) → f ≡ record { width = width; length = length; key = key }
+    → record { key = take length key; width = width } ≡ form → width ≤ S.width → length ≤ 8 → HasForm f form
+form-told width length key e h a b = rw (e, ← h) (record { wide = refl; narrow = a; short = b; front = refl })
 
--- the value after the key of the sort that comes next
-pub value-of : {next : Line} (k : Line) {v : List ℕ} (line : List ℕ) → next ≡ k → v ≡ valueOf (formOf k .key) line → v ≡ valueOf (formOf next .key) line
-value-of k line e h = rw e h
+pub form-next : {f : Form} {next : Line} (k : Line) → next ≡ k → HasForm f (formOf k) → HasForm f (formOf next)
+form-next k e h = rw e h
 
 -- the numbers of a line, as the fill answered
 module _ (next : Line) (r : LineNumbers) (out : List ℕ) where

@@ -22,13 +22,13 @@ use Rattle.job.specs.WellFormed.{WellFormed}
 use Rattle.job.specs.Stored.{Stored}
 use Rattle.job.specs.declared.head.Head.{Head}
 use Rattle.job.specs.declared.line.Line.{Line}
-use Rattle.job.specs.declared.line.Line.the-variants.{Job, Facts, Init, Formulas, Formula, Moves, Move, Effect, Goal, Program, Row, End}
+use Rattle.job.specs.declared.line.Line.the-variants.{One, Of, End}
 use Rattle.job.specs.declared.line.LineNumbers.{LineNumbers}
 use Rattle.job.proofs.FaultLaws.{right-formed}
 use Rattle.job.proofs.StoreLaws.{counts-of}
 use Rattle.reader.specs.Reading.{readingOf, outcomeOf}
 use Rattle.reader.specs.Room.{Room}
-use Rattle.reader.specs.declared.reading.ReaderState.{ReaderState}
+use Rattle.reader.specs.declared.taking.ReaderState.{ReaderState}
 use Rattle.reader.specs.declared.reading.Answer.the-variants.{Read}
 use Rattle.reader.proofs.RoomLaws.{Right, fault-right}
 use Rattle.reader.proofs.KeptLaws.{Kept, taken-kept, begun-kept, end-well-formed}
@@ -79,23 +79,15 @@ room-of s rows k = rw (counts-of (s .head) rows) at (k .room)
 
 -- the end, where a text is read
 end-is : (k : Line) → isEnd k ≡ true → k ≡ End
-end-is Job e = never e
-end-is Facts e = never e
-end-is Init e = never e
-end-is Formulas e = never e
-end-is Formula e = never e
-end-is Moves e = never e
-end-is Move e = never e
-end-is Effect e = never e
-end-is Goal e = never e
-end-is Program e = never e
-end-is Row e = never e
+end-is (One h) e = never e
+end-is (Of k) e = never e
 end-is End e = refl
 
 not-read : {A : Type 0} (a b m : ℕ) (j : J.Job) → refused a b ≡ read m j → A
 not-read a b m j e = let z : _≡_ {A = ℕ} 0 1 = cc in absurd (omega arith)
 
--- what holds at the end, and before a right line where it holds after it, holds wherever the text is read
+-- what holds at the end, and before a right line where it holds after it, holds wherever the text
+-- is read
 module _ (m : ℕ) (j : J.Job) (P : ℕ → Reading → List (List ℕ) → Type 0)
     (at-end : (s : Reading) → s .next ≡ End → s .job ≡ j → P m s [])
     (at-line : (n : ℕ) (s : Reading) (line r : List ℕ) (ls : List (List ℕ)) → lineNumbers (s .next) line ≡ some r → Right (s .next) (countsOf (s .job)) r

@@ -1,169 +1,154 @@
 -- A right line that is taken in leaves room for the rows that may still come.
 -- Assumes nothing.
-use Prim.Native.Nat.{ℕ, _+_, _-_, _*_, _≤_, _<_}
+use Prim.Native.Nat.{ℕ, _+_, _-_, _≤_, _<_}
 use mathlib.Core.Path.{_≡_, refl}
-use mathlib.Core.Bool.{Bool, true, false, cond, _&&_}
+use mathlib.Core.Bool.{Bool, true, false, cond}
 use mathlib.Core.List.{List, [], _∷_}
 use mathlib.Core.Option.{some}
 use native.Mathlib.Omega.{arith}
-use lib.Dec.{eqb, leb}
+use lib.Dec.{eqb, leb, ltb}
 use lib.ListN.{length, getD, length-append}
-use borrow.Author.Tests.{eqb-true, eqb-false, leb-true}
-use Rattle.laws.proofs.Tests.{never, and-left, and-right, cond-has}
+use borrow.Author.Tests.{eqb-true, eqb-false, leb-true, ltb-true}
+use Rattle.laws.proofs.Tests.{and-left, and-right, cond-has}
 use Rattle.limits.specs.Limits.{mostFacts, mostFormulas, mostMoves, mostMoveEffects, mostEffects, mostProgram}
-use Rattle.job.specs.Job as J
 use Rattle.job.specs.Job.{countsOf, formulaOf, moveOf, effectOf, rowOf}
-use Rattle.job.specs.Fault.{criteria, fault}
-use Rattle.job.specs.ReadJob.{Reading, afterMoves, takenAt, taken}
+use Rattle.job.specs.Fault.{rangeOf, isIn, criteria, reasonOf, fault}
+use Rattle.job.specs.ReadJob.{Reading, past, again, afterRow, jobAfter, takenAt, taken}
 use Rattle.job.specs.declared.head.Counts.{Counts}
+use Rattle.job.specs.declared.line.Heading.{Heading}
+use Rattle.job.specs.declared.line.Heading.the-variants.{Job, Facts, Init, Formulas, Moves, Goal, Program}
+use Rattle.job.specs.declared.line.RowSort.{RowSort}
+use Rattle.job.specs.declared.line.RowSort.the-variants.{Formula, Move, Effect, Row}
 use Rattle.job.specs.declared.line.Line.{Line}
-use Rattle.job.specs.declared.line.Line.the-variants.{Job, Facts, Init, Formulas, Formula, Moves, Move, Effect, Goal, Program, Row, End}
-use Rattle.reader.specs.Room.{Room}
+use Rattle.job.specs.declared.line.Line.the-variants.{One, Of, End}
+use Rattle.job.proofs.FaultLaws.{range-reason}
+use Rattle.reader.specs.Room.{Ahead, ahead, RoomFor, Due, Room}
 
 -- a line that no reason refuses
-pub record Right (k : Line) (c : Counts) (r : List ℕ) : Type 0 where
-  pub form : criteria k c r .form ≡ true
-  pub range : criteria k c r .range ≡ true
-  pub fields : criteria k c r .fields ≡ true
+abbrev pub Right : Line → Counts → List ℕ → Type 0
+Right (One h) c r = (rangeOf h c .from ≤ getD r 0 0) × (getD r 0 0 < rangeOf h c .below)
+Right (Of k) c r = (criteria k c r .range ≡ true) × (criteria k c r .fields ≡ true)
+Right End c r = ⊥
 
-right-by : (k : Line) (c : Counts) (r : List ℕ) (x y z : Bool) → criteria k c r .form ≡ x → criteria k c r .range ≡ y → criteria k c r .fields ≡ z
-    → _≡_ {A = ℕ} (cond x (cond y (cond z 0 3) 2) 1) 0 → Right k c r
-right-by k c r true true true e f g h = record { form = e; range = f; fields = g }
-right-by k c r true true false e f g h = absurd (omega arith)
-right-by k c r true false z e f g h = absurd (omega arith)
-right-by k c r false y z e f g h = absurd (omega arith)
+right-by : (x y : Bool) → _≡_ {A = ℕ} (cond x (cond y 0 3) 2) 0 → (x ≡ true) × (y ≡ true)
+right-by true true h = (refl, refl)
+right-by true false h = absurd (omega arith)
+right-by false y h = absurd (omega arith)
+
+reason-right : (k : Line) (c : Counts) (r : List ℕ) → reasonOf k c r ≡ 0 → Right k c r
+reason-right (One h) c r =
+    let n : ℕ = getD r 0 0 in
+    cond-has (λ (q : ℕ). q ≡ 0 → Right (One h) c r) (isIn (rangeOf h c) n) 0 (rangeOf h c .reason)
+    (λ b e. (
+      leb-true (rangeOf h c .from) n (and-left (leb (rangeOf h c .from) n) (ltb n (rangeOf h c .below)) b),
+      ltb-true n (rangeOf h c .below) (and-right (leb (rangeOf h c .from) n) (ltb n (rangeOf h c .below)) b),
+    ))
+    (λ b e. absurd (omega (arith, range-reason h c)))
+reason-right (Of k) c r = right-by (criteria k c r .range) (criteria k c r .fields)
+reason-right End c r = λ e. omega arith
 
 pub fault-right : (k : Line) (c : Counts) (r : List ℕ) → fault k c (some r) ≡ 0 → Right k c r
 unfolding fault
-fault-right k c r e = right-by k c r (criteria k c r .form) (criteria k c r .range) (criteria k c r .fields) refl refl refl e
+fault-right k c r e = reason-right k c r e
 
 abbrev pub RoomOf : Reading → Type 0
 RoomOf s = Room (s .next) (s .due) (s .effects) (countsOf (s .job))
 
-one-to : (n most : ℕ) → (leb 1 n && leb n most) ≡ true → (0 < n) × (n ≤ most)
-one-to n most e = (leb-true 1 n (and-left (leb 1 n) (leb n most) e), leb-true n most (and-right (leb 1 n) (leb n most) e))
+-- what comes after a row, or after the line that counts rows
+pub rows-has : (P : Line → Type 0) (k : RowSort) (due effects : ℕ) → (effects ≡ 0 → due ≡ 0 → P (past k)) → (effects ≡ 0 → (due ≡ 0 → ⊥) → P (Of (again k)))
+    → ((effects ≡ 0 → ⊥) → P (Of Effect)) → P (afterRow k due effects)
+rows-has P k due effects f g h = cond-has P (eqb effects 0) (cond (eqb due 0) (past k) (Of (again k))) (Of Effect)
+    (λ z. cond-has P (eqb due 0) (past k) (Of (again k)) (λ y. f (eqb-true effects 0 z) (eqb-true due 0 y)) (λ y. g (eqb-true effects 0 z) (eqb-false due 0 y)))
+    (λ z. h (eqb-false effects 0 z))
 
--- what comes after a move, an effect or the count of moves
-pub moves-has : (P : Line → Type 0) (m e : ℕ) → (e ≡ 0 → m ≡ 0 → P Goal) → (e ≡ 0 → (m ≡ 0 → ⊥) → P Move) → ((e ≡ 0 → ⊥) → P Effect) → P (afterMoves m e)
-moves-has P m e f g h = cond-has P (eqb e 0) (cond (eqb m 0) Goal Move) Effect
-    (λ z. cond-has P (eqb m 0) Goal Move (λ y. f (eqb-true e 0 z) (eqb-true m 0 y)) (λ y. g (eqb-true e 0 z) (eqb-false m 0 y)))
-    (λ z. h (eqb-false e 0 z))
+room-for : {a : Ahead} {c : Counts} → c .formulas + a .formulas ≤ mostFormulas → c .moves + a .moves ≤ mostMoves → c .effects + a .effects ≤ mostEffects
+    → c .program + a .program ≤ mostProgram → RoomFor a c
+room-for f m e p = record { formulas = f; moves = m; effects = e; program = p }
 
-moves-room : (c : Counts) (m e : ℕ) → c .facts ≤ mostFacts → c .formulas ≤ mostFormulas → c .moves + m ≤ mostMoves
-    → c .effects + (e + mostMoveEffects * m) ≤ mostEffects → c .program + mostProgram ≤ mostProgram → Room (afterMoves m e) m e c
-moves-room c m e h f a b p = moves-has (λ k. Room k m e c) m e
-    (λ y z. record { facts = h; formulas = omega arith; moves = omega arith; effects-room = omega arith; program = p; owed = y })
-    (λ y z. record { facts = h; formulas = omega arith; moves = a; effects-room = omega arith; program = p; owed = (omega (arith, z), y) })
-    (λ z. record { facts = h; formulas = omega arith; moves = a; effects-room = b; program = p; owed = omega (arith, z) })
+module _ (due effects : ℕ) (c : Counts) where
+  moves-past : RoomFor (ahead (Of Move) due effects) c → RoomFor (ahead (One Goal) due effects) c
+  moves-past f = room-for (f .formulas) (omega (arith, f .moves)) (omega (arith, f .effects)) (f .program)
+
+  past-fit : (k : RowSort) → RoomFor (ahead (Of (again k)) due effects) c → RoomFor (ahead (past k) due effects) c
+  past-fit Formula f = room-for (omega (arith, f .formulas)) (f .moves) (f .effects) (f .program)
+  past-fit Move f = moves-past f
+  past-fit Effect f = moves-past f
+  past-fit Row f = room-for (f .formulas) (f .moves) (f .effects) (omega (arith, f .program))
+
+  past-due : (k : RowSort) → effects ≡ 0 → Due (past k) due effects
+  past-due Formula e = e
+  past-due Move e = e
+  past-due Effect e = e
+  past-due Row e = e
+
+  again-due : (k : RowSort) → (0 < due) × (effects ≡ 0) → Due (Of (again k)) due effects
+  again-due Formula h = h
+  again-due Move h = h
+  again-due Effect h = h
+  again-due Row h = h
+
+  rows-room : (k : RowSort) → c .facts ≤ mostFacts → RoomFor (ahead (Of (again k)) due effects) c
+      → ((effects ≡ 0 → ⊥) → RoomFor (ahead (Of Effect) due effects) c)
+      → Room (afterRow k due effects) due effects c
+  rows-room k h f g = rows-has (λ l. Room l due effects c) k due effects
+      (λ y z. record { facts = h; fit = past-fit k f; owed = past-due k y })
+      (λ y z. record { facts = h; fit = f; owed = again-due k (omega (arith, z), y) })
+      (λ z. record { facts = h; fit = g z; owed = omega (arith, z) })
 
 module _ (s : Reading) (r : List ℕ) where
   abbrev c : Counts
   c = countsOf (s .job)
 
-  room-at : (k : Line) → Right k c r → Room k (s .due) (s .effects) c → RoomOf (takenAt k s r)
-  room-at Job x h = record {
-    facts = h .facts;
-    formulas = h .formulas;
-    moves = h .moves;
-    effects-room = h .effects-room;
-    program = h .program;
-    owed = tt;
-  }
-  room-at Facts x h = record {
-    facts = leb-true (getD r 0 0) mostFacts (x .range);
-    formulas = h .formulas;
-    moves = h .moves;
-    effects-room = h .effects-room;
-    program = h .program;
-    owed = tt;
-  }
-  room-at Init x h = record {
-    facts = h .facts;
-    formulas = h .formulas;
-    moves = h .moves;
-    effects-room = h .effects-room;
-    program = h .program;
-    owed = tt;
-  }
-  room-at Formulas x h =
-      let n = one-to (getD r 0 0) mostFormulas (x .range) in
-      record {
-        facts = h .facts;
-        formulas = omega (arith, h .formulas, n .1);
-        moves = h .moves;
-        effects-room = h .effects-room;
-        program = h .program;
-        owed = n .0;
-      }
-  room-at Formula x h =
-      let l = length-append (s .job .formulas) (formulaOf r ∷ []) in
-      cond-has (λ k. Room k (s .due - 1) (s .effects) (countsOf (J.addFormula (s .job) (formulaOf r)))) (eqb (s .due - 1) 0) Moves Formula
-      (λ z. record {
-        facts = h .facts;
-        formulas = omega (arith, h .formulas, h .owed, l);
-        moves = h .moves;
-        effects-room = h .effects-room;
-        program = h .program;
-        owed = tt;
-      })
-      (λ z. record {
-        facts = h .facts;
-        formulas = omega (arith, h .formulas, h .owed, l);
-        moves = h .moves;
-        effects-room = h .effects-room;
-        program = h .program;
-        owed = omega (arith, eqb-false (s .due - 1) 0 z);
-      })
-  room-at Moves x h =
-      let n = leb-true (getD r 0 0) mostMoves (x .range) in
-      moves-room c (getD r 0 0) 0 (h .facts) (omega (arith, h .formulas)) (omega (arith, h .moves)) (omega (arith, h .effects-room)) (h .program)
-  room-at Move x h =
-      let l = length-append (s .job .moves) (moveOf (length (s .job .effects)) r ∷ []) in
-      let n = leb-true (getD r 2 0) mostMoveEffects (x .range) in
-      moves-room (countsOf (J.addMove (s .job) (moveOf (length (s .job .effects)) r))) (s .due - 1) (getD r 2 0) (h .facts)
-      (omega (arith, h .formulas)) (omega (arith, h .moves, h .owed .0, l)) (omega (arith, h .effects-room, h .owed .0)) (h .program)
-  room-at Effect x h =
-      let l = length-append (s .job .effects) (effectOf r ∷ []) in
-      moves-room (countsOf (J.addEffect (s .job) (effectOf r))) (s .due) (s .effects - 1) (h .facts)
-      (omega (arith, h .formulas)) (h .moves) (omega (arith, h .effects-room, h .owed, l)) (h .program)
-  room-at Goal x h = record {
-    facts = h .facts;
-    formulas = h .formulas;
-    moves = h .moves;
-    effects-room = h .effects-room;
-    program = h .program;
+  abbrev n : ℕ
+  n = getD r 0 0
+
+  one-room : (h : Heading) → Right (One h) c r → Room (One h) (s .due) (s .effects) c → RoomOf (takenAt (One h) s r)
+  one-room Job x h = record { facts = h .facts; fit = h .fit; owed = h .owed }
+  one-room Facts x h = record {
+    facts = omega (arith, x .1);
+    fit = room-for (h .fit .formulas) (h .fit .moves) (h .fit .effects) (h .fit .program);
     owed = h .owed;
   }
-  room-at Program x h =
-      let n = one-to (getD r 0 0) mostProgram (x .range) in
-      record {
-        facts = h .facts;
-        formulas = h .formulas;
-        moves = h .moves;
-        effects-room = h .effects-room;
-        program = omega (arith, h .program, n .1);
-        owed = (n .0, h .owed);
-      }
-  room-at Row x h =
+  one-room Init x h = record { facts = h .facts; fit = h .fit; owed = h .owed }
+  one-room Formulas x h =
+      let f : RoomFor (ahead (Of Formula) n 0) c = room-for (omega (arith, h .fit .formulas, x .1)) (h .fit .moves) (h .fit .effects) (h .fit .program) in
+      rw (h .owed) (rows-room n 0 c Formula (h .facts) f (λ z. absurd (z refl)))
+  one-room Moves x h =
+      let f : RoomFor (ahead (Of Move) n 0) c = room-for (h .fit .formulas) (omega (arith, h .fit .moves, x .1)) (omega (arith, h .fit .effects, x .1))
+      (h .fit .program) in
+      rw (h .owed) (rows-room n 0 c Move (h .facts) f (λ z. absurd (z refl)))
+  one-room Goal x h = record { facts = h .facts; fit = h .fit; owed = h .owed }
+  one-room Program x h =
+      let f : RoomFor (ahead (Of Row) n 0) c = room-for (h .fit .formulas) (h .fit .moves) (h .fit .effects) (omega (arith, h .fit .program, x .1)) in
+      rw (h .owed) (rows-room n 0 c Row (h .facts) f (λ z. absurd (z refl)))
+
+  row-room : (k : RowSort) → Right (Of k) c r → Room (Of k) (s .due) (s .effects) c → RoomOf (takenAt (Of k) s r)
+  row-room Formula x h =
+      let l = length-append (s .job .formulas) (formulaOf r ∷ []) in
+      rows-room (s .due - 1) (s .effects) (countsOf (jobAfter Formula (s .job) r)) Formula (h .facts)
+      (room-for (omega (arith, h .fit .formulas, h .owed .0, l)) (h .fit .moves) (h .fit .effects) (h .fit .program))
+      (λ z. absurd (z (h .owed .1)))
+  row-room Move x h =
+      let l = length-append (s .job .moves) (moveOf (length (s .job .effects)) r ∷ []) in
+      let n = leb-true (getD r 2 0) mostMoveEffects (x .0) in
+      let f : RoomFor (ahead (Of Move) (s .due - 1) (getD r 2 0)) (countsOf (jobAfter Move (s .job) r)) = room-for (h .fit .formulas)
+      (omega (arith, h .fit .moves, h .owed .0, l)) (omega (arith, h .fit .effects, h .owed .0, n)) (h .fit .program) in
+      rows-room (s .due - 1) (getD r 2 0) (countsOf (jobAfter Move (s .job) r)) Move (h .facts) f (λ z. f)
+  row-room Effect x h =
+      let l = length-append (s .job .effects) (effectOf r ∷ []) in
+      let f : RoomFor (ahead (Of Effect) (s .due) (s .effects - 1)) (countsOf (jobAfter Effect (s .job) r)) = room-for (h .fit .formulas) (h .fit .moves)
+      (omega (arith, h .fit .effects, h .owed, l)) (h .fit .program) in
+      rows-room (s .due) (s .effects - 1) (countsOf (jobAfter Effect (s .job) r)) Effect (h .facts) f (λ z. f)
+  row-room Row x h =
       let l = length-append (s .job .program) (rowOf r ∷ []) in
-      cond-has (λ k. Room k (s .due - 1) (s .effects) (countsOf (J.addRow (s .job) (rowOf r)))) (eqb (s .due - 1) 0) End Row
-      (λ z. record {
-        facts = h .facts;
-        formulas = h .formulas;
-        moves = h .moves;
-        effects-room = h .effects-room;
-        program = omega (arith, h .program, h .owed .0, l);
-        owed = h .owed .1;
-      })
-      (λ z. record {
-        facts = h .facts;
-        formulas = h .formulas;
-        moves = h .moves;
-        effects-room = h .effects-room;
-        program = omega (arith, h .program, h .owed .0, l);
-        owed = (omega (arith, eqb-false (s .due - 1) 0 z), h .owed .1);
-      })
-  room-at End x h = never (x .form)
+      rows-room (s .due - 1) (s .effects) (countsOf (jobAfter Row (s .job) r)) Row (h .facts)
+      (room-for (h .fit .formulas) (h .fit .moves) (h .fit .effects) (omega (arith, h .fit .program, h .owed .0, l)))
+      (λ z. absurd (z (h .owed .1)))
+
+  room-at : (k : Line) → Right k c r → Room k (s .due) (s .effects) c → RoomOf (takenAt k s r)
+  room-at (One h) x = one-room h x
+  room-at (Of k) x = row-room k x
+  room-at End x = absurd x
 
   pub taken-room : Right (s .next) c r → RoomOf s → RoomOf (taken s r)
   unfolding taken

@@ -1,27 +1,42 @@
 -- What the reader's states and answers stand for.
-use Prim.Native.Nat.{ℕ}
+use Prim.Native.Nat.{ℕ, _+_}
 use mathlib.Core.List.{List}
-use Rattle.job.specs.ReadJob.{Reading, on, Outcome, read, refused}
-use Rattle.job.specs.Store.{jobOf}
+use Rattle.job.specs.Job.{Scalars, counts}
+use Rattle.job.specs.ReadJob.{Reading, on, scalarsAfter, Outcome, read, refused}
+use Rattle.job.specs.Store.{movesFrom, effectsFrom, programFrom, jobOf}
+use Rattle.job.specs.declared.head.Counts.{Counts}
 use Rattle.job.specs.declared.head.Head.{Head}
 use Rattle.job.specs.declared.head.Refusal.{Refusal}
-use Rattle.reader.specs.declared.reading.ReaderState.{ReaderState}
+use Rattle.job.specs.declared.line.Heading.{Heading}
+use Rattle.job.specs.declared.line.RowSort.{RowSort}
+use Rattle.job.specs.declared.line.RowSort.the-variants.{Formula, Move, Effect, Row}
+use Rattle.reader.specs.declared.taking.ReaderState.{ReaderState}
 use Rattle.reader.specs.declared.reading.Answer.{Answer}
 use Rattle.reader.specs.declared.reading.Answer.the-variants.{Read, Refused}
 
--- a head with other scalars
-abbrev pub withNumbers : Head → ℕ → ℕ → ℕ → Head
-withNumbers h facts init goal = record {
-  counts = record {
-    facts = facts;
-    formulas = h .counts .formulas;
-    moves = h .counts .moves;
-    effects = h .counts .effects;
-    program = h .counts .program;
-  };
-  init = init;
-  goal = goal;
+-- the head after a line of one number
+abbrev withScalars : Head → Scalars → Head
+withScalars h s = record {
+  counts = counts (s .facts) (h .counts .formulas) (h .counts .moves) (h .counts .effects) (h .counts .program);
+  init = s .init;
+  goal = s .goal;
 }
+
+abbrev pub headAfter : Heading → ℕ → Head → Head
+headAfter k n h = withScalars h (scalarsAfter k n (record { facts = h .counts .facts; init = h .init; goal = h .goal }))
+
+-- where a row is stored, behind the earlier rows of its sort, and the counts with it
+abbrev pub placeOf : RowSort → Counts → ℕ
+placeOf Formula c = c .formulas
+placeOf Move c = movesFrom + c .moves
+placeOf Effect c = effectsFrom + c .effects
+placeOf Row c = programFrom + c .program
+
+abbrev pub oneMore : RowSort → Counts → Counts
+oneMore Formula c = counts (c .facts) (c .formulas + 1) (c .moves) (c .effects) (c .program)
+oneMore Move c = counts (c .facts) (c .formulas) (c .moves + 1) (c .effects) (c .program)
+oneMore Effect c = counts (c .facts) (c .formulas) (c .moves) (c .effects + 1) (c .program)
+oneMore Row c = counts (c .facts) (c .formulas) (c .moves) (c .effects) (c .program + 1)
 
 abbrev pub readingOf : ReaderState → List ℕ → Reading
 readingOf s l = on (s .next) (s .due) (s .effects) (jobOf (s .head) l)

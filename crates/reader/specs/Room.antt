@@ -4,7 +4,10 @@ use mathlib.Core.Path.{_≡_}
 use Rattle.limits.specs.Limits.{mostFacts, mostFormulas, mostMoves, mostMoveEffects, mostEffects, mostProgram}
 use Rattle.job.specs.declared.head.Counts.{Counts}
 use Rattle.job.specs.declared.line.Line.{Line}
-use Rattle.job.specs.declared.line.Line.the-variants.{Job, Facts, Init, Formulas, Formula, Moves, Move, Effect, Goal, Program, Row, End}
+use Rattle.job.specs.declared.line.Line.the-variants.{One, Of, End}
+use Rattle.job.specs.declared.line.Heading.{Heading}
+use Rattle.job.specs.declared.line.Heading.the-variants.{Job, Facts, Init, Formulas, Moves, Goal, Program}
+use Rattle.job.specs.declared.line.RowSort.the-variants.{Formula, Move, Effect, Row}
 
 -- how many rows of each sort may still come
 pub record Ahead : Type 0 where
@@ -16,40 +19,41 @@ pub record Ahead : Type 0 where
 abbrev may : ℕ → ℕ → ℕ → ℕ → Ahead
 may formulas moves effects program = record { formulas = formulas; moves = moves; effects = effects; program = program }
 
+-- before a line of one number
+abbrev pub aheadOne : Heading → Ahead
+aheadOne Job = may mostFormulas mostMoves mostEffects mostProgram
+aheadOne Facts = may mostFormulas mostMoves mostEffects mostProgram
+aheadOne Init = may mostFormulas mostMoves mostEffects mostProgram
+aheadOne Formulas = may mostFormulas mostMoves mostEffects mostProgram
+aheadOne Moves = may 0 mostMoves mostEffects mostProgram
+aheadOne Goal = may 0 0 0 mostProgram
+aheadOne Program = may 0 0 0 mostProgram
+
 -- by the line that comes next, with so many rows of its sort due and so many effects of the last move
 abbrev pub ahead : Line → ℕ → ℕ → Ahead
-ahead Job due effects = may mostFormulas mostMoves mostEffects mostProgram
-ahead Facts due effects = may mostFormulas mostMoves mostEffects mostProgram
-ahead Init due effects = may mostFormulas mostMoves mostEffects mostProgram
-ahead Formulas due effects = may mostFormulas mostMoves mostEffects mostProgram
-ahead Formula due effects = may due mostMoves mostEffects mostProgram
-ahead Moves due effects = may 0 mostMoves mostEffects mostProgram
-ahead Move due effects = may 0 due (mostMoveEffects * due) mostProgram
-ahead Effect due effects = may 0 due (effects + mostMoveEffects * due) mostProgram
-ahead Goal due effects = may 0 0 0 mostProgram
-ahead Program due effects = may 0 0 0 mostProgram
-ahead Row due effects = may 0 0 0 due
+ahead (One h) due effects = aheadOne h
+ahead (Of Formula) due effects = may due mostMoves mostEffects mostProgram
+ahead (Of Move) due effects = may 0 due (effects + mostMoveEffects * due) mostProgram
+ahead (Of Effect) due effects = may 0 due (effects + mostMoveEffects * due) mostProgram
+ahead (Of Row) due effects = may 0 0 0 due
 ahead End due effects = may 0 0 0 0
 
--- a row is due where a row's line comes next, and no effect once the next move or the goal does
+pub record RoomFor (a : Ahead) (c : Counts) : Type 0 where
+  pub formulas : c .formulas + a .formulas ≤ mostFormulas
+  pub moves : c .moves + a .moves ≤ mostMoves
+  pub effects : c .effects + a .effects ≤ mostEffects
+  pub program : c .program + a .program ≤ mostProgram
+
+-- a row is due where a row's line comes next, and no effect but where an effect does
 abbrev pub Due : Line → ℕ → ℕ → Type 0
-Due Job due effects = Unit {0}
-Due Facts due effects = Unit {0}
-Due Init due effects = Unit {0}
-Due Formulas due effects = Unit {0}
-Due Formula due effects = 0 < due
-Due Moves due effects = Unit {0}
-Due Move due effects = (0 < due) × (effects ≡ 0)
-Due Effect due effects = 0 < effects
-Due Goal due effects = effects ≡ 0
-Due Program due effects = effects ≡ 0
-Due Row due effects = (0 < due) × (effects ≡ 0)
+Due (One h) due effects = effects ≡ 0
+Due (Of Formula) due effects = (0 < due) × (effects ≡ 0)
+Due (Of Move) due effects = (0 < due) × (effects ≡ 0)
+Due (Of Effect) due effects = 0 < effects
+Due (Of Row) due effects = (0 < due) × (effects ≡ 0)
 Due End due effects = effects ≡ 0
 
 pub record Room (next : Line) (due effects : ℕ) (c : Counts) : Type 0 where
   pub facts : c .facts ≤ mostFacts
-  pub formulas : c .formulas + ahead next due effects .formulas ≤ mostFormulas
-  pub moves : c .moves + ahead next due effects .moves ≤ mostMoves
-  pub effects-room : c .effects + ahead next due effects .effects ≤ mostEffects
-  pub program : c .program + ahead next due effects .program ≤ mostProgram
+  pub fit : RoomFor (ahead next due effects) c
   pub owed : Due next due effects

@@ -47,7 +47,8 @@ module _ (k s : List ℕ) (i : ℕ) where
   unfolding hasKey
   key-at-equals h g = rw (drop-of-length-le k h, drop-cons s i 0 g)
 
-key-step : (k : ℕ) (ks l : List ℕ) (b : ℕ) (same : Bool) → cond same (hasKey ks l) false ≡ true → (hasKey ks l ≡ true → length ks + 1 ≤ length l) → length ks + 1 ≤ length l
+key-step : (k : ℕ) (ks l : List ℕ) (b : ℕ) (same : Bool) → cond same (hasKey ks l) false ≡ true → (hasKey ks l ≡ true → length ks + 1 ≤ length l)
+    → length ks + 1 ≤ length l
 key-step k ks l b true e f = f e
 key-step k ks l b false e f = let z : _≡_ {A = ℕ} 0 1 = cc in absurd (omega arith)
 

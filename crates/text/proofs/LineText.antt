@@ -14,8 +14,8 @@ use borrow.Author.Tests.{eqb-true, eq-eqb, ne-eqb, lt-ltb, le-ltb}
 use Rattle.laws.proofs.Tests.{never}
 use Rattle.text.specs.Lines.{lines, onto, hasKey, valueOf}
 use Rattle.text.specs.Numbers.{numbers}
-use Rattle.text.specs.Written.{digitsWithin, decimal, written, lineText, Small, IsValue}
-use Rattle.text.proofs.WrittenLaws.{numbers-sound, numbers-complete}
+use Rattle.text.specs.Written.{digitsWithin, decimal, written, lineText}
+use Rattle.text.proofs.WrittenLaws.{Small, IsValue, numbers-sound, numbers-complete}
 
 both : (b k : ℕ) (rest same : Bool) → eqb b k ≡ same → cond same rest false ≡ true → (b ≡ k) × (rest ≡ true)
 both b k rest true e h = (eqb-true b k e, h)
@@ -37,7 +37,8 @@ unfolding hasKey
 key-has [] v = refl
 key-has (k ∷ ks) v = rw (eq-eqb k k refl) (key-has ks v)
 
-pub line-sound : (key : List ℕ) (want : ℕ) (ns line : List ℕ) → numbers want (valueOf key line) ≡ some ns → IsValue want ns (valueOf key line) × (line ≡ lineText key ns)
+pub line-sound : (key : List ℕ) (want : ℕ) (ns line : List ℕ) → numbers want (valueOf key line) ≡ some ns
+    → IsValue want ns (valueOf key line) × (line ≡ lineText key ns)
 unfolding valueOf numbers
 line-sound key want ns line e = sound (hasKey key line) refl e
   where
@@ -46,7 +47,8 @@ line-sound key want ns line e = sound (hasKey key line) refl e
     sound true h e = let v = numbers-sound want ns (drop (length key + 1) line) e in (rw h v, key-front key line h ∙ ap (λ r. key ++ (61 ∷ r)) (v .text))
     sound false h e = let z : _≡_ {A = ℕ} 0 1 = cc in absurd (omega arith)
 
-pub line-complete : (key : List ℕ) (want n : ℕ) (ns : List ℕ) → length (n ∷ ns) ≡ want → Small (n ∷ ns) → numbers want (valueOf key (lineText key (n ∷ ns))) ≡ some (n ∷ ns)
+pub line-complete : (key : List ℕ) (want n : ℕ) (ns : List ℕ) → length (n ∷ ns) ≡ want → Small (n ∷ ns)
+    → numbers want (valueOf key (lineText key (n ∷ ns))) ≡ some (n ∷ ns)
 unfolding valueOf
 line-complete key want n ns h s =
     let d : drop (length key + 1) (key ++ (61 ∷ written (n ∷ ns))) ≡ written (n ∷ ns) = drop-append-add key (61 ∷ written (n ∷ ns)) 1 in
@@ -83,7 +85,8 @@ values-short : (ns : List ℕ) → Small ns → length (written ns) ≤ 6 * leng
 values-short [] s = unfold written in omega arith
 values-short (n ∷ ns) s = omega (arith, written-short n ns s)
 
--- a line of so many numbers has six bytes at the most for each, beside its key, the equals sign and, without numbers, its line feed
+-- a line of so many numbers has six bytes at the most for each, beside its key, the equals sign
+-- and, without numbers, its line feed
 abbrev pub mostBytes : List ℕ → ℕ → ℕ
 mostBytes key want = length key + 2 + 6 * want
 
@@ -133,7 +136,8 @@ digits-plain zero n = refl
 digits-plain (suc k) n = elim (decLt n 10) [
   | yes d ↦ rw (lt-ltb n 10 d, ne-eqb (48 + n) 10 (λ z. omega arith))
   | no d ↦ (let e : 10 ≤ n = omega arith in
-      rw (le-ltb n 10 e) (plain-both (digitsWithin k (n / 10)) ((48 + n % 10) ∷ []) (digits-plain k (n / 10)) (rw (ne-eqb (48 + n % 10) 10 (λ z. omega arith)))))
+      rw (le-ltb n 10 e) (plain-both (digitsWithin k (n / 10)) ((48 + n % 10) ∷ []) (digits-plain k (n / 10))
+      (rw (ne-eqb (48 + n % 10) 10 (λ z. omega arith)))))
 ]
 
 written-ends : (n : ℕ) (ns : List ℕ) → endsOnce (written (n ∷ ns)) ≡ true

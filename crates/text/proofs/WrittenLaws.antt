@@ -12,8 +12,19 @@ use lib.ListN.{length, length-append}
 use borrow.Author.Tests.{eqb-true, eqb-false, ltb-true, lt-ltb, le-ltb, le-leb, eq-eqb, ne-eqb}
 use Rattle.laws.proofs.Tests.{cond-has, and-both}
 use Rattle.text.specs.Numbers.{PartialValue, start, digits, done, broken, isDigit, firstDigit, moreDigits, numberEnd, byteRead, result, numbers}
-use Rattle.text.specs.Written.{digitsWithin, decimal, written, Small, IsValue}
+use Rattle.text.specs.Written.{digitsWithin, decimal, written}
 use Rattle.text.proofs.NumberLaws.{digit-within}
+
+-- each is at most 65,535
+abbrev pub Small : List ℕ → Type 0
+Small [] = Unit {0}
+Small (n ∷ ns) = (n ≤ 65535) × Small ns
+
+-- a value is just the text of these numbers, so many
+pub record IsValue (want : ℕ) (ns value : List ℕ) : Type 0 where
+  pub count : length ns ≡ want
+  pub small : Small ns
+  pub text : value ≡ written ns
 
 -- how many digits there may be at the most makes no difference
 fuel : (k j n : ℕ) → n < k → n < j → digitsWithin k n ≡ digitsWithin j n
@@ -63,7 +74,8 @@ small-more : (l : List ℕ) (n : ℕ) → Small l → n ≤ 65535 → Small (l +
 small-more [] n s h = (h, tt)
 small-more (m ∷ l) n s h = (s .0, small-more l n (s .1) h)
 
--- the bytes that lead to a partial value, and that its numbers are small; nothing is said of a broken form
+-- the bytes that lead to a partial value, and that its numbers are small; nothing is said of a
+-- broken form
 abbrev Spelt : ℕ → PartialValue → List ℕ → Type 0
 Spelt want (start l) v = (v ≡ commas l) × Small l
 Spelt want (digits l n) v = (v ≡ commas l ++ decimal n) × Small l × (n ≤ 65535)
@@ -104,7 +116,8 @@ module _ (want : ℕ) (v : List ℕ) (b : ℕ) where
   spelt-byte : (s : PartialValue) → Spelt want s v → Spelt want (byteRead want s b) v+
   unfolding byteRead
   spelt-byte (start l) s = spelt-first l s
-  spelt-byte (digits l n) s = cond-has (λ q. Spelt want q v+) (isDigit b) (moreDigits l n b) (numberEnd want l n b) (λ e. spelt-more l n e s) (λ e. spelt-end l n s)
+  spelt-byte (digits l n) s = cond-has (λ q. Spelt want q v+) (isDigit b) (moreDigits l n b) (numberEnd want l n b) (λ e. spelt-more l n e s)
+      (λ e. spelt-end l n s)
   spelt-byte (done l) s = tt
   spelt-byte broken s = tt
 

@@ -4,6 +4,11 @@ use Prim.Native.Char.{code}
 use Prim.Native.String.{String, [] as end-of-text, _∷_ as _then_}
 use mathlib.Core.List.{List, [], _∷_}
 
+-- a key
+abbrev pub codes : String → List ℕ
+codes end-of-text = []
+codes (_then_ c s) = code c ∷ codes s
+
+-- a text, which may be long: shut
 unfoldable pub bytes : String → List ℕ
-bytes end-of-text = []
-bytes (_then_ c s) = code c ∷ bytes s
+bytes s = codes s

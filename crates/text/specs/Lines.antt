@@ -5,7 +5,8 @@ use mathlib.Core.List.{List, [], _∷_}
 use lib.Dec.{eqb}
 use lib.ListN.{length, drop}
 
--- "each ended by a line feed (byte 10)": how many bytes the first line has, its line feed among them; all of them where there is none
+-- "each ended by a line feed (byte 10)": how many bytes the first line has, its line feed among
+-- them; all of them where there is none
 unfoldable pub lineLength : List ℕ → ℕ
 lineLength [] = 0
 lineLength (b ∷ t) = cond (eqb b 10) 1 (suc (lineLength t))
@@ -15,7 +16,8 @@ abbrev pub onto : ℕ → List (List ℕ) → List (List ℕ)
 onto b [] = (b ∷ []) ∷ []
 onto b (l ∷ ls) = (b ∷ l) ∷ ls
 
--- the lines of a text, each with its line feed; bytes after the last line feed are one line more, which lacks it
+-- the lines of a text, each with its line feed; bytes after the last line feed are one line more,
+-- which lacks it
 unfoldable pub lines : List ℕ → List (List ℕ)
 lines [] = []
 lines (b ∷ t) = cond (eqb b 10) ((10 ∷ []) ∷ lines t) (onto b (lines t))

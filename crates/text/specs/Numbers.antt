@@ -6,7 +6,8 @@ use mathlib.Core.Option.{Option, none, some}
 use lib.Dec.{eqb, ltb, leb}
 use lib.ListN.{length}
 
--- a value as far as it was read: before a number's first digit, with the numbers before it; within a number; past the line feed; of wrong form
+-- a value as far as it was read: before a number's first digit, with the numbers before it; within
+-- a number; past the line feed; of wrong form
 pub data PartialValue : Type 0 where
   start : List ℕ → PartialValue
   digits : List ℕ → ℕ → PartialValue
@@ -25,7 +26,8 @@ firstDigit l b = cond (isDigit b) (digits l (b - 48)) broken
 abbrev pub moreDigits : List ℕ → ℕ → ℕ → PartialValue
 moreDigits l n b = cond (eqb n 0) broken (cond (ltb (n * 10 + (b - 48)) 65536) (digits l (n * 10 + (b - 48))) broken)
 
--- what ends a number, of `want` in all: a comma (byte 44) where more are due, the line feed after the last
+-- what ends a number, of `want` in all: a comma (byte 44) where more are due, the line feed after
+-- the last
 abbrev pub numberEnd : ℕ → List ℕ → ℕ → ℕ → PartialValue
 numberEnd want l n b =
     cond (eqb b 44) (cond (ltb (length l + 1) want) (start (l ++ (n ∷ []))) broken)

@@ -1,10 +1,9 @@
--- Numbers and lines as text: "decimal numbers 0 to 65,535, no leading zeros, commas between", ended by the line feed.
-use Prim.Native.Nat.{ℕ, zero, suc, _+_, _/_, _%_, _≤_}
-use mathlib.Core.Path.{_≡_}
+-- Numbers and lines as text: "decimal numbers 0 to 65,535, no leading zeros, commas between", ended
+-- by the line feed.
+use Prim.Native.Nat.{ℕ, zero, suc, _+_, _/_, _%_}
 use mathlib.Core.Bool.{cond}
 use mathlib.Core.List.{List, [], _∷_, _++_}
 use lib.Dec.{ltb}
-use lib.ListN.{length}
 
 -- a number's decimal digits, the last `most` of them
 unfoldable pub digitsWithin : ℕ → ℕ → List ℕ
@@ -23,14 +22,3 @@ written (n ∷ m ∷ ns) = decimal n ++ (44 ∷ written (m ∷ ns))
 -- "Lines are key=value": a line with this key and these numbers
 abbrev pub lineText : List ℕ → List ℕ → List ℕ
 lineText key numbers = key ++ (61 ∷ written numbers)
-
--- each is at most 65,535
-abbrev pub Small : List ℕ → Type 0
-Small [] = Unit {0}
-Small (n ∷ ns) = (n ≤ 65535) × Small ns
-
--- a value is just the text of these numbers, so many
-pub record IsValue (want : ℕ) (ns value : List ℕ) : Type 0 where
-  pub count : length ns ≡ want
-  pub small : Small ns
-  pub text : value ≡ written ns

@@ -6,7 +6,8 @@ ghost use lib.ListN.{length, take};
 ghost use Rattle.text.specs.Numbers.{isDigit, firstDigit, moreDigits, numberEnd, byteRead, result, numbers};
 ghost use Rattle.text.specs.Progress.{partialOf, completeCount, answered, Goes, After};
 
-// How far a value was read: before the first digit of number k; within number k, which is n so far; past the line feed; of wrong form.
+// How far a value was read: before the first digit of number k; within number k, which is n so far;
+// past the line feed; of wrong form.
 pub enum Progress {
     Start(usize),
     Digits(usize, u16),
@@ -100,8 +101,8 @@ fn is_done(p: Progress, out: &[u16]) -> bool
     }
 }
 
-// Fills a list with the numbers of a value that is to hold just as many, and answers whether its form is right. Where it is wrong, nothing is said of
-// the list.
+// Fills a list with the numbers of a value that is to hold just as many, and answers whether its
+// form is right. Where it is wrong, nothing is said of the list.
 pub fn read_numbers(value: &[u8], out: &mut [u16]) -> bool
     ensures { λ r. ⌜ answered r (now (out .exit)) ≡ numbers (length (now (out .entry))) (now (value .entry)) ⌝ }
 {

@@ -1,4 +1,5 @@
--- A plan text of 65,536 bytes or more is answered just as its first 65,536 bytes are: right texts are short.
+-- A plan text of 65,536 bytes or more is answered just as its first 65,536 bytes are: right texts
+-- are short.
 -- Assumes nothing.
 use Prim.Native.Nat.{ℕ, zero, suc, _+_, _*_, _≤_, _<_}
 use mathlib.Core.Path.{_≡_, refl, sym, _∙_}

@@ -2,27 +2,26 @@
 -- Assumes nothing.
 use Prim.Native.Nat.{ℕ, _+_, _-_, _*_, _≤_, _<_}
 use mathlib.Core.Path.{_≡_, refl, sym, _∙_, ap}
-use mathlib.Core.Bool.{true, cond, _&&_}
 use mathlib.Core.List.{List, [], _∷_}
 use mathlib.Core.Option.{Option, none, some}
 use native.Mathlib.Omega.{arith}
 use native.Mathlib.Decide.{decLt}
-use lib.Dec.{eqb, leb}
 use lib.ListN.{length, getD, take}
 use borrow.Author.Tests.{leb-true}
-use Rattle.laws.proofs.Tests.{never, and-right, cond-has}
-use Rattle.text.specs.Bytes.{bytes}
+use Rattle.limits.specs.Limits.{mostMoveEffects}
 use Rattle.theorems.proofs.Fronts.{front-decides}
 use Rattle.text.proofs.LineText.{mostBytes, line-short}
 use Rattle.job.specs.Job.{countsOf}
 use Rattle.job.specs.Line.{formOf, lineNumbers}
 use Rattle.job.specs.Fault.{fault}
-use Rattle.job.specs.ReadJob.{Reading, refused, begun, afterMoves, takenAt, taken, readFrom, readJob}
+use Rattle.job.specs.ReadJob.{Reading, refused, begun, takenAt, taken, readFrom, readJob}
 use Rattle.job.specs.declared.head.Counts.{Counts}
+use Rattle.job.specs.declared.line.Heading.the-variants.{Job, Facts, Init, Formulas, Moves, Goal, Program}
+use Rattle.job.specs.declared.line.RowSort.the-variants.{Formula, Move, Effect, Row}
 use Rattle.job.specs.declared.line.Line.{Line}
-use Rattle.job.specs.declared.line.Line.the-variants.{Job, Facts, Init, Formulas, Formula, Moves, Move, Effect, Goal, Program, Row, End}
+use Rattle.job.specs.declared.line.Line.the-variants.{One, Of, End}
 use Rattle.reader.specs.Room.{Room, ahead}
-use Rattle.reader.proofs.RoomLaws.{Right, fault-right, moves-has}
+use Rattle.reader.proofs.RoomLaws.{Right, fault-right, rows-has}
 use Rattle.reader.proofs.KeptLaws.{Kept, taken-kept, begun-kept}
 use Rattle.reader.proofs.ReadLaws.{line-right, line-wrong}
 
@@ -36,17 +35,17 @@ numbers-short k line r e = line-short (formOf k .key) (formOf k .width) r line e
 
 -- the lines that are no rows and may still come; End is the line past the last, which is refused
 abbrev singles : Line → List Line
-singles Job = Job ∷ Facts ∷ Init ∷ Formulas ∷ Moves ∷ Goal ∷ Program ∷ End ∷ []
-singles Facts = Facts ∷ Init ∷ Formulas ∷ Moves ∷ Goal ∷ Program ∷ End ∷ []
-singles Init = Init ∷ Formulas ∷ Moves ∷ Goal ∷ Program ∷ End ∷ []
-singles Formulas = Formulas ∷ Moves ∷ Goal ∷ Program ∷ End ∷ []
-singles Formula = Moves ∷ Goal ∷ Program ∷ End ∷ []
-singles Moves = Moves ∷ Goal ∷ Program ∷ End ∷ []
-singles Move = Goal ∷ Program ∷ End ∷ []
-singles Effect = Goal ∷ Program ∷ End ∷ []
-singles Goal = Goal ∷ Program ∷ End ∷ []
-singles Program = Program ∷ End ∷ []
-singles Row = End ∷ []
+singles (One Job) = One Job ∷ One Facts ∷ One Init ∷ One Formulas ∷ One Moves ∷ One Goal ∷ One Program ∷ End ∷ []
+singles (One Facts) = One Facts ∷ One Init ∷ One Formulas ∷ One Moves ∷ One Goal ∷ One Program ∷ End ∷ []
+singles (One Init) = One Init ∷ One Formulas ∷ One Moves ∷ One Goal ∷ One Program ∷ End ∷ []
+singles (One Formulas) = One Formulas ∷ One Moves ∷ One Goal ∷ One Program ∷ End ∷ []
+singles (Of Formula) = One Moves ∷ One Goal ∷ One Program ∷ End ∷ []
+singles (One Moves) = One Moves ∷ One Goal ∷ One Program ∷ End ∷ []
+singles (Of Move) = One Goal ∷ One Program ∷ End ∷ []
+singles (Of Effect) = One Goal ∷ One Program ∷ End ∷ []
+singles (One Goal) = One Goal ∷ One Program ∷ End ∷ []
+singles (One Program) = One Program ∷ End ∷ []
+singles (Of Row) = End ∷ []
 singles End = End ∷ []
 
 abbrev total : List Line → ℕ
@@ -57,7 +56,7 @@ total (k ∷ ks) = most k + total ks
 abbrev bytesAhead : Line → ℕ → ℕ → ℕ
 bytesAhead k due effects =
     let a = ahead k due effects in
-    total (singles k) + (a .formulas * most Formula + (a .moves * most Move + (a .effects * most Effect + a .program * most Row)))
+    total (singles k) + (a .formulas * most (Of Formula) + (a .moves * most (Of Move) + (a .effects * most (Of Effect) + a .program * most (Of Row))))
 
 abbrev aheadOf : Reading → ℕ
 aheadOf s = bytesAhead (s .next) (s .due) (s .effects)
@@ -68,9 +67,6 @@ record Place : Type 0 where
   s : Reading
   kept : Kept s
 
-count-within : (n limit : ℕ) → (leb 1 n && leb n limit) ≡ true → n ≤ limit
-count-within n limit e = leb-true n limit (and-right (leb 1 n) (leb n limit) e)
-
 module _ (s : Reading) where
   abbrev c : Counts
   c = countsOf (s .job)
@@ -79,29 +75,50 @@ module _ (s : Reading) where
   abbrev Falls : Line → ℕ → ℕ → Line → Type 0
   Falls k due effects next = bytesAhead next due effects + most k ≤ bytesAhead k (s .due) (s .effects)
 
-  moves-fall : (k : Line) (m e : ℕ) → Falls k m e Effect → Falls k m e (afterMoves m e)
-  unfolding bytes
-  moves-fall k m e h = moves-has (Falls k m e) m e (λ y z. omega arith) (λ y z. omega arith) (λ z. h)
-
-  rows-fall : (k next : Line) (m e : ℕ) → Falls k m e next → Falls k m e k → Falls k m e (cond (eqb m 0) next k)
-  rows-fall k next m e f g = cond-has (Falls k m e) (eqb m 0) next k (λ z. f) (λ z. g)
-
-  -- a line that comes next is among the bytes that may come, and after it, where it is right, they are fewer
+  -- a line that comes next is among the bytes that may come, and after it, where it is right, they
+  -- are fewer
   falls-at : (r : List ℕ) (k : Line) → Room k (s .due) (s .effects) c
       → (most k ≤ bytesAhead k (s .due) (s .effects)) × (Right k c r → Falls k (takenAt k s r .due) (takenAt k s r .effects) (takenAt k s r .next))
-  unfolding bytes
-  falls-at r Job h = omega arith
-  falls-at r Facts h = omega arith
-  falls-at r Init h = omega arith
-  falls-at r Formulas h = (omega arith, λ x. omega (arith, count-within))
-  falls-at r Formula h = (omega arith, λ x. rows-fall Formula Moves (s .due - 1) (s .effects) (omega arith) (omega arith))
-  falls-at r Moves h = (omega arith, λ x. moves-fall Moves (getD r 0 0) 0 (omega (arith, leb-true)))
-  falls-at r Move h = (omega arith, λ x. moves-fall Move (s .due - 1) (getD r 2 0) (omega (arith, leb-true)))
-  falls-at r Effect h = (omega arith, λ x. moves-fall Effect (s .due) (s .effects - 1) (omega arith))
-  falls-at r Goal h = omega arith
-  falls-at r Program h = (omega arith, λ x. omega (arith, count-within))
-  falls-at r Row h = (omega arith, λ x. rows-fall Row End (s .due - 1) (s .effects) (omega arith) (omega arith))
-  falls-at r End h = (omega arith, λ x. never (x .form))
+  falls-at r (One Job) h = omega arith
+  falls-at r (One Facts) h = omega arith
+  falls-at r (One Init) h = omega arith
+  falls-at r (One Formulas) h = (
+    omega arith,
+    λ x. rows-has (Falls (One Formulas) _ _) Formula (getD r 0 0) 0
+        (λ y z. omega arith) (λ y z. omega (arith, x)) (λ z. absurd (z refl)),
+  )
+  falls-at r (Of Formula) h = (
+    omega arith,
+    λ x. rows-has (Falls (Of Formula) _ _) Formula (s .due - 1) (s .effects)
+        (λ y z. omega arith) (λ y z. omega arith) (λ z. absurd (z (h .owed .1))),
+  )
+  falls-at r (One Moves) h = (
+    omega arith,
+    λ x. rows-has (Falls (One Moves) _ _) Move (getD r 0 0) 0
+        (λ y z. omega arith) (λ y z. omega (arith, x, h .owed)) (λ z. absurd (z refl)),
+  )
+  falls-at r (Of Move) h = (
+    omega arith,
+    λ x. rows-has (Falls (Of Move) _ _) Move (s .due - 1) (getD r 2 0)
+        (λ y z. omega arith) (λ y z. omega arith) (λ z. omega (arith, leb-true (getD r 2 0) mostMoveEffects (x .0))),
+  )
+  falls-at r (Of Effect) h = (
+    omega arith,
+    λ x. rows-has (Falls (Of Effect) _ _) Effect (s .due) (s .effects - 1)
+        (λ y z. omega arith) (λ y z. omega arith) (λ z. omega arith),
+  )
+  falls-at r (One Goal) h = omega arith
+  falls-at r (One Program) h = (
+    omega arith,
+    λ x. rows-has (Falls (One Program) _ _) Row (getD r 0 0) 0
+        (λ y z. omega arith) (λ y z. omega (arith, x)) (λ z. absurd (z refl)),
+  )
+  falls-at r (Of Row) h = (
+    omega arith,
+    λ x. rows-has (Falls (Of Row) _ _) Row (s .due - 1) (s .effects)
+        (λ y z. omega arith) (λ y z. omega arith) (λ z. absurd (z (h .owed .1))),
+  )
+  falls-at r End h = (omega arith, λ x. absurd x)
 
   abbrev reason : Option (List ℕ) → ℕ
   reason o = fault (s .next) c o
@@ -147,7 +164,7 @@ module _ (s : Reading) where
 
 -- so a program's buffer of 65,536 bytes is enough
 pub long-text : (text : List ℕ) → 65536 ≤ length text → readJob text ≡ readJob (take 65536 text)
-unfolding readJob bytes
+unfolding readJob
 long-text text h = front-decides {S = Place} (λ p ls. readFrom (p .n) (p .s) ls) (λ p. aheadOf (p .s))
     (λ p line other rest more g k. long-wrong (p .s) (p .n) (p .kept) line rest g ∙ sym (long-wrong (p .s) (p .n) (p .kept) other more k))
     (λ p. both-lines (p .s) (p .n) (p .kept))

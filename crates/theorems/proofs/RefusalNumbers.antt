@@ -8,16 +8,18 @@ use mathlib.Core.Logic.{inl, inr}
 use mathlib.Core.Option.{Option, none, some}
 use native.Mathlib.Omega.{arith}
 use lib.Dec.{eqb, leb}
-use lib.ListN.{length}
+use lib.ListN.{length, getD}
 use borrow.Author.Tests.{eqb-false}
 use Rattle.laws.proofs.Tests.{never, cond-has}
 use Rattle.job.specs.Job.{Job, countsOf}
 use Rattle.job.specs.Line.{lineNumbers}
-use Rattle.job.specs.Fault.{Criteria, criteria, firstReason, fault}
+use Rattle.job.specs.Fault.{rangeOf, isIn, criteria, reasonOf, fault}
 use Rattle.job.specs.ReadJob as R
 use Rattle.job.specs.ReadJob.{Reading, Outcome, isEnd, ended, readFrom, begun, readJob}
 use Rattle.job.specs.declared.head.Counts.{Counts}
 use Rattle.job.specs.declared.line.Line.{Line}
+use Rattle.job.specs.declared.line.Line.the-variants.{One, Of, End}
+use Rattle.job.proofs.FaultLaws.{range-reason}
 use Rattle.text.specs.Lines.{lines}
 use Rattle.plans.specs.PlanText as P
 use Rattle.plans.specs.PlanText.{PlanOutcome, readPlan}
@@ -34,15 +36,16 @@ RefusedBy P c = (number place : ℕ) → c ≡ refused number place → P number
 abbrev Ranged : Outcome → Type 0
 Ranged o = (number place : ℕ) → o ≡ R.refused number place → UpTo 3 number
 
-first-small : (k : Criteria) → firstReason k ≤ 3
-first-small k =
-    cond-has (λ n. n ≤ 3) (k .form) _ 1
-    (λ e. cond-has (λ n. n ≤ 3) (k .range) _ 2 (λ f. cond-has (λ n. n ≤ 3) (k .fields) 0 3 (λ g. omega arith) (λ g. omega arith)) (λ f. omega arith)) (λ e. omega arith)
+reason-small : (next : Line) (c : Counts) (r : List ℕ) → reasonOf next c r ≤ 3
+reason-small (One h) c r = cond-has (λ n. n ≤ 3) (isIn (rangeOf h c) (getD r 0 0)) 0 _ (λ e. omega arith) (λ e. range-reason h c .1)
+reason-small (Of k) c r =
+    cond-has (λ n. n ≤ 3) (criteria k c r .range) _ 2 (λ f. cond-has (λ n. n ≤ 3) (criteria k c r .fields) 0 3 (λ g. omega arith) (λ g. omega arith)) (λ f. omega arith)
+reason-small End c r = omega arith
 
 fault-small : (next : Line) (c : Counts) (o : Option (List ℕ)) → fault next c o ≤ 3
 unfolding fault
 fault-small next c none = omega arith
-fault-small next c (some r) = first-small (criteria next c r)
+fault-small next c (some r) = reason-small next c r
 
 reading-refuses : (n : ℕ) (s : Reading) (ls : List (List ℕ)) → Ranged (readFrom n s ls)
 unfolding readFrom ended

@@ -3,7 +3,7 @@
 use Prim.Native.Nat.{ℕ, zero, suc, _+_, _-_, _^_, _≤_, _<_}
 use mathlib.Core.Path.{_≡_, refl, sym, _∙_, ap, subst}
 use mathlib.Core.Bool.{true}
-use mathlib.Core.List.{List, [], _∷_, _++_, map, foldl, flatten, append-assoc, append-nil}
+use mathlib.Core.List.{List, [], _∷_, _++_, map, flatten, append-assoc, append-nil}
 use mathlib.Core.Option.{some}
 use native.Mathlib.Omega.{arith}
 use native.Mathlib.Nat.{pow-le-pow-right}
@@ -13,23 +13,26 @@ use lib.ListN.{length, getD, take, drop, length-append, length-drop, length-map,
 use borrow.Author.Tests.{lt-ltb, le-leb, ne-eqb}
 use Rattle.limits.specs.Limits.{mostFacts, mostFormulas, mostMoves, mostProgram, lastClass}
 use Rattle.laws.proofs.Tests.{and-both}
-use Rattle.text.specs.Written.{Small}
-use Rattle.text.specs.Bytes.{bytes}
+use Rattle.text.proofs.WrittenLaws.{Small}
 use Rattle.text.specs.Lines.{lines}
 use Rattle.text.proofs.LineText.{line-complete, plain, endsOnce, line-of, line-ends}
 use Rattle.job.specs.Job as J
-use Rattle.job.specs.Job.{countsOf}
+use Rattle.job.specs.Job.{countsOf, made}
 use Rattle.job.specs.Line.{formOf, lineNumbers}
 use Rattle.job.specs.Fields.{bound, within, Within, formulaFields, rowFields}
-use Rattle.job.specs.Fault.{criteria, fault}
-use Rattle.job.specs.ReadJob.{Reading, on, read, ended, begun, readFrom, readJob, taken, takenAt, afterFormulas, afterMoves, afterRows}
+use Rattle.job.specs.Fault.{rangeOf, criteria, reasonOf, fault}
+use Rattle.job.specs.ReadJob.{Reading, on, read, ended, begun, readFrom, readJob, taken, takenAt, takenOne, dueAfter, effectsAfter, jobAfter, afterRow}
 use Rattle.theorems.specs.JobText.{lineOf, formulaLine, moveLine, effectLine, rowLine, moveLines, programLines, jobLines, jobText}
 use Rattle.job.specs.WellFormed.{WellFormed, MoveFits, EffectFits, Tiled, beforeFormula, beforeRow}
 use Rattle.job.specs.declared.head.Counts.{Counts}
 use Rattle.job.specs.declared.fields.Field.{Field}
 use Rattle.job.specs.declared.fields.Field.the-variants as F
+use Rattle.job.specs.declared.line.Heading.{Heading}
+use Rattle.job.specs.declared.line.Heading.the-variants.{Job, Facts, Init, Formulas, Moves, Goal, Program}
+use Rattle.job.specs.declared.line.RowSort.{RowSort}
+use Rattle.job.specs.declared.line.RowSort.the-variants.{Formula, Move, Effect, Row}
 use Rattle.job.specs.declared.line.Line.{Line}
-use Rattle.job.specs.declared.line.Line.the-variants.{Job, Facts, Init, Formulas, Formula, Moves, Move, Effect, Goal, Program, Row, End}
+use Rattle.job.specs.declared.line.Line.the-variants.{One, Of, End}
 use Rattle.job.proofs.RowLaws.{kind-listed, tiled-own}
 use Rattle.reader.proofs.ReadLaws.{line-right}
 
@@ -47,7 +50,8 @@ small-within c b (f ∷ fs) [] w = absurd w
 small-within c b (f ∷ fs) (x ∷ xs) w = (omega (arith, w .0, b f), small-within c b fs xs (w .1))
 
 -- counts within the limits bound every field by a small number
-bound-small : (c : Counts) → c .facts ≤ mostFacts → c .formulas ≤ mostFormulas → c .moves ≤ mostMoves → c .program ≤ mostProgram → (f : Field) → bound c f ≤ 65536
+bound-small : (c : Counts) → c .facts ≤ mostFacts → c .formulas ≤ mostFormulas → c .moves ≤ mostMoves → c .program ≤ mostProgram → (f : Field)
+    → bound c f ≤ 65536
 bound-small c a b d e F.Unused = omega arith
 bound-small c a b d e F.Fact = omega arith
 bound-small c a b d e F.Formula = omega arith
@@ -64,115 +68,78 @@ kind-text c table t b kind x xs w =
     (true-within c (getD table kind []) (x ∷ xs) w, (omega (arith, kind-listed c table kind x xs w), small-within c b (getD table kind []) (x ∷ xs) w))
 
 -- a line of right numbers is taken in
-module _ (k : Line) (due effects : ℕ) (j : J.Job) (n a : ℕ) (ns : List ℕ) (rest : List (List ℕ)) where
-  abbrev s : Reading
-  s = on k due effects j
+text-line : (s : Reading) (n a : ℕ) (ns : List ℕ) (rest : List (List ℕ)) → length (a ∷ ns) ≡ formOf (s .next) .width → Small (a ∷ ns)
+    → reasonOf (s .next) (countsOf (s .job)) (a ∷ ns) ≡ 0
+    → readFrom n s (lineOf (s .next) (a ∷ ns) ∷ rest) ≡ readFrom (n + 1) (takenAt (s .next) s (a ∷ ns)) rest
+unfolding lineNumbers taken fault
+text-line s n a ns rest w t x =
+    let k = s .next in
+    let e : lineNumbers k (lineOf k (a ∷ ns)) ≡ some (a ∷ ns) = line-complete (formOf k .key) (formOf k .width) a ns w t in
+    line-right n s (lineOf k (a ∷ ns)) rest (a ∷ ns) e (rw (e, x))
 
-  text-line : length (a ∷ ns) ≡ formOf k .width → Small (a ∷ ns)
-      → criteria k (countsOf j) (a ∷ ns) .form ≡ true → criteria k (countsOf j) (a ∷ ns) .range ≡ true → criteria k (countsOf j) (a ∷ ns) .fields ≡ true
-      → readFrom n s (lineOf k (a ∷ ns) ∷ rest) ≡ readFrom (n + 1) (takenAt k s (a ∷ ns)) rest
-  unfolding lineNumbers taken fault
-  text-line w t x y z =
-      let e : lineNumbers k (lineOf k (a ∷ ns)) ≡ some (a ∷ ns) = line-complete (formOf k .key) (formOf k .width) a ns w t in
-      line-right n s (lineOf k (a ∷ ns)) rest (a ∷ ns) e (rw (e, x, y, z))
+one-line : (h : Heading) (due : ℕ) (j : J.Job) (n a : ℕ) (rest : List (List ℕ)) → a ≤ 65535 → rangeOf h (countsOf j) .from ≤ a
+    → a < rangeOf h (countsOf j) .below
+    → readFrom n (on (One h) due 0 j) (lineOf (One h) (a ∷ []) ∷ rest) ≡ readFrom (n + 1) (takenOne h (on (One h) due 0 j) a) rest
+one-line h due j n a rest t x y = text-line (on (One h) due 0 j) n a [] rest refl (t, tt) (rw (le-leb _ _ x, lt-ltb _ _ y))
 
--- rows of one sort, one after the other: `st m` is the reading with m of them due
-Along : {A : Type 0} → (J.Job → A → Type 0) → (J.Job → A → J.Job) → J.Job → List A → Type 0
-Along Q put j [] = Unit {0}
-Along Q put j (a ∷ l) = Q j a × Along Q put (put j a) l
+-- a row's line, after which so many rows and effects are due
+row-line : (k : RowSort) (next : Line) (due effects d e n : ℕ) (j : J.Job) (a : ℕ) (ns : List ℕ) (rest : List (List ℕ)) → next ≡ Of k
+    → length (a ∷ ns) ≡ formOf (Of k) .width → Small (a ∷ ns) → criteria k (countsOf j) (a ∷ ns) .range ≡ true → criteria k (countsOf j) (a ∷ ns) .fields ≡ true
+    → dueAfter k due ≡ d → effectsAfter k effects (a ∷ ns) ≡ e
+    → readFrom n (on next due effects j) (lineOf (Of k) (a ∷ ns) ∷ rest) ≡ readFrom (n + 1) (on (afterRow k d e) d e (jobAfter k j (a ∷ ns))) rest
+row-line k next due effects d e n j a ns rest g w t x y f h =
+    ap (λ l. readFrom n (on l due effects j) (lineOf (Of k) (a ∷ ns) ∷ rest)) g
+    ∙ text-line (on (Of k) due effects j) n a ns rest w t (rw (x, y))
+    ∙ ap (λ (i : ℕ). readFrom (n + 1) (on (afterRow k i (effectsAfter k effects (a ∷ ns))) i (effectsAfter k effects (a ∷ ns)) (jobAfter k j (a ∷ ns))) rest) f
+    ∙ ap (λ (i : ℕ). readFrom (n + 1) (on (afterRow k d i) d i (jobAfter k j (a ∷ ns))) rest) h
 
-module _ {A : Type 0} (st : ℕ → J.Job → Reading) (ln : A → List ℕ) (put : J.Job → A → J.Job) (Q : J.Job → A → Type 0)
-    (step : (m n : ℕ) (j : J.Job) (a : A) (rest : List (List ℕ)) → Q j a → readFrom n (st (suc m) j) (ln a ∷ rest) ≡ readFrom (n + 1) (st m (put j a)) rest) where
-  section : (l : List A) (j : J.Job) (n : ℕ) (tail : List (List ℕ)) → Along Q put j l
-      → readFrom n (st (length l) j) (map ln l ++ tail) ≡ readFrom (n + length l) (st 0 (foldl put j l)) tail
-  unfolding Along
-  section [] j n tail h = let e : n ≡ n + 0 = omega arith in ap (λ k. readFrom k (st 0 j) tail) e
-  section (a ∷ l) j n tail h =
+-- rows of one sort, one after the other: `mk l` is the job with the rows l, `st m` the reading with m
+-- more of them due, and P i what the line of row i wants
+module _ {A : Type 0} (d : A) (mk : List A → J.Job) (P : ℕ → A → Type 0) (st : ℕ → J.Job → Reading) (ln : A → List ℕ)
+    (step : (m n : ℕ) (done : List A) (a : A) (rest : List (List ℕ)) → P (length done) a
+    → readFrom n (st (suc m) (mk done)) (ln a ∷ rest) ≡ readFrom (n + 1) (st m (mk (done ++ (a ∷ [])))) rest) where
+  rows-read : (l done : List A) (n : ℕ) (tail : List (List ℕ)) → ((i : ℕ) → i < length l → P (length done + i) (getD l i d))
+      → readFrom n (st (length l) (mk done)) (map ln l ++ tail) ≡ readFrom (n + length l) (st 0 (mk (done ++ l))) tail
+  rows-read [] done n tail h = let e : n + 0 ≡ n = omega arith in rw (append-nil done, e)
+  rows-read (a ∷ l) done n tail h =
+      let z : length done + 0 ≡ length done = omega arith in
       let e : n + 1 + length l ≡ n + suc (length l) = omega arith in
-      step (length l) n j a (map ln l ++ tail) (h .0) ∙ section l (put j a) (n + 1) tail (h .1)
-      ∙ ap (λ k. readFrom k (st 0 (foldl put (put j a) l)) tail) e
-
--- P holds of each element at its place, counted from k
-abbrev EveryFrom : {A : Type 0} → ℕ → (ℕ → A → Type 0) → List A → Type 0
-EveryFrom k P [] = Unit {0}
-EveryFrom k P (a ∷ l) = P k a × EveryFrom (k + 1) P l
-
-every-from : {A : Type 0} (d : A) (P : ℕ → A → Type 0) (l : List A) (k : ℕ) → ((i : ℕ) → i < length l → P (k + i) (getD l i d)) → EveryFrom k P l
-every-from d P [] k h = tt
-every-from d P (a ∷ l) k h =
-    let e : k + 0 ≡ k = omega arith in (
-      subst (λ i. P i a) e (h 0 (omega arith)),
-      every-from d P l (k + 1) (λ i g. let f : k + suc i ≡ k + 1 + i = omega arith in subst (λ m. P m (getD l i d)) f (h (suc i) (omega arith))),
-    )
-
--- jobs that differ in the rows of one sort: `mk l` has the rows l
-module _ {A : Type 0} (put : J.Job → A → J.Job) (mk : List A → J.Job) (same : (l : List A) (a : A) → put (mk l) a ≡ mk (l ++ (a ∷ []))) where
-  fold-all : (l done : List A) → foldl put (mk done) l ≡ mk (done ++ l)
-  fold-all [] done = ap mk (sym (append-nil done))
-  fold-all (a ∷ l) done = ap (λ j. foldl put j l) (same done a) ∙ fold-all l (done ++ (a ∷ [])) ∙ ap mk (append-assoc done (a ∷ []) l)
-
-  module _ (Q : J.Job → A → Type 0) (P : ℕ → A → Type 0) (fits : (l : List A) (a : A) → P (length l) a → Q (mk l) a) where
-    along-all : (l done : List A) (k : ℕ) → length done ≡ k → EveryFrom k P l → Along Q put (mk done) l
-    unfolding Along
-    along-all [] done k e h = tt
-    along-all (a ∷ l) done k e h =
-        let g : length (done ++ (a ∷ [])) ≡ k + 1 = length-append done (a ∷ []) ∙ omega arith in
-        (fits done a (subst (λ i. P i a) (sym e) (h .0)), subst (λ j. Along Q put j l) (sym (same done a)) (along-all l (done ++ (a ∷ [])) (k + 1) g (h .1)))
-
-    module _ (st : ℕ → J.Job → Reading) (ln : A → List ℕ)
-        (step : (m n : ℕ) (j : J.Job) (a : A) (rest : List (List ℕ)) → Q j a → readFrom n (st (suc m) j) (ln a ∷ rest) ≡ readFrom (n + 1) (st m (put j a)) rest) where
-      rows-read : (l done : List A) (n : ℕ) (tail : List (List ℕ)) → EveryFrom (length done) P l
-          → readFrom n (st (length l) (mk done)) (map ln l ++ tail) ≡ readFrom (n + length l) (st 0 (mk (done ++ l))) tail
-      rows-read l done n tail h =
-          section st ln put Q step l (mk done) n tail (along-all l done (length done) refl h) ∙ ap (λ j. readFrom (n + length l) (st 0 j) tail) (fold-all l done)
-
--- a job with these parts
-abbrev made : J.Scalars → List J.Formula → List J.Move → List J.Effect → List J.Row → J.Job
-made sc fs ms es ps = record { scalars = sc; formulas = fs; moves = ms; effects = es; program = ps }
-
--- a row's line where rows of its sort alone are counted: `after m` comes next with m of them due
-row-line : (k : Line) (after : ℕ → Line) (m n : ℕ) (j j′ : J.Job) (a : ℕ) (ns : List ℕ) (rest : List (List ℕ)) → after (suc m) ≡ k
-    → takenAt k (on k (suc m) 0 j) (a ∷ ns) ≡ on (after (suc m - 1)) (suc m - 1) 0 j′
-    → length (a ∷ ns) ≡ formOf k .width → Small (a ∷ ns)
-    → criteria k (countsOf j) (a ∷ ns) .form ≡ true → criteria k (countsOf j) (a ∷ ns) .range ≡ true → criteria k (countsOf j) (a ∷ ns) .fields ≡ true
-    → readFrom n (on (after (suc m)) (suc m) 0 j) (lineOf k (a ∷ ns) ∷ rest) ≡ readFrom (n + 1) (on (after m) m 0 j′) rest
-row-line k after m n j j′ a ns rest d t w q x y z =
-    let e : suc m - 1 ≡ m = omega arith in
-    ap (λ l. readFrom n (on l (suc m) 0 j) (lineOf k (a ∷ ns) ∷ rest)) d
-    ∙ text-line k (suc m) 0 j n a ns rest w q x y z
-    ∙ ap (λ s. readFrom (n + 1) s rest) t
-    ∙ ap (λ i. readFrom (n + 1) (on (after i) i 0 j′) rest) e
+      let more : (i : ℕ) → i < length l → P (length (done ++ (a ∷ [])) + i) (getD l i d) = λ i g.
+      let f : length done + suc i ≡ length (done ++ (a ∷ [])) + i = omega (arith, length-append done (a ∷ [])) in
+      subst (λ k. P k (getD l i d)) f (h (suc i) (omega arith)) in
+      step (length l) n done a (map ln l ++ tail) (subst (λ i. P i a) z (h 0 (omega arith)))
+      ∙ rows-read l (done ++ (a ∷ [])) (n + 1) tail more ∙ rw (append-assoc done (a ∷ []) l, e)
 
 -- formulas and program rows
 abbrev FormulaText : J.Job → J.Formula → Type 0
 FormulaText j f = KindText (countsOf j) formulaFields (f .kind) (f .a ∷ f .b ∷ [])
 
 formula-step : (m n : ℕ) (j : J.Job) (f : J.Formula) (rest : List (List ℕ)) → FormulaText j f
-    → readFrom n (on (afterFormulas (suc m)) (suc m) 0 j) (formulaLine f ∷ rest) ≡ readFrom (n + 1) (on (afterFormulas m) m 0 (J.addFormula j f)) rest
+    → readFrom n (on (afterRow Formula (suc m) 0) (suc m) 0 j) (formulaLine f ∷ rest) ≡ readFrom (n + 1) (on (afterRow Formula m 0) m 0 (J.addFormula j f)) rest
 formula-step m n j f rest q =
-    row-line Formula afterFormulas m n j (J.addFormula j f) (f .kind) (f .a ∷ f .b ∷ []) rest (rw (ne-eqb (suc m) 0 (λ z. omega arith))) refl refl (q .1) refl refl (q .0)
+    row-line Formula _ (suc m) 0 m 0 n j (f .kind) (f .a ∷ f .b ∷ []) rest (rw (ne-eqb (suc m) 0 (λ z. omega arith))) refl (q .1) refl (q .0) (omega arith) refl
 
 abbrev RowText : J.Job → J.Row → Type 0
 RowText j r = KindText (countsOf j) rowFields (r .kind) (r .a ∷ r .b ∷ r .c ∷ [])
 
 row-step : (m n : ℕ) (j : J.Job) (r : J.Row) (rest : List (List ℕ)) → RowText j r
-    → readFrom n (on (afterRows (suc m)) (suc m) 0 j) (rowLine r ∷ rest) ≡ readFrom (n + 1) (on (afterRows m) m 0 (J.addRow j r)) rest
+    → readFrom n (on (afterRow Row (suc m) 0) (suc m) 0 j) (rowLine r ∷ rest) ≡ readFrom (n + 1) (on (afterRow Row m 0) m 0 (J.addRow j r)) rest
 row-step m n j r rest q =
-    row-line Row afterRows m n j (J.addRow j r) (r .kind) (r .a ∷ r .b ∷ r .c ∷ []) rest (rw (ne-eqb (suc m) 0 (λ z. omega arith))) refl refl (q .1) refl refl (q .0)
+    row-line Row _ (suc m) 0 m 0 n j (r .kind) (r .a ∷ r .b ∷ r .c ∷ []) rest (rw (ne-eqb (suc m) 0 (λ z. omega arith))) refl (q .1) refl (q .0)
+    (omega arith) refl
 
 -- a move's effects
 abbrev EffectText : J.Job → J.Effect → Type 0
 EffectText j e = EffectFits (j .scalars .facts) (length (j .formulas)) e × Small (e .cond ∷ e .fact ∷ e .value ∷ [])
 
 effect-step : (due m n : ℕ) (j : J.Job) (e : J.Effect) (rest : List (List ℕ)) → EffectText j e
-    → readFrom n (on (afterMoves due (suc m)) due (suc m) j) (effectLine e ∷ rest) ≡ readFrom (n + 1) (on (afterMoves due m) due m (J.addEffect j e)) rest
+    → readFrom n (on (afterRow Effect due (suc m)) due (suc m) j) (effectLine e ∷ rest) ≡ readFrom (n + 1)
+    (on (afterRow Effect due m) due m (J.addEffect j e)) rest
 effect-step due m n j e rest q =
-    let d : suc m - 1 ≡ m = omega arith in
-    rw (ne-eqb (suc m) 0 (λ z. omega arith))
-    (text-line Effect due (suc m) j n (e .cond) (e .fact ∷ e .value ∷ []) rest refl (q .1) refl refl
+    row-line Effect _ due (suc m) due m n j (e .cond) (e .fact ∷ e .value ∷ []) rest (rw (ne-eqb (suc m) 0 (λ z. omega arith))) refl (q .1) refl
     (and-both (ltb (e .cond) (length (j .formulas))) _ (lt-ltb _ _ (q .0 .cond))
     (and-both (ltb (e .fact) (j .scalars .facts)) (leb (e .value) 1) (lt-ltb _ _ (q .0 .fact)) (le-leb _ _ (q .0 .value))))
-    ∙ ap (λ k. readFrom (n + 1) (on (afterMoves due k) due k (J.addEffect j e)) rest) d)
+    refl (omega arith)
 
 -- each element of a list, without its place
 abbrev All : {A : Type 0} → (A → Type 0) → List A → Type 0
@@ -183,9 +150,10 @@ all-every : {A : Type 0} (d : A) (P : A → Type 0) (l : List A) → ((i : ℕ) 
 all-every d P [] h = tt
 all-every d P (a ∷ l) h = (h 0 (omega arith), all-every d P l (λ i g. h (suc i) (omega arith)))
 
-all-from : {A : Type 0} (P : A → Type 0) (l : List A) (k : ℕ) → All P l → EveryFrom k (λ i a. P a) l
-all-from P [] k h = tt
-all-from P (a ∷ l) k h = (h .0, all-from P l (k + 1) (h .1))
+all-at : {A : Type 0} (d : A) (P : A → Type 0) (l : List A) → All P l → (i : ℕ) → i < length l → P (getD l i d)
+all-at d P [] h i g = absurd (omega arith)
+all-at d P (a ∷ l) h zero g = h .0
+all-at d P (a ∷ l) h (suc i) g = all-at d P l (h .1) i (omega arith)
 
 all-take : {A : Type 0} (P : A → Type 0) (c : ℕ) (l : List A) → All P l → All P (take c l)
 all-take P zero l h = tt
@@ -198,15 +166,16 @@ all-drop P (suc c) [] h = tt
 all-drop P (suc c) (a ∷ l) h = all-drop P c l (h .1)
 
 -- a move
-move-step : (due n : ℕ) (j : J.Job) (m : J.Move) (rest : List (List ℕ)) → length (j .formulas) ≤ mostFormulas → MoveFits (length (j .formulas)) m → m .first ≡ length (j .effects)
-    → readFrom n (on Move (suc due) 0 j) (moveLine m ∷ rest) ≡ readFrom (n + 1) (on (afterMoves due (m .effects)) due (m .effects) (J.addMove j m)) rest
+move-step : (due n : ℕ) (j : J.Job) (m : J.Move) (rest : List (List ℕ)) → length (j .formulas) ≤ mostFormulas → MoveFits (length (j .formulas)) m
+    → m .first ≡ length (j .effects)
+    → readFrom n (on (Of Move) (suc due) 0 j) (moveLine m ∷ rest) ≡ readFrom (n + 1)
+    (on (afterRow Effect due (m .effects)) due (m .effects) (J.addMove j m)) rest
 move-step due n j m rest h f e =
-    let d : suc due - 1 ≡ due = omega arith in
-    text-line Move (suc due) 0 j n (m .pre) (m .class ∷ m .effects ∷ []) rest refl
-    (omega (arith, f .pre), (omega (arith, f .class), (omega (arith, f .effects), tt))) refl (le-leb _ _ (f .effects))
-    (and-both (ltb (m .pre) (length (j .formulas))) (leb (m .class) lastClass) (lt-ltb _ _ (f .pre)) (le-leb _ _ (f .class)))
-    ∙ ap (λ k. readFrom (n + 1) (on (afterMoves k (m .effects)) k (m .effects) (J.addMove j (J.moveOf (length (j .effects)) (m .pre ∷ m .class ∷ m .effects ∷ [])))) rest) d
-    ∙ ap (λ i. readFrom (n + 1) (on (afterMoves due (m .effects)) due (m .effects) (J.addMove j (J.moveOf i (m .pre ∷ m .class ∷ m .effects ∷ [])))) rest) (sym e)
+    row-line Move _ (suc due) 0 due (m .effects) n j (m .pre) (m .class ∷ m .effects ∷ []) rest refl refl
+    (omega (arith, f .pre), (omega (arith, f .class), (omega (arith, f .effects), tt))) (le-leb _ _ (f .effects))
+    (and-both (ltb (m .pre) (length (j .formulas))) (leb (m .class) lastClass) (lt-ltb _ _ (f .pre)) (le-leb _ _ (f .class))) (omega arith) refl
+    ∙ ap (λ i. readFrom (n + 1) (on (afterRow Effect due (m .effects)) due (m .effects)
+    (J.addMove j (J.moveOf i (m .pre ∷ m .class ∷ m .effects ∷ [])))) rest) (sym e)
 
 -- the moves, each with its effects
 module _ (sc : J.Scalars) (fs : List J.Formula) (few : length fs ≤ mostFormulas) where
@@ -215,8 +184,8 @@ module _ (sc : J.Scalars) (fs : List J.Formula) (few : length fs ≤ mostFormula
 
   moves-read : (ms : List J.Move) (es : List J.Effect) (ms₀ : List J.Move) (es₀ : List J.Effect) (n : ℕ) (tail : List (List ℕ))
       → Tiled (length es₀) ms (length es₀ + length es) → All (MoveFits (length fs)) ms → All P es
-      → readFrom n (on (afterMoves (length ms) 0) (length ms) 0 (made sc fs ms₀ es₀ [])) (moveLines ms es ++ tail)
-      ≡ readFrom (n + length (moveLines ms es)) (on Goal 0 0 (made sc fs (ms₀ ++ ms) (es₀ ++ es) [])) tail
+      → readFrom n (on (afterRow Effect (length ms) 0) (length ms) 0 (made sc fs ms₀ es₀ [])) (moveLines ms es ++ tail)
+      ≡ readFrom (n + length (moveLines ms es)) (on (One Goal) 0 0 (made sc fs (ms₀ ++ ms) (es₀ ++ es) [])) tail
   unfolding moveLines
   moves-read [] [] ms₀ es₀ n tail t f g = let e : n + 0 ≡ n = omega arith in rw (append-nil ms₀, append-nil es₀, e)
   moves-read [] (x ∷ es) ms₀ es₀ n tail t f g = absurd (omega (arith, t))
@@ -235,9 +204,9 @@ module _ (sc : J.Scalars) (fs : List J.Formula) (few : length fs ≤ mostFormula
       omega (arith, length-append (map effectLine a) (moveLines ms b), length-map a effectLine) in
       rw (ne-eqb (suc (length ms)) 0 (λ z. omega arith), append-assoc (map effectLine a) (moveLines ms b) tail)
       (move-step (length ms) n (made sc fs ms₀ es₀ []) m (map effectLine a ++ rest) few (f .0) (t .0)
-      ∙ ap (λ k. readFrom (n + 1) (on (afterMoves (length ms) k) (length ms) k (mk es₀)) (map effectLine a ++ rest)) (sym la)
-      ∙ rows-read J.addEffect mk (λ l x. refl) EffectText (λ i x. P x) (λ l x h. h) (λ k j. on (afterMoves (length ms) k) (length ms) k j) effectLine (effect-step (length ms))
-      a es₀ (n + 1) rest (all-from P a (length es₀) (all-take P (m .effects) es g))
+      ∙ ap (λ k. readFrom (n + 1) (on (afterRow Effect (length ms) k) (length ms) k (mk es₀)) (map effectLine a ++ rest)) (sym la)
+      ∙ rows-read (J.effectOf []) mk (λ i x. P x) (λ k j. on (afterRow Effect (length ms) k) (length ms) k j) effectLine
+      (λ k i done. effect-step (length ms) k i (mk done)) a es₀ (n + 1) rest (all-at (J.effectOf []) P a (all-take P (m .effects) es g))
       ∙ moves-read ms b (ms₀ ++ (m ∷ [])) (es₀ ++ a) (n + 1 + length a) tail (rw (e₂, e₁) (t .1)) (f .1) (all-drop P (m .effects) es g)
       ∙ rw (append-assoc ms₀ (m ∷ []) ms, append-assoc es₀ a b, take-append-drop (m .effects) es, e₃))
 
@@ -253,20 +222,21 @@ module _ (j : J.Job) (w : WellFormed j) where
   abbrev FormulaAt : ℕ → J.Formula → Type 0
   FormulaAt i f = KindText (beforeFormula facts i) formulaFields (f .kind) (f .a ∷ f .b ∷ [])
 
-  formula-texts : EveryFrom 0 FormulaAt (j .formulas)
-  formula-texts = every-from (J.formulaOf []) FormulaAt (j .formulas) 0 (λ i h.
+  formula-texts : (i : ℕ) → i < length (j .formulas) → FormulaAt (0 + i) (getD (j .formulas) i (J.formulaOf []))
+  formula-texts i h =
       let e : i ≡ 0 + i = omega arith in
       subst (λ k. FormulaAt k (getD (j .formulas) i (J.formulaOf []))) e
-      (kind-text (beforeFormula facts i) formulaFields (omega arith) (bound-small _ (w .facts) (omega (arith, w .formulas)) (omega arith) (omega arith)) _ _ _ (w .formula i h)))
+      (kind-text (beforeFormula facts i) formulaFields (omega arith)
+      (bound-small _ (w .facts) (omega (arith, w .formulas)) (omega arith) (omega arith)) _ _ _ (w .formula i h))
 
   abbrev RowAt : ℕ → J.Row → Type 0
   RowAt i r = KindText (beforeRow j i) rowFields (r .kind) (r .a ∷ r .b ∷ r .c ∷ [])
 
-  row-texts : EveryFrom 0 RowAt (j .program)
-  row-texts = every-from (J.rowOf []) RowAt (j .program) 0 (λ i h.
+  row-texts : (i : ℕ) → i < length (j .program) → RowAt (0 + i) (getD (j .program) i (J.rowOf []))
+  row-texts i h =
       let e : i ≡ 0 + i = omega arith in
       subst (λ k. RowAt k (getD (j .program) i (J.rowOf []))) e
-      (kind-text (beforeRow j i) rowFields (omega arith) (bound-small _ (w .facts) (w .formulas) (w .moves) (omega (arith, w .program))) _ _ _ (w .row i h)))
+      (kind-text (beforeRow j i) rowFields (omega arith) (bound-small _ (w .facts) (w .formulas) (w .moves) (omega (arith, w .program))) _ _ _ (w .row i h))
 
   effect-texts : All (P (j .scalars) (j .formulas) (w .formulas)) (j .effects)
   effect-texts = all-every (J.effectOf []) (P (j .scalars) (j .formulas) (w .formulas)) (j .effects) (λ i h.
@@ -276,9 +246,6 @@ module _ (j : J.Job) (w : WellFormed j) where
   move-texts : All (MoveFits (length (j .formulas))) (j .moves)
   move-texts = all-every (J.moveOf 0 []) (MoveFits (length (j .formulas))) (j .moves) (w .move)
 
-  some-formula : length (j .formulas) ≡ 0 → ⊥
-  some-formula e = omega (arith, w .goal)
-
   init-small : j .scalars .init ≤ 65535
   init-small = let p : 2 ^ facts ≤ 2 ^ mostFacts = pow-le-pow-right (omega arith) (w .facts) in omega (arith, w .init)
 
@@ -287,29 +254,30 @@ module _ (j : J.Job) (w : WellFormed j) where
   sc = record { facts = facts; init = j .scalars .init; goal = 0 }
 
   head-read : (n : ℕ) (tail : List (List ℕ))
-      → readFrom n begun (lineOf Job (1 ∷ []) ∷ lineOf Facts (facts ∷ []) ∷ lineOf Init (j .scalars .init ∷ []) ∷ lineOf Formulas (length (j .formulas) ∷ []) ∷ tail)
-      ≡ readFrom (n + 1 + 1 + 1 + 1) (on (afterFormulas (length (j .formulas))) (length (j .formulas)) 0 (made sc [] [] [] [])) tail
+      → readFrom n begun
+      (lineOf (One Job) (1 ∷ []) ∷ lineOf (One Facts) (facts ∷ []) ∷ lineOf (One Init) (j .scalars .init ∷ []) ∷ lineOf (One Formulas)
+      (length (j .formulas) ∷ []) ∷ tail)
+      ≡ readFrom (n + 1 + 1 + 1 + 1) (on (afterRow Formula (length (j .formulas)) 0) (length (j .formulas)) 0 (made sc [] [] [] [])) tail
   head-read n tail =
-      text-line Job 0 0 (begun .job) n 1 [] _ refl (omega arith, tt) refl refl refl
-      ∙ text-line Facts 0 0 (begun .job) (n + 1) facts [] _ refl (omega (arith, w .facts), tt) refl (le-leb _ _ (w .facts)) refl
-      ∙ text-line Init 0 0 (made (record { facts = facts; init = 0; goal = 0 }) [] [] [] []) (n + 1 + 1) (j .scalars .init) [] _ refl (init-small, tt) refl (lt-ltb _ _ (w .init)) refl
-      ∙ text-line Formulas 0 0 (made sc [] [] [] []) (n + 1 + 1 + 1) (length (j .formulas)) [] tail refl (omega (arith, w .formulas), tt) refl
-      (and-both (leb 1 (length (j .formulas))) (leb (length (j .formulas)) mostFormulas) (le-leb 1 (length (j .formulas)) (omega (arith, w .goal))) (le-leb _ mostFormulas (w .formulas))) refl
-      ∙ rw (ne-eqb (length (j .formulas)) 0 some-formula)
+      one-line Job 0 (begun .job) n 1 _ (omega arith) (omega arith) (omega arith)
+      ∙ one-line Facts 1 (begun .job) (n + 1) facts _ (omega (arith, w .facts)) (omega arith) (omega (arith, w .facts))
+      ∙ one-line Init facts (made (record { facts = facts; init = 0; goal = 0 }) [] [] [] []) (n + 1 + 1) (j .scalars .init) _ init-small (omega arith)
+      (w .init)
+      ∙ one-line Formulas (j .scalars .init) (made sc [] [] [] []) (n + 1 + 1 + 1) (length (j .formulas)) tail
+      (omega (arith, w .formulas)) (omega (arith, w .goal)) (omega (arith, w .formulas))
 
-  program-read : (n : ℕ) → readFrom n (on Goal 0 0 (made sc (j .formulas) (j .moves) (j .effects) [])) (programLines j) ≡ read (n + 1 + 1 + length (j .program)) j
+  program-read : (n : ℕ) → readFrom n (on (One Goal) 0 0 (made sc (j .formulas) (j .moves) (j .effects) [])) (programLines j) ≡ read
+      (n + 1 + 1 + length (j .program)) j
   program-read n =
-      let p : length (j .program) ≡ 0 → ⊥ = λ (e : length (j .program) ≡ 0). omega (arith, w .last) in
       let mk : List J.Row → J.Job = λ l. made (j .scalars) (j .formulas) (j .moves) (j .effects) l in
-      let st : ℕ → J.Job → Reading = λ k q. on (afterRows k) k 0 q in
-      let start : on Row (length (j .program)) 0 (mk []) ≡ st (length (j .program)) (mk []) = rw (ne-eqb (length (j .program)) 0 p) in
-      text-line Goal 0 0 (made sc (j .formulas) (j .moves) (j .effects) []) n (j .scalars .goal) [] (lineOf Program (length (j .program) ∷ []) ∷ map rowLine (j .program))
-      refl (omega (arith, w .goal, w .formulas), tt) refl refl (lt-ltb _ _ (w .goal))
-      ∙ text-line Program 0 0 (mk []) (n + 1) (length (j .program)) [] (map rowLine (j .program)) refl (omega (arith, w .program), tt) refl
-      (and-both (leb 1 (length (j .program))) (leb (length (j .program)) mostProgram) (le-leb 1 _ (w .last)) (le-leb _ mostProgram (w .program))) refl
-      ∙ ap (λ q. readFrom (n + 1 + 1) q (map rowLine (j .program))) start
+      let st : ℕ → J.Job → Reading = λ k q. on (afterRow Row k 0) k 0 q in
+      one-line Goal 0 (made sc (j .formulas) (j .moves) (j .effects) []) n (j .scalars .goal)
+      (lineOf (One Program) (length (j .program) ∷ []) ∷ map rowLine (j .program))
+      (omega (arith, w .goal, w .formulas)) (omega arith) (w .goal)
+      ∙ one-line Program (j .scalars .goal) (mk []) (n + 1) (length (j .program)) (map rowLine (j .program)) (omega (arith, w .program)) (w .last)
+      (omega (arith, w .program))
       ∙ ap (readFrom (n + 1 + 1) (st (length (j .program)) (mk []))) (sym (append-nil (map rowLine (j .program))))
-      ∙ rows-read J.addRow mk (λ l x. refl) RowText RowAt (λ l r h. h) st rowLine row-step (j .program) [] (n + 1 + 1) [] row-texts
+      ∙ rows-read (J.rowOf []) mk RowAt st rowLine (λ k i done. row-step k i (mk done)) (j .program) [] (n + 1 + 1) [] row-texts
       ∙ read-end (n + 1 + 1 + length (j .program)) j
 
   lines-read : readFrom 0 begun (jobLines j) ≡ read (length (jobLines j)) j
@@ -317,32 +285,41 @@ module _ (j : J.Job) (w : WellFormed j) where
       let fs : List J.Formula = j .formulas in
       let ms : List J.Move = j .moves in
       let es : List J.Effect = j .effects in
-      let after : List (List ℕ) = lineOf Moves (length ms ∷ []) ∷ (moveLines ms es ++ programLines j) in
+      let after : List (List ℕ) = lineOf (One Moves) (length ms ∷ []) ∷ (moveLines ms es ++ programLines j) in
       let n : ℕ = 4 + length fs in
+      let mk : List J.Formula → J.Job = λ l. made sc l [] [] [] in
       let z : 0 + length es ≡ length es = omega arith in
       let e : 4 + length fs + 1 + length (moveLines ms es) + 1 + 1 + length (j .program) ≡ length (jobLines j) =
-      omega (arith, length-append (map formulaLine fs) after, length-map fs formulaLine, length-append (moveLines ms es) (programLines j), length-map (j .program) rowLine) in
+      omega (
+        arith,
+        length-append (map formulaLine fs) after,
+        length-map fs formulaLine,
+        length-append (moveLines ms es) (programLines j),
+        length-map
+            (j .program) rowLine,
+      ) in
       head-read 0 (map formulaLine fs ++ after)
-      ∙ rows-read J.addFormula (λ l. made sc l [] [] []) (λ l x. refl) FormulaText FormulaAt (λ l f h. h) (λ k q. on (afterFormulas k) k 0 q) formulaLine formula-step fs [] 4 after formula-texts
-      ∙ text-line Moves 0 0 (made sc fs [] [] []) n (length ms) [] (moveLines ms es ++ programLines j) refl (omega (arith, w .moves), tt) refl (le-leb _ _ (w .moves)) refl
+      ∙ rows-read (J.formulaOf []) mk FormulaAt (λ k q. on (afterRow Formula k 0) k 0 q) formulaLine (λ k i done. formula-step k i (mk done))
+      fs [] 4 after formula-texts
+      ∙ one-line Moves 0 (made sc fs [] [] []) n (length ms) (moveLines ms es ++ programLines j) (omega (arith, w .moves)) (omega arith)
+      (omega (arith, w .moves))
       ∙ moves-read sc fs (w .formulas) ms es [] [] (n + 1) (programLines j) (rw z (w .tiled)) move-texts effect-texts
       ∙ program-read (n + 1 + length (moveLines ms es))
       ∙ ap (λ k. read k j) e
 
 -- every line of a job's text ends in its only line feed
 key-plain : (k : Line) → plain (formOf k .key) ≡ true
-unfolding bytes
-key-plain Job = refl
-key-plain Facts = refl
-key-plain Init = refl
-key-plain Formulas = refl
-key-plain Formula = refl
-key-plain Moves = refl
-key-plain Move = refl
-key-plain Effect = refl
-key-plain Goal = refl
-key-plain Program = refl
-key-plain Row = refl
+key-plain (One Job) = refl
+key-plain (One Facts) = refl
+key-plain (One Init) = refl
+key-plain (One Formulas) = refl
+key-plain (One Moves) = refl
+key-plain (One Goal) = refl
+key-plain (One Program) = refl
+key-plain (Of Formula) = refl
+key-plain (Of Move) = refl
+key-plain (Of Effect) = refl
+key-plain (Of Row) = refl
 key-plain End = refl
 
 abbrev Once : List ℕ → Type 0
@@ -362,21 +339,26 @@ all-both (x ∷ a) b f g = (f .0, all-both a b (f .1) g)
 move-once : (ms : List J.Move) (es : List J.Effect) → All Once (moveLines ms es)
 unfolding moveLines
 move-once [] es = tt
-move-once (m ∷ ms) es =
-    (once Move _ _, all-both (map effectLine (take (m .effects) es)) (moveLines ms (drop (m .effects) es)) (all-map effectLine (take (m .effects) es) (λ e. once Effect _ _)) (move-once ms (drop (m .effects) es)))
+move-once (m ∷ ms) es = (
+  once (Of Move) _ _,
+  all-both (map effectLine (take (m .effects) es)) (moveLines ms (drop (m .effects) es))
+      (all-map effectLine (take (m .effects) es) (λ e. once (Of Effect) _ _)) (move-once ms (drop (m .effects) es)),
+)
 
 job-once : (j : J.Job) → All Once (jobLines j)
 job-once j =
-    let end : All Once (programLines j) = (once Goal _ _, (once Program _ _, all-map rowLine (j .program) (λ r. once Row _ _))) in (
-      once Job _ _,
+    let end : All Once (programLines j) = (once (One Goal) _ _, (once (One Program) _ _, all-map rowLine (j .program) (λ r. once (Of Row) _ _))) in (
+      once (One Job) _ _,
       (
-        once Facts _ _,
+        once (One Facts) _ _,
         (
-          once Init _ _,
+          once (One Init) _ _,
           (
-            once Formulas _ _,
-            all-both (map formulaLine (j .formulas)) (lineOf Moves (length (j .moves) ∷ []) ∷ (moveLines (j .moves) (j .effects) ++ programLines j)) (all-map formulaLine (j .formulas) (λ f. once Formula _ _))
-                (once Moves _ _, all-both (moveLines (j .moves) (j .effects)) (programLines j) (move-once (j .moves) (j .effects)) end),
+            once (One Formulas) _ _,
+            all-both (map formulaLine (j .formulas))
+                (lineOf (One Moves) (length (j .moves) ∷ []) ∷ (moveLines (j .moves) (j .effects) ++ programLines j))
+                (all-map formulaLine (j .formulas) (λ f. once (Of Formula) _ _))
+                (once (One Moves) _ _, all-both (moveLines (j .moves) (j .effects)) (programLines j) (move-once (j .moves) (j .effects)) end),
           ),
         ),
       ),

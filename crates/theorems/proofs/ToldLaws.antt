@@ -1,15 +1,12 @@
 -- A text that is read is the text of the job that it is read as.
 -- Assumes nothing.
-use Prim.Native.Nat.{ℕ, _+_, _-_, _≤_, _<_}
+use Prim.Native.Nat.{ℕ, zero, suc, _+_, _-_, _≤_, _<_}
 use mathlib.Core.Path.{_≡_, refl, sym, _∙_, ap, subst}
 use mathlib.Core.List.{List, [], _∷_, _++_, map, map-append, flatten, append-assoc, append-nil}
 use mathlib.Core.Option.{some}
 use native.Mathlib.Omega.{arith}
-use lib.Dec.{eqb}
 use lib.ListN.{length, getD, take, drop, length-append, length-drop}
 use lib.Seq.{take-all, take-nil, take-append-le, drop-append-le}
-use borrow.Author.Tests.{eqb-true}
-use Rattle.laws.proofs.Tests.{never, cond-has}
 use Rattle.text.specs.Lines.{lines}
 use Rattle.text.proofs.LineLaws.{flatten-lines}
 use Rattle.text.proofs.LineText.{line-sound}
@@ -17,14 +14,18 @@ use Rattle.job.specs.Job as J
 use Rattle.job.specs.Job.{countsOf, formulaOf, moveOf, effectOf, rowOf}
 use Rattle.theorems.specs.JobText.{lineOf, formulaLine, moveLine, effectLine, rowLine, moveLines, jobLines, jobText}
 use Rattle.job.specs.Line.{formOf, lineNumbers}
-use Rattle.job.specs.ReadJob.{Reading, read, takenAt, taken, begun, readJob}
+use Rattle.job.specs.ReadJob.{Reading, read, past, again, afterRow, takenAt, taken, begun, readJob}
 use Rattle.job.specs.WellFormed.{Tiled}
 use Rattle.job.specs.declared.head.Counts.{Counts}
+use Rattle.job.specs.declared.line.Heading.{Heading}
+use Rattle.job.specs.declared.line.Heading.the-variants.{Job, Facts, Init, Formulas, Moves, Goal, Program}
+use Rattle.job.specs.declared.line.RowSort.{RowSort}
+use Rattle.job.specs.declared.line.RowSort.the-variants.{Formula, Move, Effect, Row}
 use Rattle.job.specs.declared.line.Line.{Line}
-use Rattle.job.specs.declared.line.Line.the-variants.{Job, Facts, Init, Formulas, Formula, Moves, Move, Effect, Goal, Program, Row, End}
+use Rattle.job.specs.declared.line.Line.the-variants.{One, Of, End}
 use Rattle.job.proofs.RowLaws.{tiled-own}
 use Rattle.reader.specs.Room.{Room}
-use Rattle.reader.proofs.RoomLaws.{Right, moves-has}
+use Rattle.reader.proofs.RoomLaws.{Right, rows-has}
 use Rattle.reader.proofs.KeptLaws.{Fits, Kept, taken-kept, begun-kept}
 use Rattle.reader.proofs.ReadLaws.{read-has}
 
@@ -38,11 +39,6 @@ open-less : (ms : List J.Move) (due less : ℕ) → less ≤ due → Open ms due
 open-less [] due less h o = omega arith
 open-less (m ∷ []) due less h o = omega arith
 open-less (m ∷ k ∷ ms) due less h o = open-less (k ∷ ms) due less h o
-
-open-none : (ms : List J.Move) → Open ms 0
-open-none [] = refl
-open-none (m ∷ []) = omega arith
-open-none (m ∷ k ∷ ms) = open-none (k ∷ ms)
 
 open-last : (ms : List J.Move) (m : J.Move) → Open (ms ++ (m ∷ [])) (m .effects)
 open-last [] m = omega arith
@@ -79,65 +75,94 @@ effects-more (m ∷ []) es x first due t p o =
     let a : length (es ++ (x ∷ [])) ≤ m .effects = omega (arith, length-append es (x ∷ []), t .1) in
     let b : length es ≤ m .effects = omega (arith, t .1) in
     rw (take-all (m .effects) (es ++ (x ∷ [])) a, take-all (m .effects) es b, map-append effectLine es (x ∷ []))
-    (ap (λ r. moveLine m ∷ r) (append-nil (map effectLine es ++ (effectLine x ∷ [])) ∙ ap (λ r. r ++ (effectLine x ∷ [])) (sym (append-nil (map effectLine es)))))
+    (ap (λ r. moveLine m ∷ r) (append-nil (map effectLine es ++ (effectLine x ∷ []))
+    ∙ ap (λ r. r ++ (effectLine x ∷ [])) (sym (append-nil (map effectLine es)))))
 effects-more (m ∷ k ∷ ms) es x first due t p o =
     let h = open-tiled (k ∷ ms) (first + m .effects) (first + length es + due) due (t .1) o in
     let b : m .effects ≤ length es = omega arith in
     let e : first + m .effects + length (drop (m .effects) es) + due ≡ first + length es + due = omega (arith, length-drop (m .effects) es) in
     rw (take-append-le (m .effects) es (x ∷ []) b, drop-append-le (m .effects) es (x ∷ []) b)
-    (ap (λ r. moveLine m ∷ (map effectLine (take (m .effects) es) ++ r)) (effects-more (k ∷ ms) (drop (m .effects) es) x (first + m .effects) due (rw e (t .1)) p o)
+    (ap (λ r. moveLine m ∷ (map effectLine (take (m .effects) es) ++ r))
+    (effects-more (k ∷ ms) (drop (m .effects) es) x (first + m .effects) due (rw e (t .1)) p o)
     ∙ ap (λ r. moveLine m ∷ r) (sym (append-assoc (map effectLine (take (m .effects) es)) (moveLines (k ∷ ms) (drop (m .effects) es)) (effectLine x ∷ []))))
 
 -- the lines that were read before each sort of line, with these counts of rows
 module _ (j : J.Job) where
   abbrev scalarLines : List (List ℕ)
-  scalarLines = lineOf Job (1 ∷ []) ∷ lineOf Facts (j .scalars .facts ∷ []) ∷ lineOf Init (j .scalars .init ∷ []) ∷ []
+  scalarLines = lineOf (One Job) (1 ∷ []) ∷ lineOf (One Facts) (j .scalars .facts ∷ []) ∷ lineOf (One Init) (j .scalars .init ∷ []) ∷ []
 
   abbrev formulaPart : ℕ → List (List ℕ)
-  formulaPart n = scalarLines ++ (lineOf Formulas (n ∷ []) ∷ map formulaLine (j .formulas))
+  formulaPart n = scalarLines ++ (lineOf (One Formulas) (n ∷ []) ∷ map formulaLine (j .formulas))
 
   abbrev movePart : ℕ → List (List ℕ)
-  movePart n = formulaPart (length (j .formulas)) ++ (lineOf Moves (n ∷ []) ∷ moveLines (j .moves) (j .effects))
+  movePart n = formulaPart (length (j .formulas)) ++ (lineOf (One Moves) (n ∷ []) ∷ moveLines (j .moves) (j .effects))
 
   abbrev goalPart : List (List ℕ)
-  goalPart = movePart (length (j .moves)) ++ (lineOf Goal (j .scalars .goal ∷ []) ∷ [])
+  goalPart = movePart (length (j .moves)) ++ (lineOf (One Goal) (j .scalars .goal ∷ []) ∷ [])
 
   abbrev rowPart : ℕ → List (List ℕ)
-  rowPart n = goalPart ++ (lineOf Program (n ∷ []) ∷ map rowLine (j .program))
+  rowPart n = goalPart ++ (lineOf (One Program) (n ∷ []) ∷ map rowLine (j .program))
+
+  -- the part that ends in rows of a sort, and how many of them it has
+  abbrev part : RowSort → ℕ → List (List ℕ)
+  part Formula n = formulaPart n
+  part Move n = movePart n
+  part Effect n = movePart n
+  part Row n = rowPart n
+
+  abbrev count : RowSort → ℕ
+  count Formula = length (j .formulas)
+  count Move = length (j .moves)
+  count Effect = length (j .moves)
+  count Row = length (j .program)
 
 abbrev toldAt : Line → ℕ → J.Job → List (List ℕ)
-toldAt Job due j = []
-toldAt Facts due j = lineOf Job (1 ∷ []) ∷ []
-toldAt Init due j = lineOf Job (1 ∷ []) ∷ lineOf Facts (j .scalars .facts ∷ []) ∷ []
-toldAt Formulas due j = scalarLines j
-toldAt Formula due j = formulaPart j (length (j .formulas) + due)
-toldAt Moves due j = formulaPart j (length (j .formulas))
-toldAt Move due j = movePart j (length (j .moves) + due)
-toldAt Effect due j = movePart j (length (j .moves) + due)
-toldAt Goal due j = movePart j (length (j .moves))
-toldAt Program due j = goalPart j
-toldAt Row due j = rowPart j (length (j .program) + due)
-toldAt End due j = rowPart j (length (j .program))
+toldAt (One Job) due j = []
+toldAt (One Facts) due j = lineOf (One Job) (1 ∷ []) ∷ []
+toldAt (One Init) due j = lineOf (One Job) (1 ∷ []) ∷ lineOf (One Facts) (j .scalars .facts ∷ []) ∷ []
+toldAt (One Formulas) due j = scalarLines j
+toldAt (One Moves) due j = part j Formula (count j Formula)
+toldAt (One Goal) due j = part j Move (count j Move)
+toldAt (One Program) due j = goalPart j
+toldAt (Of k) due j = part j k (count j k + due)
+toldAt End due j = part j Row (count j Row)
 
-one : (r : List ℕ) → length r ≡ 1 → r ≡ getD r 0 0 ∷ []
-one [] e = absurd (omega arith)
-one (a ∷ []) e = refl
-one (a ∷ b ∷ r) e = absurd (omega arith)
+-- what was read before the line that comes after a row, or after the line that counts the rows
+module _ (due effects : ℕ) (j : J.Job) where
+  past-told : (k : RowSort) → toldAt (past k) due j ≡ part j k (count j k)
+  past-told Formula = refl
+  past-told Move = refl
+  past-told Effect = refl
+  past-told Row = refl
 
-three : (r : List ℕ) → length r ≡ 3 → r ≡ getD r 0 0 ∷ getD r 1 0 ∷ getD r 2 0 ∷ []
-three [] e = absurd (omega arith)
-three (a ∷ []) e = absurd (omega arith)
-three (a ∷ b ∷ []) e = absurd (omega arith)
-three (a ∷ b ∷ c ∷ []) e = refl
-three (a ∷ b ∷ c ∷ d ∷ r) e = absurd (omega arith)
+  again-told : (k : RowSort) → toldAt (Of (again k)) due j ≡ part j k (count j k + due)
+  again-told Formula = refl
+  again-told Move = refl
+  again-told Effect = refl
+  again-told Row = refl
 
-four : (r : List ℕ) → length r ≡ 4 → r ≡ getD r 0 0 ∷ getD r 1 0 ∷ getD r 2 0 ∷ getD r 3 0 ∷ []
-four [] e = absurd (omega arith)
-four (a ∷ []) e = absurd (omega arith)
-four (a ∷ b ∷ []) e = absurd (omega arith)
-four (a ∷ b ∷ c ∷ []) e = absurd (omega arith)
-four (a ∷ b ∷ c ∷ d ∷ []) e = refl
-four (a ∷ b ∷ c ∷ d ∷ x ∷ r) e = absurd (omega arith)
+  rows-told : (k : RowSort) → ((effects ≡ 0 → ⊥) → toldAt (Of Effect) due j ≡ part j k (count j k + due)) → (n : ℕ) → count j k + due ≡ n
+      → toldAt (afterRow k due effects) due j ≡ part j k n
+  rows-told k f n e =
+      rows-has (λ l. toldAt l due j ≡ part j k (count j k + due)) k due effects
+      (λ y z. let d : count j k ≡ count j k + due = omega (arith, z) in past-told k ∙ ap (part j k) d) (λ y z. again-told k) f
+      ∙ ap (part j k) e
+
+-- the numbers of a line, place by place
+abbrev numbersFrom : ℕ → ℕ → List ℕ → List ℕ
+numbersFrom i zero r = []
+numbersFrom i (suc n) r = getD r i 0 ∷ numbersFrom (suc i) n r
+
+numbers-shifted : (n i a : ℕ) (r : List ℕ) → numbersFrom (suc i) n (a ∷ r) ≡ numbersFrom i n r
+numbers-shifted zero i a r = refl
+numbers-shifted (suc n) i a r = ap (λ q. getD r i 0 ∷ q) (numbers-shifted n (suc i) a r)
+
+numbers-all : (r : List ℕ) → numbersFrom 0 (length r) r ≡ r
+numbers-all [] = refl
+numbers-all (a ∷ r) = ap (λ q. a ∷ q) (numbers-shifted (length r) 0 a r ∙ numbers-all r)
+
+numbers-of : (n : ℕ) (r : List ℕ) → length r ≡ n → numbersFrom 0 n r ≡ r
+numbers-of n r e = ap (λ k. numbersFrom 0 k r) (sym e) ∙ numbers-all r
 
 nil-of : {A : Type 0} (l : List A) → length l ≡ 0 → l ≡ []
 nil-of [] e = refl
@@ -150,19 +175,19 @@ behind a x l y = sym (append-assoc a (x ∷ l) (y ∷ []))
 module _ (j : J.Job) (n : ℕ) where
   formula-told : (f : J.Formula) → formulaPart (J.addFormula j f) n ≡ formulaPart j n ++ (formulaLine f ∷ [])
   formula-told f =
-      ap (λ q. scalarLines j ++ (lineOf Formulas (n ∷ []) ∷ q)) (map-append formulaLine (j .formulas) (f ∷ []))
-      ∙ behind (scalarLines j) (lineOf Formulas (n ∷ [])) (map formulaLine (j .formulas)) (formulaLine f)
+      ap (λ q. scalarLines j ++ (lineOf (One Formulas) (n ∷ []) ∷ q)) (map-append formulaLine (j .formulas) (f ∷ []))
+      ∙ behind (scalarLines j) (lineOf (One Formulas) (n ∷ [])) (map formulaLine (j .formulas)) (formulaLine f)
 
   move-told : (ms : List J.Move) (es : List J.Effect) (y : List ℕ) → moveLines ms es ≡ moveLines (j .moves) (j .effects) ++ (y ∷ [])
-      → formulaPart j (length (j .formulas)) ++ (lineOf Moves (n ∷ []) ∷ moveLines ms es) ≡ movePart j n ++ (y ∷ [])
+      → formulaPart j (length (j .formulas)) ++ (lineOf (One Moves) (n ∷ []) ∷ moveLines ms es) ≡ movePart j n ++ (y ∷ [])
   move-told ms es y e =
-      ap (λ q. formulaPart j (length (j .formulas)) ++ (lineOf Moves (n ∷ []) ∷ q)) e
-      ∙ behind (formulaPart j (length (j .formulas))) (lineOf Moves (n ∷ [])) (moveLines (j .moves) (j .effects)) y
+      ap (λ q. formulaPart j (length (j .formulas)) ++ (lineOf (One Moves) (n ∷ []) ∷ q)) e
+      ∙ behind (formulaPart j (length (j .formulas))) (lineOf (One Moves) (n ∷ [])) (moveLines (j .moves) (j .effects)) y
 
   row-told : (r : J.Row) → rowPart (J.addRow j r) n ≡ rowPart j n ++ (rowLine r ∷ [])
   row-told r =
-      ap (λ q. goalPart j ++ (lineOf Program (n ∷ []) ∷ q)) (map-append rowLine (j .program) (r ∷ []))
-      ∙ behind (goalPart j) (lineOf Program (n ∷ [])) (map rowLine (j .program)) (rowLine r)
+      ap (λ q. goalPart j ++ (lineOf (One Program) (n ∷ []) ∷ q)) (map-append rowLine (j .program) (r ∷ []))
+      ∙ behind (goalPart j) (lineOf (One Program) (n ∷ [])) (map rowLine (j .program)) (rowLine r)
 
 module _ (s : Reading) (r : List ℕ) where
   abbrev j : J.Job
@@ -175,72 +200,69 @@ module _ (s : Reading) (r : List ℕ) where
   abbrev Told : Line → Type 0
   Told k = toldAt (takenAt k s r .next) (takenAt k s r .due) (takenAt k s r .job) ≡ toldAt k (s .due) j ++ (lineOf k r ∷ [])
 
-  told-at : (k : Line) → length r ≡ formOf k .width → Right k c r → Room k (s .due) (s .effects) c → Fits (s .effects) j → Open (j .moves) (s .effects) → Told k
-  told-at Job w x h f o = let e : getD r 0 0 ≡ 1 = eqb-true _ _ (x .form) in rw (one r w, e)
-  told-at Facts w x h f o = ap (λ q. lineOf Job (1 ∷ []) ∷ lineOf Facts q ∷ []) (sym (one r w))
-  told-at Init w x h f o = ap (λ q. lineOf Job (1 ∷ []) ∷ lineOf Facts (j .scalars .facts ∷ []) ∷ lineOf Init q ∷ []) (sym (one r w))
-  told-at Formulas w x h f o =
-      let z : length (j .formulas) ≡ 0 = omega (arith, h .formulas) in
-      let e : length (j .formulas) + getD r 0 0 ≡ getD r 0 0 = omega arith in
-      rw (e, nil-of (j .formulas) z) (ap (λ q. scalarLines j ++ (lineOf Formulas q ∷ [])) (sym (one r w)))
-  told-at Formula w x h f o =
-      let j′ : J.Job = J.addFormula j (formulaOf r) in
+  -- a line's numbers are as many as it has
+  told-line : (k : Line) → length r ≡ formOf k .width
+      → toldAt k (s .due) j ++ (lineOf k (numbersFrom 0 (formOf k .width) r) ∷ []) ≡ toldAt k (s .due) j ++ (lineOf k r ∷ [])
+  told-line k w = ap (λ q. toldAt k (s .due) j ++ (lineOf k q ∷ [])) (numbers-of (formOf k .width) r w)
+
+  told-one : (h : Heading) → length r ≡ 1 → Right (One h) c r → Room (One h) (s .due) (s .effects) c → Told (One h)
+  told-one Job w x h = let e : 1 ≡ getD r 0 0 = omega (arith, x) in ap (λ (q : ℕ). lineOf (One Job) (q ∷ []) ∷ []) e ∙ told-line (One Job) w
+  told-one Facts w x h = told-line (One Facts) w
+  told-one Init w x h = told-line (One Init) w
+  told-one Formulas w x h =
+      let z : length (j .formulas) ≡ 0 = omega (arith, h .fit .formulas) in
+      rows-told (getD r 0 0) 0 (takenAt (One Formulas) s r .job) Formula (λ y. absurd (y refl)) (getD r 0 0) (omega arith)
+      ∙ rw (nil-of (j .formulas) z) (told-line (One Formulas) w)
+  told-one Moves w x h =
+      let z : length (j .moves) ≡ 0 = omega (arith, h .fit .moves) in
+      rows-told (getD r 0 0) 0 (takenAt (One Moves) s r .job) Move (λ y. refl) (getD r 0 0) (omega arith)
+      ∙ rw (nil-of (j .moves) z, no-moves (j .effects)) (told-line (One Moves) w)
+  told-one Goal w x h = told-line (One Goal) w
+  told-one Program w x h =
+      let z : length (j .program) ≡ 0 = omega (arith, h .fit .program) in
+      rows-told (getD r 0 0) 0 (takenAt (One Program) s r .job) Row (λ y. absurd (y refl)) (getD r 0 0) (omega arith)
+      ∙ rw (nil-of (j .program) z) (told-line (One Program) w)
+
+  told-row : (k : RowSort) → length r ≡ formOf (Of k) .width → Room (Of k) (s .due) (s .effects) c → Fits (s .effects) j → Open (j .moves) (s .effects)
+      → Told (Of k)
+  told-row Formula w h f o =
       let l = length-append (j .formulas) (formulaOf r ∷ []) in
-      let told : (n : ℕ) → n ≡ length (j .formulas) + s .due → formulaPart j′ n ≡ formulaPart j (length (j .formulas) + s .due) ++ (lineOf Formula r ∷ []) =
-      λ n e. rw e (formula-told j (length (j .formulas) + s .due) (formulaOf r) ∙ ap (λ q. formulaPart j (length (j .formulas) + s .due) ++ (lineOf Formula q ∷ [])) (sym (three r w))) in
-      cond-has (λ k. toldAt k (s .due - 1) j′ ≡ formulaPart j (length (j .formulas) + s .due) ++ (lineOf Formula r ∷ [])) (eqb (s .due - 1) 0) Moves Formula
-      (λ z. told _ (omega (arith, l, h .owed, eqb-true (s .due - 1) 0 z))) (λ z. told _ (omega (arith, l, h .owed)))
-  told-at Moves w x h f o =
-      let a : length (j .moves) ≡ 0 = omega (arith, h .moves) in
-      let told : (n : ℕ) → n ≡ getD r 0 0 → movePart j n ≡ formulaPart j (length (j .formulas)) ++ (lineOf Moves r ∷ []) =
-      λ n e. rw (e, nil-of (j .moves) a, no-moves (j .effects)) (ap (λ q. formulaPart j (length (j .formulas)) ++ (lineOf Moves q ∷ [])) (sym (one r w))) in
-      moves-has (λ k. toldAt k (getD r 0 0) j ≡ formulaPart j (length (j .formulas)) ++ (lineOf Moves r ∷ [])) (getD r 0 0) 0
-      (λ y z. told _ (omega arith)) (λ y z. told _ (omega arith)) (λ z. told _ (omega arith))
-  told-at Move w x h f o =
+      rows-told (s .due - 1) (s .effects) (J.addFormula j (formulaOf r)) Formula (λ y. absurd (y (h .owed .1))) (length (j .formulas) + s .due)
+      (omega (arith, l, h .owed .0))
+      ∙ formula-told j (length (j .formulas) + s .due) (formulaOf r) ∙ told-line (Of Formula) w
+  told-row Move w h f o =
       let m : J.Move = moveOf (length (j .effects)) r in
       let l = length-append (j .moves) (m ∷ []) in
       let d : length (j .effects) + s .effects ≡ 0 + length (j .effects) = omega (arith, h .owed .1) in
-      let told : (n : ℕ) → n ≡ length (j .moves) + s .due → movePart (J.addMove j m) n ≡ movePart j (length (j .moves) + s .due) ++ (lineOf Move r ∷ []) =
-      λ n e. rw e (move-told j (length (j .moves) + s .due) (j .moves ++ (m ∷ [])) (j .effects) (moveLine m) (moves-more (j .moves) (j .effects) m 0 (subst (Tiled 0 (j .moves)) d (f .tiled)))
-      ∙ ap (λ q. movePart j (length (j .moves) + s .due) ++ (lineOf Move q ∷ [])) (sym (three r w))) in
-      moves-has (λ k. toldAt k (s .due - 1) (J.addMove j m) ≡ movePart j (length (j .moves) + s .due) ++ (lineOf Move r ∷ [])) (s .due - 1) (getD r 2 0)
-      (λ y z. told _ (omega (arith, l, h .owed .0))) (λ y z. told _ (omega (arith, l, h .owed .0))) (λ z. told _ (omega (arith, l, h .owed .0)))
-  told-at Effect w x h f o =
-      let e′ : J.Effect = effectOf r in
+      rows-told (s .due - 1) (getD r 2 0) (J.addMove j m) Move (λ y. refl) (length (j .moves) + s .due) (omega (arith, l, h .owed .0))
+      ∙ move-told j (length (j .moves) + s .due) (j .moves ++ (m ∷ [])) (j .effects) (moveLine m)
+      (moves-more (j .moves) (j .effects) m 0 (subst (Tiled 0 (j .moves)) d (f .tiled)))
+      ∙ told-line (Of Move) w
+  told-row Effect w h f o =
+      let e : J.Effect = effectOf r in
       let d : length (j .effects) + s .effects ≡ 0 + length (j .effects) + s .effects = omega arith in
-      let told : (n : ℕ) → n ≡ length (j .moves) + s .due → movePart (J.addEffect j e′) n ≡ movePart j (length (j .moves) + s .due) ++ (lineOf Effect r ∷ []) =
-      λ n e. rw e (move-told j (length (j .moves) + s .due) (j .moves) (j .effects ++ (e′ ∷ [])) (effectLine e′)
-      (effects-more (j .moves) (j .effects) e′ 0 (s .effects) (subst (Tiled 0 (j .moves)) d (f .tiled)) (h .owed) o)
-      ∙ ap (λ q. movePart j (length (j .moves) + s .due) ++ (lineOf Effect q ∷ [])) (sym (three r w))) in
-      moves-has (λ k. toldAt k (s .due) (J.addEffect j e′) ≡ movePart j (length (j .moves) + s .due) ++ (lineOf Effect r ∷ [])) (s .due) (s .effects - 1)
-      (λ y z. told _ (omega arith)) (λ y z. told _ (omega arith)) (λ z. told _ (omega arith))
-  told-at Goal w x h f o = ap (λ q. movePart j (length (j .moves)) ++ (lineOf Goal q ∷ [])) (sym (one r w))
-  told-at Program w x h f o =
-      let z : length (j .program) ≡ 0 = omega (arith, h .program) in
-      let e : length (j .program) + getD r 0 0 ≡ getD r 0 0 = omega arith in
-      rw (e, nil-of (j .program) z) (ap (λ q. goalPart j ++ (lineOf Program q ∷ [])) (sym (one r w)))
-  told-at Row w x h f o =
-      let j′ : J.Job = J.addRow j (rowOf r) in
+      rows-told (s .due) (s .effects - 1) (J.addEffect j e) Effect (λ y. refl) (length (j .moves) + s .due) refl
+      ∙ move-told j (length (j .moves) + s .due) (j .moves) (j .effects ++ (e ∷ [])) (effectLine e)
+      (effects-more (j .moves) (j .effects) e 0 (s .effects) (subst (Tiled 0 (j .moves)) d (f .tiled)) (h .owed) o)
+      ∙ told-line (Of Effect) w
+  told-row Row w h f o =
       let l = length-append (j .program) (rowOf r ∷ []) in
-      let told : (n : ℕ) → n ≡ length (j .program) + s .due → rowPart j′ n ≡ rowPart j (length (j .program) + s .due) ++ (lineOf Row r ∷ []) =
-      λ n e. rw e (row-told j (length (j .program) + s .due) (rowOf r) ∙ ap (λ q. rowPart j (length (j .program) + s .due) ++ (lineOf Row q ∷ [])) (sym (four r w))) in
-      cond-has (λ k. toldAt k (s .due - 1) j′ ≡ rowPart j (length (j .program) + s .due) ++ (lineOf Row r ∷ [])) (eqb (s .due - 1) 0) End Row
-      (λ z. told _ (omega (arith, l, h .owed .0, eqb-true (s .due - 1) 0 z))) (λ z. told _ (omega (arith, l, h .owed .0)))
-  told-at End w x h f o = never (x .form)
+      rows-told (s .due - 1) (s .effects) (J.addRow j (rowOf r)) Row (λ y. absurd (y (h .owed .1))) (length (j .program) + s .due)
+      (omega (arith, l, h .owed .0))
+      ∙ row-told j (length (j .program) + s .due) (rowOf r) ∙ told-line (Of Row) w
 
-  open-at : (k : Line) → Right k c r → Room k (s .due) (s .effects) c → Open (j .moves) (s .effects) → Open (takenAt k s r .job .moves) (takenAt k s r .effects)
-  open-at Job x h o = o
-  open-at Facts x h o = o
-  open-at Init x h o = o
-  open-at Formulas x h o = o
-  open-at Formula x h o = o
-  open-at Moves x h o = open-none (j .moves)
-  open-at Move x h o = open-last (j .moves) (moveOf (length (j .effects)) r)
-  open-at Effect x h o = open-less (j .moves) (s .effects) (s .effects - 1) (omega arith) o
-  open-at Goal x h o = o
-  open-at Program x h o = o
-  open-at Row x h o = o
-  open-at End x h o = o
+  told-at : (k : Line) → length r ≡ formOf k .width → Right k c r → Room k (s .due) (s .effects) c → Fits (s .effects) j → Open (j .moves) (s .effects) → Told k
+  told-at (One k) w x h f o = told-one k w x h
+  told-at (Of k) w x h f o = told-row k w h f o
+  told-at End w x h f o = absurd x
+
+  open-at : (k : Line) → Open (j .moves) (s .effects) → Open (takenAt k s r .job .moves) (takenAt k s r .effects)
+  open-at (One h) o = o
+  open-at (Of Formula) o = o
+  open-at (Of Move) o = open-last (j .moves) (moveOf (length (j .effects)) r)
+  open-at (Of Effect) o = open-less (j .moves) (s .effects) (s .effects - 1) (omega arith) o
+  open-at (Of Row) o = o
+  open-at End o = o
 
 -- a line that has numbers is their text
 numbers-text : (k : Line) (line r : List ℕ) → lineNumbers k line ≡ some r → (length r ≡ formOf k .width) × (line ≡ lineOf k r)
@@ -257,14 +279,15 @@ told-all j = simp append-assoc
 told-end : (s : Reading) (q : J.Job) → s .next ≡ End → s .job ≡ q → toldOf s ≡ jobLines q
 told-end s q e f = rw (e, f) (told-all q)
 
-told-taken : (s : Reading) (r : List ℕ) → length r ≡ formOf (s .next) .width → Right (s .next) (countsOf (s .job)) r → Kept s → Open (s .job .moves) (s .effects)
+told-taken : (s : Reading) (r : List ℕ) → length r ≡ formOf (s .next) .width → Right (s .next) (countsOf (s .job)) r → Kept s
+    → Open (s .job .moves) (s .effects)
     → toldOf (taken s r) ≡ toldOf s ++ (lineOf (s .next) r ∷ [])
 unfolding taken
 told-taken s r w x k o = told-at s r (s .next) w x (k .room) (k .fit) o
 
-open-taken : (s : Reading) (r : List ℕ) → Right (s .next) (countsOf (s .job)) r → Kept s → Open (s .job .moves) (s .effects) → Open (taken s r .job .moves) (taken s r .effects)
+open-taken : (s : Reading) (r : List ℕ) → Open (s .job .moves) (s .effects) → Open (taken s r .job .moves) (taken s r .effects)
 unfolding taken
-open-taken s r x k o = open-at s r (s .next) x (k .room) o
+open-taken s r o = open-at s r (s .next) o
 
 -- a text that is read is the text of its job
 pub read-text : (text : List ℕ) (n : ℕ) (j : J.Job) → readJob text ≡ read n j → text ≡ jobText j
@@ -276,5 +299,5 @@ read-text text n j e =
     (λ k s line r ls d x f h o.
     let v = numbers-text (s .next) line r d in
     ap (λ q. toldOf s ++ (q ∷ ls)) (v .1) ∙ sym (append-assoc (toldOf s) (lineOf (s .next) r ∷ []) ls)
-    ∙ ap (λ q. q ++ ls) (sym (told-taken s r (v .0) x h o)) ∙ f (taken-kept s r x h) (open-taken s r x h o))
+    ∙ ap (λ q. q ++ ls) (sym (told-taken s r (v .0) x h o)) ∙ f (taken-kept s r x h) (open-taken s r o))
     0 begun (lines text) e begun-kept refl)

@@ -1,40 +1,39 @@
-use Prim.Native.Nat.{_-_, _≤_}
+use Prim.Native.Nat.{_-_}
 use mathlib.Core.Path.{_≡_, sym, _∙_, ap}
 use mathlib.Core.List.{[]}
 use native.Mathlib.Omega.{arith}
-use lib.ListN.{length, take, drop, length-set}
+use lib.ListN.{length, drop, length-set}
 use Rattle.limits.specs.Limits.{mostEntries}
 use Rattle.text.specs.Lines.{lines}
 use Rattle.text.proofs.LineLaws.{line-within}
 use Rattle.plans.specs.PlanText.{entryOf, readEntries}
-use Rattle.plans.proofs.PlanLaws.{entry-more, entry-wrong, entry-extra, entry-missing, entries-all}
+use Rattle.plans.proofs.PlanLaws.{SoFar, entry-more, entry-wrong, entry-extra, entry-missing, entries-all}
 use borrow.Author.Needs.{needs}
 use Rattle.plans.proofs.plan_text.read_entries.Statement.{statement}
 use Rattle.plans.proofs.plan_text.read_entries.Tie as tie
 
 abbrev Inv-loop : tie.InvT-loop
 Inv-loop text start key bound count entries₀ at₀ n₀ entries at n =
-    (n ≤ count) × (length entries ≡ mostEntries)
-    × (readEntries key bound [] count (lines (drop start text)) ≡ readEntries key bound (take n entries) (count - n) (lines (drop at text)))
+    (length entries ≡ mostEntries) × SoFar key bound (readEntries key bound [] count (lines (drop start text))) text entries count n at
 
 abbrev μ-loop : tie.MeasureT-loop
 μ-loop text start key bound count entries₀ at₀ n₀ entries at n = length text - at
 
 loop-holds : tie.Need-loop-holds Inv-loop μ-loop
 loop-holds c =
-    let a = c .before .before .before .args in
-    let e : a .count ≡ a .count - 0 = omega arith in
-    (omega arith, c .before .before .before .pre .1, ap (λ k. readEntries (a .key .now) (a .bound) [] k (lines (drop (a .start) (a .text .now)))) e)
+    let b = c .before .before .before in
+    let a = b .args in
+    let e : a .count ≡ a .count - 0 = omega arith in (
+      b .pre .1,
+      record {
+        few = omega arith;
+        room = omega (arith, b .pre);
+        goes = ap (λ k. readEntries (a .key .now) (a .bound) [] k (lines (drop (a .start) (a .text .now)))) e;
+      },
+    )
 
 returns : tie.Need-returns Inv-loop μ-loop
-returns c =
-    let at6 = c .before .before .before .before .before .before in
-    let a = at6 .args in
-    let l = c .before .before .loop in (
-      sym (entry-extra (a .key .now) (a .bound) _ (a .text .now) (l .entries) (a .count) (l .n) (l .at) (l .inv .0)
-          (omega (arith, l .inv .1, at6 .pre .0)) (l .inv .2) (c .before .loop-test .taken) (c .if1 .taken)),
-      omega arith,
-    )
+returns c = (sym (entry-extra (c .before .before .loop .inv .1) (c .before .loop-test .taken) (c .if1 .taken)), omega arith)
 
 part-read-entry-end : tie.Need-part-read-entry-end Inv-loop μ-loop
 part-read-entry-end c =
@@ -44,12 +43,9 @@ part-read-entry-end c =
 returns-2 : tie.Need-returns-2 Inv-loop μ-loop
 returns-2 c =
     let at4 = c .before .before .before .before in
-    let at11 = at4 .before .before .before .before .before .before .before in
-    let a = at11 .args in
-    let l = at4 .before .before .before .loop in (
-      sym (entry-wrong (a .key .now) (a .bound) _ (a .text .now) (l .entries) (a .count) (l .n) (l .at) (l .inv .0)
-          (omega (arith, l .inv .1, at11 .pre .0)) (l .inv .2) _ (at4 .before .before .loop-test .taken) (at4 .line-end .ensures)
-          (omega (arith, l .inv .0, at4 .before .if1 .left)) (sym (c .before .before .read-entry .ensures) ∙ ap entryOf (c .enum-told .given .1))),
+    let p = at4 .before .before .before .loop .inv .1 in (
+      sym (entry-wrong p (at4 .before .before .loop-test .taken) (at4 .line-end .ensures) (omega (arith, p .few, at4 .before .if1 .left))
+          (sym (c .before .before .read-entry .ensures) ∙ ap entryOf (c .enum-told .given .1))),
       omega arith,
     )
 
@@ -62,35 +58,19 @@ loop-less c =
 loop-again : tie.Need-loop-again Inv-loop μ-loop
 loop-again c =
     let at5 = c .before .before .before .before .before in
-    let at12 = at5 .before .before .before .before .before .before .before in
-    let a = at12 .args in
     let l = at5 .before .before .before .loop in (
-      omega (arith, l .inv .0, at5 .before .if1 .left),
-      simp length-set (l .inv .1),
-      entry-more (a .key .now) (a .bound) _ (a .text .now) (l .entries) (a .count) (l .n) (l .at) (l .inv .0) (omega (arith, l .inv .1, at12 .pre .0))
-          (l .inv .2) _ (at5 .before .before .loop-test .taken) (at5 .line-end .ensures) _ (omega (arith, l .inv .0, at5 .before .if1 .left))
+      simp length-set (l .inv .0),
+      entry-more (l .inv .1) (at5 .before .before .loop-test .taken) (at5 .line-end .ensures) _ (omega (arith, l .inv .1 .few, at5 .before .if1 .left))
           (sym (c .before .before .before .read-entry .ensures) ∙ ap entryOf (c .before .found .given .1)),
     )
 
 returns-3 : tie.Need-returns-3 Inv-loop μ-loop
-returns-3 c =
-    let at6 = c .before .before .before .before .before .before in
-    let a = at6 .args in
-    let l = c .before .before .loop in (
-      sym (entry-missing (a .key .now) (a .bound) _ (a .text .now) (l .entries) (a .count) (l .n) (l .at) (l .inv .0)
-          (omega (arith, l .inv .1, at6 .pre .0)) (l .inv .2) (c .before .loop-test .left) (c .if2 .taken)),
-      omega arith,
-    )
+returns-3 c = (sym (entry-missing (c .before .before .loop .inv .1) (c .before .loop-test .left) (c .if2 .taken)), omega arith)
 
 returns-4 : tie.Need-returns-4 Inv-loop μ-loop
 returns-4 c =
-    let at6 = c .before .before .before .before .before .before in
-    let a = at6 .args in
-    let l = c .before .before .loop in (
-      sym (entries-all (a .key .now) (a .bound) _ (a .text .now) (l .entries) (a .count) (l .n) (l .at) (l .inv .0)
-          (omega (arith, l .inv .1, at6 .pre .0)) (l .inv .2) (c .before .loop-test .left) (c .if2 .left)),
-      omega (arith, l .inv .0, at6 .pre .0),
-    )
+    let p = c .before .before .loop .inv .1 in
+    (sym (entries-all p (c .before .loop-test .left) (c .if2 .left)), omega (arith, p .few, c .before .before .before .before .before .before .pre .0))
 
 pub read-entries-spec : {M : Type 1} → statement M
 read-entries-spec =
