@@ -8,15 +8,11 @@ use Rattle.semantics.specs.Domain.{Domain}
 use Rattle.semantics.specs.StepVerdict as S
 use Rattle.semantics.specs.StepVerdict.{arrives}
 use Rattle.compiled.specs.Successors.{Cached}
-use Rattle.compiled.specs.declared.arrival.Target.{Target}
 use Rattle.compiled.specs.declared.arrival.Arrival.{Arrival}
 use Rattle.compiled.specs.declared.arrival.Arrival.the-variants.{At, Nowhere}
 
-abbrev pub targetOf : Target → S.Arrival
-targetOf t = record { state = t .state; position = t .position; cost = t .cost }
-
 abbrev pub arrivalOf : Arrival → Option S.Arrival
-arrivalOf (At target) = some (targetOf target)
+arrivalOf (At state position cost) = some (record { state = state; position = position; cost = cost })
 arrivalOf Nowhere = none
 
 -- a step of a label to position q, made in state s, where successors are cached
