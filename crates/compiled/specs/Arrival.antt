@@ -8,15 +8,11 @@ use Rattle.semantics.specs.Domain.{Domain}
 use Rattle.semantics.specs.Machine as M
 use Rattle.semantics.specs.StepVerdict.{Configuration, arrival, arrives}
 use Rattle.compiled.specs.Successors.{Cached}
-use Rattle.compiled.specs.declared.arrival.Target.{Target}
 use Rattle.compiled.specs.declared.arrival.Arrival.{Arrival}
 use Rattle.compiled.specs.declared.arrival.Arrival.the-variants.{At, Nowhere}
 
-abbrev pub targetOf : Target → M.Arrival Configuration
-targetOf t = arrival (t .state) (t .position) (t .cost)
-
 abbrev pub arrivalOf : Arrival → Option (M.Arrival Configuration)
-arrivalOf (At target) = some (targetOf target)
+arrivalOf (At state position cost) = some (arrival state position cost)
 arrivalOf Nowhere = none
 
 -- a step of a label to position q, made in state s, where successors are cached

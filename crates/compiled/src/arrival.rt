@@ -12,16 +12,9 @@ use crate::steps::OutStep;
 use domain::Successor;
 use job::head::Head;
 
-// The state and the position that a step leads to, and what it costs.
-pub struct Target {
-    pub state: u16,
-    pub position: u16,
-    pub cost: u32,
-}
-
-// Where a step leads: nowhere, if it can't be made.
+// Where a step leads: the state, the position, and what it costs. Nowhere, where it can't be made.
 pub enum Arrival {
-    At(Target),
+    At(u16, u16, u32),
     Nowhere,
 }
 
@@ -30,11 +23,7 @@ fn silently(on: bool, state: u16, to: u16) -> Arrival
     ensures { λ r. ⌜ arrivalOf r ≡ cond on (stays state to) none ⌝ }
 {
     if on {
-        return Arrival::At(Target {
-            state: state,
-            position: to,
-            cost: 0,
-        });
+        return Arrival::At(state, to, 0);
     }
     Arrival::Nowhere
 }
@@ -60,11 +49,7 @@ fn by_move(
         return Arrival::Nowhere;
     };
     let cost = domain::moves::cost(head, rows, values, m, state);
-    Arrival::At(Target {
-        state: next,
-        position: step.to,
-        cost: cost,
-    })
+    Arrival::At(next, step.to, cost)
 }
 
 // A step, made in a state.

@@ -1,6 +1,6 @@
 -- The least entry of a filled table at the last position, where the goal holds, is the least cost.
 -- Assumes nothing.
-use Prim.Native.Nat.{ℕ, _+_, _-_, _*_, _≤_, _<_}
+use Prim.Native.Nat.{ℕ, _+_, _≤_, _<_}
 use native.Mathlib.Omega.{arith}
 use native.Mathlib.Decide.{decLt}
 use mathlib.Core.Path.{_≡_, refl, sym, subst}
@@ -17,13 +17,9 @@ use Rattle.semantics.specs.CostTable.{unreached, Entry, reached, not-reached, F
 use Rattle.semantics.specs.Cells.{cell, Graph, Edge}
 use Rattle.semantics.proofs.Agreement.{complete-runs}
 use Rattle.semantics.proofs.Bounds.{Bounded, Closed}
-use Rattle.semantics.proofs.CellLaws.{cell-below, edge-within}
+use Rattle.semantics.proofs.CellLaws.{edge-within}
 use Rattle.search.specs.Filling.{Lowest, Lower, kept, lower}
 use Rattle.search.proofs.GraphLaws.{compiled-closed}
-
--- the cell of a state's last position
-pub last-cell-below : (positions s n : ℕ) → 1 ≤ positions → s < n → cell positions s (positions - 1) < n * positions
-last-cell-below positions s n h l = cell-below positions s (positions - 1) n l (omega arith)
 
 module _ {D : Domain} {positions : ℕ} {T : List ℕ} {e : ℕ} where
   pub lowest-none : Lowest D positions T e 0 unreached

@@ -27,9 +27,7 @@ use Rattle.compiled.specs.Adjacency.{Indexed}
 use Rattle.compiled.specs.Steps.{labelOf, IsStep}
 use Rattle.compiled.specs.Ready.{Ready}
 use Rattle.compiled.specs.Successors.{Cached}
-use Rattle.compiled.specs.Arrival.{targetOf}
 use Rattle.compiled.specs.declared.steps.OutStep.{OutStep}
-use Rattle.compiled.specs.declared.arrival.Target.{Target}
 use Rattle.compiled.proofs.WalkLaws.{Walked, walk-start, walk-step, walk-more, walk-end}
 use Rattle.semantics.proofs.Arrivals.{Led}
 use Rattle.compiled.proofs.ArrivalLaws.{arrives-led, arrives-alone, arrives-never}
@@ -37,9 +35,10 @@ use Rattle.queue.specs.Queue.{Lowered}
 use Rattle.search.specs.declared.Grid.{Grid}
 use Rattle.search.specs.declared.Origin.{Origin}
 use Rattle.search.specs.declared.Front.{Front}
+use Rattle.search.specs.declared.Target.{Target}
 use Rattle.search.specs.Cells.{Idle, followed, low, far, due}
 use Rattle.search.specs.Sweeps.{Only, Processed, below, passed, marked, potential, domainAt, graphIn}
-use Rattle.search.specs.Relaxation.{Room, Sweep, cellAt, Relaxing, kept, within, lowered, Stepped, stays, leads, Progress, Scanned}
+use Rattle.search.specs.Relaxation.{Room, Sweep, targetOf, cellAt, Relaxing, kept, within, lowered, Stepped, stays, leads, Progress, Scanned}
 use Rattle.search.proofs.GraphLaws.{graph-closed}
 use Rattle.search.proofs.PotentialLaws.{store-falls}
 

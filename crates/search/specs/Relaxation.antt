@@ -6,17 +6,17 @@ use mathlib.Core.Option.{none as nothing, some}
 use mathlib.Core.List.{List}
 use lib.ListN.{length, getD, set}
 use Rattle.limits.specs.Limits.{mostPositions}
-use Rattle.semantics.specs.StepVerdict.{arrives}
+use Rattle.semantics.specs.Machine.{Arrival}
+use Rattle.semantics.specs.StepVerdict.{Configuration, arrival, arrives}
 use Rattle.semantics.specs.Cells.{Graph, cell, Runs, Relaxed, sum}
 use Rattle.compiled.specs.Steps.{labelOf}
 use Rattle.compiled.specs.Successors.{Standing}
-use Rattle.compiled.specs.Arrival.{targetOf}
 use Rattle.compiled.specs.declared.steps.OutStep.{OutStep}
-use Rattle.compiled.specs.declared.arrival.Target.{Target}
 use Rattle.queue.specs.Queue.{Queue, Lowered}
 use Rattle.search.specs.declared.Grid.{Grid}
 use Rattle.search.specs.declared.Origin.{Origin}
 use Rattle.search.specs.declared.Front.{Front}
+use Rattle.search.specs.declared.Target.{Target}
 use Rattle.search.specs.Sweeps.{Keyed, Only, Processed, graphIn, domainAt, potential}
 
 -- room for a table of so many states and positions, and for the states' keys
@@ -30,6 +30,9 @@ pub record Sweep (origin : Origin) (rows : List ℕ) (values : List Bool) (T que
   pub standing : Standing (origin .head) rows values (origin .state) cache
   pub states : origin .grid .states ≡ domainAt origin rows .states
   pub room : Room (origin .grid) T queue
+
+abbrev pub targetOf : Target → Arrival Configuration
+targetOf t = arrival (t .state) (t .position) (t .cost)
 
 -- the cell of a target
 abbrev pub cellAt : Origin → Target → ℕ

@@ -1,6 +1,6 @@
 // The least cost, from the cost table.
 ghost use mathlib.Core.Path.{_≡_};
-ghost use Prim.Native.Nat.{_-_, _*_, _≤_, _<_};
+ghost use Prim.Native.Nat.{_*_, _≤_, _<_};
 ghost use lib.ListN.{length};
 ghost use Rattle.limits.specs.Limits.{mostPositions};
 ghost use Rattle.job.specs.Store.{jobOf};
@@ -29,19 +29,17 @@ fn lesser(head: Head, rows: &[u16], state: u16, least: u32, x: u32) -> u32
     least
 }
 
-// The least entry at the last position, of the states where the goal holds.
-fn least_entry(costs: &[u32], head: Head, rows: &[u16], grid: Grid) -> u32
+// The least entry at a position, of the states where the goal holds.
+fn least_entry(costs: &[u32], head: Head, rows: &[u16], grid: Grid, p: usize) -> u32
     requires { ⌜ Stored head (now rows) × (grid .states ≡ domainIn head (now rows) .states) ⌝ }
-    requires { ⌜ (1 ≤ grid .positions) × (grid .positions ≤ mostPositions) × (domainIn head (now rows) .states * grid .positions ≤ length (now costs)) ⌝ }
-    ensures { λ r. ⌜ Lowest (domainIn head (now (rows .entry))) (grid .positions) (now (costs .entry))
-        (grid .positions - 1) (domainIn head (now (rows .entry)) .states) r ⌝ }
+    requires { ⌜ (p < grid .positions) × (grid .positions ≤ mostPositions) × (domainIn head (now rows) .states * grid .positions ≤ length (now costs)) ⌝ }
+    ensures { λ r. ⌜ Lowest (domainIn head (now (rows .entry))) (grid .positions) (now (costs .entry)) p (domainIn head (now (rows .entry)) .states) r ⌝ }
 {
     let states = grid.states;
-    let last = (grid.positions as usize) - 1;
     let mut least = UNREACHED;
     let mut s: u16 = 0;
     while s < states {
-        let x = costs[crate::cells::cell(s, grid.positions, last)];
+        let x = costs[crate::cells::cell(s, grid.positions, p)];
         least = lesser(head, rows, s, least, x);
         s += 1;
     }
@@ -57,5 +55,6 @@ pub fn least_cost(costs: &mut [u32], head: Head, rows: &[u16], list: &[u16], gri
         (now (costs .entry)) (now (costs .exit)) × LeastOr (domainIn head (now (rows .entry))) (programOf (jobOf head (now (rows .entry)))) r ⌝ }
 {
     crate::fill::fill(costs, head, rows, list, grid);
-    least_entry(costs, head, rows, grid)
+    let last = (grid.positions as usize) - 1;
+    least_entry(costs, head, rows, grid, last)
 }

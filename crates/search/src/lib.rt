@@ -31,5 +31,12 @@ pub struct Front {
     pub position: usize,
 }
 
+// Where a step leads: the cell of a state and position, and what the step costs.
+pub struct Target {
+    pub state: u16,
+    pub position: u16,
+    pub cost: u32,
+}
+
 // What a cell holds that is not reached.
 pub const UNREACHED: u32 = queue::NO_KEY;

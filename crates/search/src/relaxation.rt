@@ -14,8 +14,8 @@ ghost use Rattle.search.specs.Sweeps.{Only, Processed, graphIn, domainAt
 ghost use Rattle.search.specs.Relaxation.{Room, Sweep, Relaxing, Stepped, Scanned};
 use crate::Front;
 use crate::Origin;
+use crate::Target;
 use compiled::arrival::Arrival;
-use compiled::arrival::Target;
 use compiled::steps::OutStep;
 use limits::POSITIONS;
 
@@ -81,8 +81,13 @@ fn follow(
     let head = origin.head;
     let state = origin.state;
     let arrival = compiled::arrival::arrive(head, rows, values, cache, state, step);
-    let Arrival::At(target) = arrival else {
+    let Arrival::At(to, position, cost) = arrival else {
         return next;
+    };
+    let target = Target {
+        state: to,
+        position: position,
+        cost: cost,
     };
     relax(costs, queue, marks, origin, x, target, next)
 }

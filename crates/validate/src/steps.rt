@@ -50,12 +50,12 @@ pub fn check_steps(head: Head, rows: &[u16], list: &[u16], positions: u16, plan:
     while i < plan.len() {
         let entry = plan[i];
         let step = make_step(head, rows, list, entry, state, position);
-        let Arrival::At(target) = step else {
+        let Arrival::At(next, to, spent) = step else {
             return Verdict::Blocked(i);
         };
-        state = target.state;
-        position = target.position;
-        cost += target.cost;
+        state = next;
+        position = to;
+        cost += spent;
         i += 1;
     }
     let values = domain::formulas::formula_values(head, rows, state);

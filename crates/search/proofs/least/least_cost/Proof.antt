@@ -8,17 +8,20 @@ use borrow.Author.Needs.{needs}
 use Rattle.search.proofs.least.least_cost.Statement.{statement}
 use Rattle.search.proofs.least.least_cost.Tie as tie
 
+sub-last : tie.Need-sub-last
+sub-last c = omega (arith, some-position (c .before .before .before .before .before .before .before .before .pre .0 .0))
+
 least-entry-requires : tie.Need-least-entry-requires
 least-entry-requires c κs =
-    let p = c .before .before .before .before .before .before .before .before .pre in
+    let p = c .before .before .before .before .before .before .before .before .before .pre in
     let r = p .0 .0 in
-    ((r .stored, p .0 .1), (some-position r, positions-few r, omega (arith, p .1, c .before .before .before .fill .ensures .size)))
+    ((r .stored, p .0 .1), (omega (arith, some-position r), positions-few r, omega (arith, p .1, c .before .before .before .before .fill .ensures .size)))
 
 returns : tie.Need-returns
 returns c =
-    let a = c .before .before .before .before .before .before .before .before .before .args in
-    let ready = c .before .before .before .before .before .before .before .before .before .pre .0 .0 in
-    let filled = c .before .before .before .before .fill .ensures in
+    let a = c .before .before .before .before .before .before .before .before .before .before .args in
+    let ready = c .before .before .before .before .before .before .before .before .before .before .pre .0 .0 in
+    let filled = c .before .before .before .before .before .fill .ensures in
     let low = rw (last-final ready) at (c .least-entry .ensures) in
     (filled, lowest-least (domainIn (a .head) (a .rows .now)) (programOf (jobOf (a .head) (a .rows .now))) (job-bounded ready) (ready .positions) filled low)
 
@@ -27,6 +30,8 @@ least-cost-spec =
     tie.close
     (tie.spec
     (λ c κs. search needs)
+    (λ c. search needs)
+    sub-last
     least-entry-requires
     (λ c. search needs)
     returns)

@@ -27,9 +27,8 @@ loop-holds c = stepping-start (job-bounded (c .before .before .before .before .p
 
 make-step-requires : tie.Need-make-step-requires Inv-loop μ-loop
 make-step-requires c κs =
-    let at7 = c .before .before .before .before .before .before .before in
-    let r = at7 .pre .0 in
-    (r .stored, (omega (arith, at7 .pre .1 .below _ (c .before .loop-test .taken), r .whole), c .before .before .loop .inv .state))
+    let p = c .before .before .before .before .before .before .before .pre in
+    (p .0 .stored, (omega (arith, p .1 .below _ (c .before .loop-test .taken), p .0 .whole), c .before .before .loop .inv .state))
 
 returns : tie.Need-returns Inv-loop μ-loop
 returns c =
@@ -40,18 +39,20 @@ returns c =
 
 add-cost : tie.Need-add-cost Inv-loop μ-loop
 add-cost c =
-    let at4 = c .before .before .before .before in
-    let at12 = at4 .before .before .before .before .before .before .before .before in
-    let made = rw (c .before .before .step .given .1, at12 .pre .0 .steps) at (at4 .make-step .ensures) in
-    let more = stepping-more (at4 .before .before .before .loop .inv) (at4 .before .before .loop-test .taken) (job-bounded (at12 .pre .0)) made in
-    record { fits = omega (arith, more .cost, at4 .before .before .loop-test .taken, at12 .pre .1 .few) }
+    let at5 = c .before .before .before .before .before in
+    let at11 = at5 .before .before .before .before .before .before in
+    let p = at11 .pre in
+    let made = rw (c .before .step .given .1, p .0 .steps) at (c .before .before .before .make-step .ensures) in
+    let more = stepping-more (at5 .before .loop .inv) (at5 .loop-test .taken) (job-bounded (p .0)) made in
+    record { fits = omega (arith, more .cost, at5 .loop-test .taken, p .1 .few) }
 
 loop-again : tie.Need-loop-again Inv-loop μ-loop
 loop-again c =
-    let at4 = c .before .before .before .before in
-    let at12 = at4 .before .before .before .before .before .before .before .before in
-    let made = rw (c .before .before .step .given .1, at12 .pre .0 .steps) at (at4 .make-step .ensures) in
-    stepping-more (at4 .before .before .before .loop .inv) (at4 .before .before .loop-test .taken) (job-bounded (at12 .pre .0)) made
+    let at5 = c .before .before .before .before .before in
+    let at11 = at5 .before .before .before .before .before .before in
+    let r = at11 .pre .0 in
+    let made = rw (c .before .step .given .1, r .steps) at (c .before .before .before .make-step .ensures) in
+    stepping-more (at5 .before .loop .inv) (at5 .loop-test .taken) (job-bounded r) made
 
 sub-finish : tie.Need-sub-finish Inv-loop μ-loop
 sub-finish c = omega (arith, some-position (c .before .before .before .before .before .before .before .before .before .pre .0))
@@ -60,7 +61,8 @@ returns-2 : tie.Need-returns-2 Inv-loop μ-loop
 returns-2 c =
     let at4 = c .before .before .before .before in
     let at10 = at4 .before .before .before .before .before .before in
-    c .finish .ensures ∙ rw (c .before .goal-holds .ensures, last-final (at10 .pre .0)) (stepping-end (at4 .before .loop .inv) (at4 .loop-test .left))
+    let end = stepping-end (at4 .before .loop .inv) (at4 .loop-test .left) in
+    c .finish .ensures ∙ rw (c .before .goal-holds .ensures, last-final (at10 .pre .0)) end
 
 pub check-steps-spec : {M : Type 1} → statement M
 check-steps-spec =
