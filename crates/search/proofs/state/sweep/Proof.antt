@@ -1,4 +1,4 @@
-use Prim.Native.Nat.{suc, _+_, _-_, _*_, _<_}
+use Prim.Native.Nat.{suc, _+_, _-_, _*_}
 use mathlib.Core.Path.{sym, _∙_}
 use native.Mathlib.Omega.{arith}
 use lib.ListN.{length, length-set}
