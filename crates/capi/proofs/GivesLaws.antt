@@ -10,7 +10,8 @@ pub given-by : {A : Type 0} {numbers : A → Numbers} {promised : A → Type 0} 
     → promised a → n ≡ numbers a → (number ≡ n .number) × (values ≡ n .values) → Gives numbers promised number values
 given-by a p e h = record { answer = a; holds = p; number-is = h .0 ∙ ap (λ (m : Numbers). m .number) e; values-are = h .1 ∙ ap (λ (m : Numbers). m .values) e }
 
--- at most one number and one list of values are given where all answers that are promised have the same
+-- at most one number and one list of values are given where all answers that are promised have the
+-- same
 pub gives-once : {A : Type 0} {numbers : A → Numbers} {P Q : A → Type 0} {n m : ℕ} {v w : List ℕ}
     → ((a b : A) → P a → Q b → numbers a ≡ numbers b) → Gives numbers P n v → Gives numbers Q m w → (n ≡ m) × (v ≡ w)
 gives-once one g h =

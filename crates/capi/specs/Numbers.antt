@@ -7,7 +7,7 @@ use Rattle.semantics.specs.Verdict.{Verdict, plan, blocked, unfinished, missed}
 use Rattle.semantics.specs.Judgement.{Judgement, least, dearer, other}
 use Rattle.compile.specs.declared.sizes.Sizes.{Sizes}
 use Rattle.load.specs.Refusals.{Checked, passed, refused}
-use Rattle.jesmovit.specs.Outcomes.{readOutcome, compileOutcome, checkOutcome, leastOutcome, SizedJudgement, judgeOutcome}
+use Rattle.jesmovit.specs.Outcomes.{readOutcome, compileOutcome, checkOutcome, leastOutcome, judgeOutcome}
 use Rattle.jesmovit.specs.declared.judging.JudgeAnswer.{JudgeAnswer}
 use Rattle.jesmovit.specs.declared.judging.LeastAnswer.{LeastAnswer}
 use Rattle.jesmovit.specs.declared.compiling.CompileAnswer.{CompileAnswer}
@@ -32,7 +32,8 @@ numbersOf say (refused number place) = refusalNumbers number place
 abbrev pub coded : ℕ → ℕ → ℕ → Coded
 coded number first second = record { number = number; first = first; second = second }
 
--- the verdicts, numbered from 0 in the order of "Verdicts": "plan, with its cost", "blocked i", "unfinished", "goal missed"
+-- the verdicts, numbered from 0 in the order of "Verdicts": "plan, with its cost", "blocked i",
+-- "unfinished", "goal missed"
 abbrev pub verdictCode : Verdict → Coded
 verdictCode (plan cost) = coded 0 cost 0
 verdictCode (blocked i) = coded 1 i 0

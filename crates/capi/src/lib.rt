@@ -1,4 +1,5 @@
-// The public operations for C, and for every language that calls C: numbers and slices alone, and no `requires`. include/jesmovit.h says the same in C's words.
+// The public operations for C, and for every language that calls C: numbers and slices alone, and
+// no `requires`. include/jesmovit.h says the same in C's words.
 ghost use Rattle.load.specs.declared.request.Sort.{Sort};
 ghost use Rattle.jesmovit.specs.JobText.{Reads};
 ghost use Rattle.jesmovit.specs.Compiling.{Compiles};
@@ -37,7 +38,8 @@ pub extern "C" fn jesmovit_check_moves(
     list: &mut [u16],
     answer: &mut [u64; 5],
 ) -> u32
-    ensures { λ r. ⌜ Gives checkNumbers (λ a. Checks Sort.Moves (now (text .entry)) (now (plan .entry)) (now (list .entry)) a (now (list .exit))) r (now (answer .exit)) ⌝ }
+    ensures { λ r. ⌜ Gives checkNumbers (λ a. Checks Sort.Moves (now (text .entry)) (now (plan .entry)) (now (list .entry)) a (now (list .exit))) r
+        (now (answer .exit)) ⌝ }
 {
     let a = jesmovit::check_moves(text, plan, list);
     let n = numbers::of_check(a);
@@ -52,7 +54,8 @@ pub extern "C" fn jesmovit_check_steps(
     list: &mut [u16],
     answer: &mut [u64; 5],
 ) -> u32
-    ensures { λ r. ⌜ Gives checkNumbers (λ a. Checks Sort.Steps (now (text .entry)) (now (plan .entry)) (now (list .entry)) a (now (list .exit))) r (now (answer .exit)) ⌝ }
+    ensures { λ r. ⌜ Gives checkNumbers (λ a. Checks Sort.Steps (now (text .entry)) (now (plan .entry)) (now (list .entry)) a (now (list .exit))) r
+        (now (answer .exit)) ⌝ }
 {
     let a = jesmovit::check_steps(text, plan, list);
     let n = numbers::of_check(a);
@@ -67,7 +70,8 @@ pub extern "C" fn jesmovit_least_cost(
     table: &mut [u32],
     answer: &mut [u64; 5],
 ) -> u32
-    ensures { λ r. ⌜ Gives leastNumbers (λ a. CostsLeast (now (text .entry)) (now (list .entry)) (now (table .entry)) a (now (list .exit)) (now (table .exit))) r (now (answer .exit)) ⌝ }
+    ensures { λ r. ⌜ Gives leastNumbers (λ a. CostsLeast (now (text .entry)) (now (list .entry)) (now (table .entry)) a (now (list .exit))
+        (now (table .exit))) r (now (answer .exit)) ⌝ }
 {
     let a = jesmovit::least_cost(text, list, table);
     let n = numbers::of_least(a);

@@ -10,7 +10,7 @@ use jesmovit::JudgeAnswer;
 use jesmovit::Judgement;
 use jesmovit::LeastAnswer;
 use jesmovit::ReadAnswer;
-use job::head::Refusal;
+use job::refusal::Refusal;
 use validate::verdict::Verdict;
 
 // The number of a refusal, or 0, and five numbers beside it.

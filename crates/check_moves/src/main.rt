@@ -1,5 +1,5 @@
-// check_moves JOB PLAN: the verdict on a list of moves against the program of the job, each in the file that its argument names (job.txt and plan.txt without
-// one), or the refusal.
+// check_moves JOB PLAN: the verdict on a list of moves against the program of the job, each in the
+// file that its argument names (job.txt and plan.txt without one), or the refusal.
 
 // How many numbers the list of steps holds.
 const LIST: usize = limits::STEPS * 4;

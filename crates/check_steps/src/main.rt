@@ -1,5 +1,5 @@
-// check_steps JOB PLAN: the verdict on a list of steps against the compiled job, each text in the file that its argument names (job.txt and plan.txt without
-// one), or the refusal.
+// check_steps JOB PLAN: the verdict on a list of steps against the compiled job, each text in the
+// file that its argument names (job.txt and plan.txt without one), or the refusal.
 
 // How many numbers the list of steps holds.
 const LIST: usize = limits::STEPS * 4;

@@ -1,4 +1,5 @@
--- The rows of the compiling table by their shape: what the steps of a program and its end are made of.
+-- The rows of the compiling table by their shape: what the steps of a program and its end are made
+-- of.
 -- Assumes nothing.
 use Prim.Native.Nat.{ℕ, suc}
 use mathlib.Core.Path.{_≡_, refl}

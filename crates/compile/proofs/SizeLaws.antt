@@ -5,12 +5,12 @@ use mathlib.Core.Path.{_≡_, refl, sym, _∙_, ap, subst}
 use mathlib.Core.List.{List}
 use native.Mathlib.Omega.{arith}
 use native.Mathlib.Decide.{decLt}
-use lib.ListN.{length, getD, set, length-append}
+use lib.ListN.{length, set, length-append}
 use lib.Seq.{getD-set-same, getD-set-other}
 use Rattle.job.specs.Job.{Job, Row}
 use Rattle.semantics.specs.Label.{Label}
 use Rattle.semantics.specs.Program.{Program, any, seq}
-use Rattle.semantics.specs.CompilingTable.{Step, end, steps, moveSteps, branchSteps, whileSteps, starSteps}
+use Rattle.semantics.specs.CompilingTable.{end, steps, moveSteps, branchSteps, whileSteps, starSteps}
 use Rattle.compile.specs.Program.{rowProgram, programOf}
 use Rattle.compile.specs.Construct.{loopSteps, programIn, Earlier, RowSays}
 use Rattle.compile.specs.Size.{sizesOf, sizesSum, nothing, sizesIn, capped, cappedSizes, listed}

@@ -25,7 +25,8 @@ labelOf Nil = noop
 labelOf (Move a) = make a
 labelOf (Test a) = holds a
 
--- two branches, of which a formula's value names the one that is taken, or either is; a part that is repeated
+-- two branches, of which a formula's value names the one that is taken, or either is; a part that
+-- is repeated
 abbrev pub branch : Guard → Program → Program → Program
 branch Free a b = choice a b
 branch (On f) a b = ifElse f a b
@@ -34,7 +35,8 @@ abbrev pub loop : Guard → Program → Program
 loop Free a = star a
 loop (On f) a = while f a
 
--- the labels of the steps into the first branch or the part, and into the second branch or past the part
+-- the labels of the steps into the first branch or the part, and into the second branch or past the
+-- part
 abbrev pub firstLabel : Guard → Label
 firstLabel Free = noop
 firstLabel (On f) = holds f

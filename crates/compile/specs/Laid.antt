@@ -27,7 +27,8 @@ pub record Laid (v old : List ℕ) (at : ℕ) (new : List ℕ) (next : ℕ) : Ty
   pub list : new ≡ sets old at v
   pub place : next ≡ at + length v
 
--- the steps of a program that is compiled from the cursor's position, at its place; then comes the cursor after them
+-- the steps of a program that is compiled from the cursor's position, at its place; then comes the
+-- cursor after them
 pub record Wrote (moves : ℕ) (σ : Program) (old : List ℕ) (from : Cursor) (new : List ℕ) (to : Cursor) : Type 0 where
   pub laid : Laid (flat (steps moves σ (from .position))) old (from .at) new (to .at)
   pub ends : to .position ≡ end σ (from .position)

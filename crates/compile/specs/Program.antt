@@ -1,11 +1,13 @@
--- The program of a job's rows, row by row: "A row refers only to earlier rows of its own sort; one row may be used several times."
+-- The program of a job's rows, row by row: "A row refers only to earlier rows of its own sort; one
+-- row may be used several times."
 use Prim.Native.Nat.{ℕ, _-_}
 use mathlib.Core.List.{List, [], _∷_, _++_, foldl}
 use lib.ListN.{length, getD}
 use Rattle.job.specs.Job.{Job, Row}
 use Rattle.semantics.specs.Program.{Program, nil, move, any, test, seq, ifElse, choice, while, star}
 
--- a row by its kind as in the compiling table, where `of` gives the programs of the rows that it refers to
+-- a row by its kind as in the compiling table, where `of` gives the programs of the rows that it
+-- refers to
 abbrev pub kinds : (ℕ → Program) → Row → List Program
 kinds of r =
     nil  -- 0

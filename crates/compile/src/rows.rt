@@ -15,7 +15,8 @@ pub enum Simple {
     Test(u16),
 }
 
-// Which of two ways is taken: either, or the first where a formula holds and the second where it fails.
+// Which of two ways is taken: either, or the first where a formula holds and the second where it
+// fails.
 pub enum Guard {
     Free,
     On(u16),

@@ -1,4 +1,5 @@
-// Sizes of program rows, capped so that rows which double each other neither overflow nor take long.
+// Sizes of program rows, capped so that rows which double each other neither overflow nor take
+// long.
 ghost use mathlib.Core.Path.{_≡_};
 ghost use Prim.Native.Nat.{_+_, _-_, _<_};
 ghost use lib.ListN.{getD};
@@ -88,7 +89,8 @@ fn construct_sizes(construct: Construct, positions: &[u16], steps: &[u16], moves
     }
 }
 
-// The sizes of the compiled job, capped: its program is the last row, and has one position more than it adds.
+// The sizes of the compiled job, capped: its program is the last row, and has one position more
+// than it adds.
 pub fn measure(head: Head, rows: &[u16]) -> Sizes
     requires { ⌜ Stored head (now rows) ⌝ }
     ensures { λ r. ⌜ (r .positions ≡ cap (positionCount (jobOf head (now (rows .entry))))) × (r .steps ≡ cap (stepCount (jobOf head (now (rows .entry))))) ⌝ }

@@ -69,7 +69,8 @@ fn guard_labels(guard: Guard) -> Labels
 // One step to the next position.
 pub fn leaf_step(list: &mut [u16], from: Cursor, simple: Simple) -> Cursor
     requires { ⌜ (from .at + 4 ≤ length (now list)) × (from .position < 65535) ⌝ }
-    ensures { λ r. ⌜ Laid (flat (arc (labelOf simple) (from .position) (from .position + 1) ∷ [])) (now (list .entry)) (from .at) (now (list .exit)) (r .at) × (r .position ≡ from .position + 1) ⌝ }
+    ensures { λ r. ⌜ Laid (flat (arc (labelOf simple) (from .position) (from .position + 1) ∷ [])) (now (list .entry)) (from .at) (now (list .exit))
+        (r .at) × (r .position ≡ from .position + 1) ⌝ }
 {
     let n = from.position;
     let x = leaf_label(simple);
@@ -83,7 +84,8 @@ pub fn leaf_step(list: &mut [u16], from: Cursor, simple: Simple) -> Cursor
 // A step to the next position for each move.
 pub fn any_steps(list: &mut [u16], from: Cursor, moves: u16) -> Cursor
     requires { ⌜ (from .at + moves * 4 ≤ length (now list)) × (from .position < 65535) ⌝ }
-    ensures { λ r. ⌜ Laid (flat (moveSteps moves 0 (from .position))) (now (list .entry)) (from .at) (now (list .exit)) (r .at) × (r .position ≡ from .position + 1) ⌝ }
+    ensures { λ r. ⌜ Laid (flat (moveSteps moves 0 (from .position))) (now (list .entry)) (from .at) (now (list .exit)) (r .at) ×
+        (r .position ≡ from .position + 1) ⌝ }
 {
     let n = from.position;
     let mut next = from.at;
@@ -101,7 +103,8 @@ pub fn any_steps(list: &mut [u16], from: Cursor, moves: u16) -> Cursor
 // The steps after two branches, which end at p and at q.
 pub fn branch_steps(list: &mut [u16], at: usize, n: u16, p: u16, q: u16, guard: Guard) -> Cursor
     requires { ⌜ (at + 16 ≤ length (now list)) × (n < 65535) × (p < 65535) × (q < 65535) ⌝ }
-    ensures { λ r. ⌜ Laid (flat (branchSteps (firstLabel guard) (secondLabel guard) n p q)) (now (list .entry)) at (now (list .exit)) (r .at) × (r .position ≡ q + 1) ⌝ }
+    ensures { λ r. ⌜ Laid (flat (branchSteps (firstLabel guard) (secondLabel guard) n p q)) (now (list .entry)) at (now (list .exit)) (r .at) ×
+        (r .position ≡ q + 1) ⌝ }
 {
     let x = guard_labels(guard);
     let at1 = put_step(list, at, x.first, n, n + 1, x.arg);

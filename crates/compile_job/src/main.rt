@@ -1,4 +1,5 @@
-// compile_job JOB: the positions and steps of the compiled job in the file that the argument names (job.txt without one), or its refusal.
+// compile_job JOB: the positions and steps of the compiled job in the file that the argument names
+// (job.txt without one), or its refusal.
 
 // How many numbers the list of steps holds.
 const LIST: usize = limits::STEPS * 4;

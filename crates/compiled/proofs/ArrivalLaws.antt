@@ -4,14 +4,14 @@ use Prim.Native.Nat.{ℕ, zero, suc, _<_}
 use mathlib.Core.Path.{_≡_, refl, sym, _∙_, ap}
 use mathlib.Core.Bool.{Bool, false, cond}
 use mathlib.Core.Option.{Option, none, some}
-use mathlib.Core.List.{List, [], _∷_}
+use mathlib.Core.List.{List}
 use native.Mathlib.Omega.{arith}
 use lib.ListN.{getD}
 use Rattle.laws.proofs.Tests.{never}
 use Rattle.semantics.specs.Label.{Label, make}
 use Rattle.semantics.specs.Domain.{Domain}
-use Rattle.semantics.specs.CompilingTable.{arc, labelIn}
-use Rattle.semantics.specs.Path.{Does, StepAt, here}
+use Rattle.semantics.specs.CompilingTable.{labelIn}
+use Rattle.semantics.specs.Path.{Does}
 use Rattle.semantics.specs.Plan.{cost}
 use Rattle.semantics.specs.Machine.{Arrival}
 use Rattle.semantics.specs.StepVerdict.{Configuration, arrival, arrives, stays}
@@ -38,7 +38,8 @@ module _ (D : Domain) (s q : ℕ) where
     silently (suc (suc zero)) h = rw (told arg)
     silently (suc (suc (suc k))) h = absurd (omega arith)
 
-    pub arrives-silently : {kind : ℕ} {on : Bool} {o : Option (Arrival Configuration)} → kind < 3 → on ≡ silentBy values (labelIn kind arg) → o ≡ cond on (stays s q) none
+    pub arrives-silently : {kind : ℕ} {on : Bool} {o : Option (Arrival Configuration)} → kind < 3 → on ≡ silentBy values (labelIn kind arg)
+        → o ≡ cond on (stays s q) none
         → o ≡ arrives D (labelIn kind arg) s q
     arrives-silently {kind} h e f = f ∙ rw e (silently kind h)
 
@@ -47,7 +48,8 @@ module _ (D : Domain) (l : Label) (s q : ℕ) where
   arrives-led e = arrives-does D (sym e)
 
   -- it leads nowhere else
-  pub arrives-alone : {a : Arrival Configuration} → some a ≡ arrives D l s q → (u : ℕ) (ks : List ℕ) → Does D l s ks u → (u ≡ a .to .state) × (cost D s ks ≡ a .cost)
+  pub arrives-alone : {a : Arrival Configuration} → some a ≡ arrives D l s q → (u : ℕ) (ks : List ℕ) → Does D l s ks u
+      → (u ≡ a .to .state) × (cost D s ks ≡ a .cost)
   arrives-alone {a} e u ks d =
       let f : _≡_ {A = Option (Arrival Configuration)} (some (arrival u q (cost D s ks))) (some a) = sym (does-arrives D q d) ∙ sym e in
       let g : _≡_ {A = Arrival Configuration} (arrival u q (cost D s ks)) a = cc in

@@ -1,7 +1,8 @@
 // Texts in files, for the programs.
 ghost use Rattle.io.specs.Counts.{Counts};
 
-// Whether a file was read, and how many bytes it filled. Where it was not, standard error has said why.
+// Whether a file was read, and how many bytes it filled. Where it was not, standard error has said
+// why.
 pub struct FileText {
     pub read: bool,
     pub count: usize,
@@ -64,7 +65,8 @@ pub fn read_file(path: &[u8], buf: &mut [u8]) -> FileText
     got
 }
 
-// Fills the buffer from the file that argument i names, or from `otherwise` where there is no such argument.
+// Fills the buffer from the file that argument i names, or from `otherwise` where there is no such
+// argument.
 pub fn read_argument(i: usize, otherwise: &[u8], buf: &mut [u8]) -> FileText
     ensures { λ r. ⌜ Counts (r .count) (now (buf .exit)) ⌝ }
 {
@@ -90,7 +92,8 @@ pub struct Texts {
     pub plan: usize,
 }
 
-// Fills a buffer from the file that argument 1 names and one from that of argument 2, or from job.txt and plan.txt.
+// Fills a buffer from the file that argument 1 names and one from that of argument 2, or from
+// job.txt and plan.txt.
 pub fn read_texts(job: &mut [u8], plan: &mut [u8]) -> Texts
     ensures { λ r. ⌜ Counts (r .job) (now (job .exit)) × Counts (r .plan) (now (plan .exit)) ⌝ }
 {

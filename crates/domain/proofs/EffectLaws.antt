@@ -1,4 +1,5 @@
--- Effects on a state: one more, the same by values that tell the same, and that the state stays below the state count.
+-- Effects on a state: one more, the same by values that tell the same, and that the state stays
+-- below the state count.
 -- Assumes nothing.
 use Prim.Native.Nat.{ℕ, _+_, _-_, _<_, min}
 use mathlib.Core.Path.{_≡_, refl, sym, _∙_}

@@ -1,4 +1,5 @@
--- Facts of a state: a true one is worth at most the state's number, and a state of so many facts stays below their state count as they change.
+-- Facts of a state: a true one is worth at most the state's number, and a state of so many facts
+-- stays below their state count as they change.
 -- Assumes nothing.
 use Prim.Native.Nat.{ℕ, zero, suc, _+_, _-_, _*_, _/_, _%_, _^_, _≤_, _<_}
 use mathlib.Core.Path.{_≡_, refl, ap}

@@ -1,4 +1,5 @@
--- "A world is a whole number; its bit i (worth 2^i) says that fact i is true." Formulas and effects in such a state.
+-- "A world is a whole number; its bit i (worth 2^i) says that fact i is true." Formulas and effects
+-- in such a state.
 use Prim.Native.Nat.{ℕ, _+_, _-_, _/_, _%_, _^_}
 use mathlib.Core.Bool.{Bool, true, false, not, _&&_, _||_, cond}
 use mathlib.Core.List.{List, [], _∷_, _++_, foldl}
@@ -13,7 +14,8 @@ fact w i = eqb (w / 2 ^ i % 2) 1
 unfoldable pub putFact : ℕ → ℕ → ℕ → ℕ
 putFact w i v = cond (eqb v 0) (cond (fact w i) (w - 2 ^ i) w) (cond (fact w i) w (w + 2 ^ i))
 
--- "0 false, 1 true, 2 fact a, 3 not formula a, 4 formulas a and b, 5 a or b", where vs are the values of the formulas before
+-- "0 false, 1 true, 2 fact a, 3 not formula a, 4 formulas a and b, 5 a or b", where vs are the
+-- values of the formulas before
 unfoldable pub value : ℕ → List Bool → Formula → Bool
 value w vs f =
     cond (eqb (f .kind) 0) false
@@ -34,6 +36,7 @@ afterEffect vs v w e = cond (getD vs (e .cond) false && eqb (e .value) v) (putFa
 unfoldable pub applied : List Bool → ℕ → List Effect → ℕ → ℕ
 applied vs v es w = foldl (afterEffect vs v) w es
 
--- "All effect conditions are judged in the old world. Effects that hold clear first, then set, so a fact both cleared and set ends true."
+-- "All effect conditions are judged in the old world. Effects that hold clear first, then set, so a
+-- fact both cleared and set ends true."
 unfoldable pub affected : List Formula → List Effect → ℕ → ℕ
 affected fs es w = applied (values w fs) 1 es (applied (values w fs) 0 es w)

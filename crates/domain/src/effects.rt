@@ -30,7 +30,8 @@ fn apply_effect(head: Head, rows: &[u16], values: &[bool], v: u16, k: u16, state
     crate::facts::put_fact(times, state, effect.fact, v)
 }
 
-// The state after a move's effects, of which those are made that hold by the formulas' values and give their fact the value v.
+// The state after a move's effects, of which those are made that hold by the formulas' values and
+// give their fact the value v.
 pub fn apply_effects(
     head: Head,
     rows: &[u16],

@@ -22,7 +22,8 @@ fn worth(i: u16) -> u16
     1 << i
 }
 
-// State w with fact i made false by value 0 and true by any other, if `times` is 1, and w itself if it is 0. No branch depends on what the state holds.
+// State w with fact i made false by value 0 and true by any other, if `times` is 1, and w itself if
+// it is 0. No branch depends on what the state holds.
 pub fn put_fact(times: u16, w: u16, i: u16, v: u16) -> u16
     requires { ⌜ (times ≤ 1) × (i < mostFacts) × (w < mostStates) ⌝ }
     ensures { λ r. ⌜ r ≡ cond (eqb times 1) (putFact w i v) w ⌝ }

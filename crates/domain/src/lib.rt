@@ -1,5 +1,5 @@
-// A stored job's domain in code: states, start and goal, formulas' values in a state, a move's successor and cost. Here alone a state is a set of bits, one a
-// fact.
+// A stored job's domain in code: states, start and goal, formulas' values in a state, a move's
+// successor and cost. Here alone a state is a set of bits, one a fact.
 pub mod effects;
 pub mod facts;
 pub mod formulas;

@@ -37,7 +37,8 @@ pub fn move_count(head: Head, rows: &[u16]) -> u16
     head.counts.moves
 }
 
-// The state after move m, by the formulas' values in the state before: "Effects that hold clear first, then set".
+// The state after move m, by the formulas' values in the state before: "Effects that hold clear
+// first, then set".
 pub fn successor(head: Head, rows: &[u16], values: &[bool], m: u16, state: u16) -> Successor
     requires { ⌜ Stored head (now rows) × Tells (domainIn head (now rows)) state (now values) ⌝ }
     requires { ⌜ (m < domainIn head (now rows) .moves) × (state < domainIn head (now rows) .states) ⌝ }

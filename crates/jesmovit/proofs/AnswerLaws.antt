@@ -1,7 +1,8 @@
--- An operation's promise, from the chain of reasons: refused with what it refuses, or met by what the operation does.
+-- An operation's promise, from the chain of reasons: refused with what it refuses, or met by what
+-- the operation does.
 -- Assumes nothing.
 use Prim.Native.Nat.{ℕ}
-use mathlib.Core.Path.{_≡_, refl, ap, subst, sym}
+use mathlib.Core.Path.{_≡_, refl, ap, subst}
 use Rattle.laws.proofs.Tests.{never}
 use Rattle.load.specs.Refusals.{Handed, Checked, passed, refused, next, Offer, loading}
 use Rattle.load.specs.View.{View, viewOf, viewIn}

@@ -1,24 +1,23 @@
--- What is known once loading has answered: the promise's refusal, or a job that is stored, measured and has its lists.
+-- What is known once loading has answered: the promise's refusal, or a job that is stored, measured
+-- and has its lists.
 -- Assumes nothing.
 use Prim.Native.Nat.{ℕ, _-_, _*_, _≤_}
 use mathlib.Core.Path.{_≡_, refl, sym, _∙_, ap, subst}
 use mathlib.Core.Bool.{true}
 use mathlib.Core.List.{List, []}
-use native.Mathlib.Omega.{arith}
 use lib.ListN.{length, take}
 use lib.Seq.{sets}
 use Rattle.limits.specs.Limits.{mostEntries}
 use Rattle.job.specs.Store.{jobOf}
 use Rattle.job.specs.Stored.{Stored}
-use Rattle.job.specs.declared.head.Refusal.{Refusal}
+use Rattle.job.specs.declared.refusal.Refusal.{Refusal}
 use Rattle.semantics.specs.CompilingTable.{flat}
 use Rattle.domain.specs.Domain.{domainIn}
 use Rattle.compile.specs.CompiledJob.{stepsOf, stepCount, fits}
-use Rattle.compile.specs.declared.sizes.Sizes.{Sizes}
 use Rattle.plans.proofs.PlanTold.{plan-told}
 use Rattle.compiled.specs.Ready.{Ready}
 use Rattle.validate.specs.Entries.{EntriesBelow}
-use Rattle.load.specs.Refusals.{Handed, Checked, passed, refused, Offer, keyFor, boundFor, textsIn, listNeed, tableNeed, loading}
+use Rattle.load.specs.Refusals.{Handed, passed, refused, Offer, keyFor, boundFor, textsIn, listNeed, tableNeed, loading}
 use Rattle.load.specs.Loaded.{loadedAs, Sized, Fitting, Loads, loadRefusal}
 use Rattle.load.specs.View.{View, viewOf, viewIn}
 use Rattle.load.specs.declared.loaded.Load.{Load}

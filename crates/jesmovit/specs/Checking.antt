@@ -19,7 +19,8 @@ abbrev pub checking : Sort → List ℕ → List ℕ → ℕ → Handed
 checking sort text plan places =
     record { request = record { plan = true; sort = sort; places = places; table = false; cells = 0 }; job = text; plan = plan }
 
--- a verdict of "Verdicts": on moves by the runs of the program itself, on steps by the paths of the compiled job
+-- a verdict of "Verdicts": on moves by the runs of the program itself, on steps by the paths of the
+-- compiled job
 abbrev pub Says : Sort → View → Verdict → Type 0
 Says Moves v w = Judged (v .domain) (byRuns (v .domain) (v .program)) (v .entries) w
 Says Steps v w = Judged (v .domain) (bySteps (v .domain) (viewSteps v) (finalOf v)) (v .entries) w

@@ -1,4 +1,5 @@
--- Document 01's number and values for each case of each answer: "A refusal returns its number and place".
+-- Document 01's number and values for each case of each answer: "A refusal returns its number and
+-- place".
 use Prim.Native.Nat.{ℕ}
 use mathlib.Core.Option.{Option, none, some}
 use Rattle.job.specs.declared.head.Counts.{Counts}

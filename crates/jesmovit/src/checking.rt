@@ -7,7 +7,7 @@ ghost use Rattle.load.specs.Refusals.{boundFor};
 ghost use Rattle.load.specs.View.{viewOf};
 ghost use Rattle.jesmovit.specs.Checking.{Says, Checks};
 use job::head::Head;
-use job::head::Refusal;
+use job::refusal::Refusal;
 use job::rows::STORE;
 use limits::ENTRIES;
 use load::loaded::Loaded;
@@ -72,15 +72,16 @@ fn check(sort: Sort, text: &[u8], plan: &[u8], list: &mut [u16]) -> CheckAnswer
     CheckAnswer::Said(v)
 }
 
-// The verdict on a list of moves against the job's program. Unless the texts or the list are refused, the list's front then holds the steps of the compiled
-// job, four numbers each.
+// The verdict on a list of moves against the job's program. Unless the texts or the list are
+// refused, the list's front then holds the steps of the compiled job, four numbers each.
 pub fn check_moves(text: &[u8], plan: &[u8], list: &mut [u16]) -> CheckAnswer
     ensures { λ r. ⌜ Checks Sort.Moves (now (text .entry)) (now (plan .entry)) (now (list .entry)) r (now (list .exit)) ⌝ }
 {
     check(Sort::Moves, text, plan, list)
 }
 
-// The verdict on a list of steps against the compiled job, whose steps the list's front then holds, unless the texts or the list are refused.
+// The verdict on a list of steps against the compiled job, whose steps the list's front then holds,
+// unless the texts or the list are refused.
 pub fn check_steps(text: &[u8], plan: &[u8], list: &mut [u16]) -> CheckAnswer
     ensures { λ r. ⌜ Checks Sort.Steps (now (text .entry)) (now (plan .entry)) (now (list .entry)) r (now (list .exit)) ⌝ }
 {

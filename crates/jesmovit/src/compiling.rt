@@ -1,6 +1,6 @@
 // A job text compiled.
 ghost use Rattle.jesmovit.specs.Compiling.{Compiles};
-use job::head::Refusal;
+use job::refusal::Refusal;
 use job::rows::STORE;
 use load::loaded::Loaded;
 use load::request::Request;

@@ -1,7 +1,7 @@
 // A job text read.
 ghost use Rattle.jesmovit.specs.JobText.{Reads};
 use job::head::Counts;
-use job::head::Refusal;
+use job::refusal::Refusal;
 use job::rows::STORE;
 use reader::reading::Answer;
 

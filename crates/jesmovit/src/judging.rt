@@ -10,7 +10,7 @@ ghost use Rattle.load.specs.View.{viewOf};
 ghost use Rattle.jesmovit.specs.Outcomes.{judgementOf};
 ghost use Rattle.jesmovit.specs.Judging.{CostsLeast, compared, Found, Judges};
 use job::head::Head;
-use job::head::Refusal;
+use job::refusal::Refusal;
 use job::rows::STORE;
 use limits::ENTRIES;
 use load::loaded::Loaded;
@@ -19,28 +19,32 @@ use load::request::Sort;
 use search::Grid;
 use validate::verdict::Verdict;
 
-// The least cost of all plans that the job's program allows, or none where it allows no plan of any length; or why the text, the list or the table is refused.
+// The least cost of all plans that the job's program allows, or none where it allows no plan of any
+// length; or why the text, the list or the table is refused.
 pub enum LeastAnswer {
     Costs(u32),
     NoPlan,
     Refused(Refusal),
 }
 
-// What an offered plan is: one of least cost; one of a cost above the least, with both; or no plan, with the check's verdict.
+// What an offered plan is: one of least cost; one of a cost above the least, with both; or no plan,
+// with the check's verdict.
 pub enum Judgement {
     Least(u32),
     Dearer(u32, u32),
     Other(Verdict),
 }
 
-// How many positions and steps the compiled job has, and what the plan is; or why the texts, the list or the table are refused.
+// How many positions and steps the compiled job has, and what the plan is; or why the texts, the
+// list or the table are refused.
 pub enum JudgeAnswer {
     Judged(u16, u16, Judgement),
     Refused(Refusal),
 }
 
-// The least cost. Unless the text, the list or the table is refused, the list's front then holds the steps of the compiled job, four numbers each, and the
-// table's front the least cost of reaching each state and position.
+// The least cost. Unless the text, the list or the table is refused, the list's front then holds
+// the steps of the compiled job, four numbers each, and the table's front the least cost of
+// reaching each state and position.
 pub fn least_cost(text: &[u8], list: &mut [u16], table: &mut [u32]) -> LeastAnswer
     ensures { λ r. ⌜ CostsLeast (now (text .entry)) (now (list .entry)) (now (table .entry)) r (now (list .exit)) (now (table .exit)) ⌝ }
 {
@@ -82,7 +86,8 @@ fn compare(cost: u32, least: u32) -> Judgement
     Judgement::Dearer(cost, least)
 }
 
-// What the entries of a plan are, and the cost table filled if they are a plan. The list holds the compiled job's steps and nothing else.
+// What the entries of a plan are, and the cost table filled if they are a plan. The list holds the
+// compiled job's steps and nothing else.
 fn judge_entries(
     costs: &mut [u32],
     head: Head,
@@ -94,7 +99,8 @@ fn judge_entries(
     requires { ⌜ Ready head (now rows) (now list) (grid .positions) × (grid .states ≡ domainIn head (now rows) .states) ⌝ }
     requires { ⌜ EntriesBelow (now plan) (domainIn head (now rows) .moves) ⌝ }
     requires { ⌜ domainIn head (now rows) .states * grid .positions ≤ length (now costs) ⌝ }
-    ensures { λ r. ⌜ Found (viewOf (record { job = jobOf head (now (rows .entry)); entries = now (plan .entry) })) (judgementOf r) (now (costs .entry)) (now (costs .exit)) ⌝ }
+    ensures { λ r. ⌜ Found (viewOf (record { job = jobOf head (now (rows .entry)); entries = now (plan .entry) })) (judgementOf r)
+        (now (costs .entry)) (now (costs .exit)) ⌝ }
 {
     let verdict = validate::moves::check_moves(head, rows, list, grid.positions, plan);
     let Verdict::Plan(cost) = verdict else {
@@ -104,8 +110,9 @@ fn judge_entries(
     compare(cost, least)
 }
 
-// Judges a list of moves. Unless the texts, the list or the table are refused, the list's front then holds the steps of the compiled job, four numbers
-// each; for a plan, the table's front then holds the least cost of reaching each state and position.
+// Judges a list of moves. Unless the texts, the list or the table are refused, the list's front
+// then holds the steps of the compiled job, four numbers each; for a plan, the table's front then
+// holds the least cost of reaching each state and position.
 pub fn judge(text: &[u8], plan: &[u8], list: &mut [u16], table: &mut [u32]) -> JudgeAnswer
     ensures { λ r. ⌜ Judges (now (text .entry)) (now (plan .entry)) (now (list .entry)) (now (table .entry)) r (now (list .exit)) (now (table .exit)) ⌝ }
 {

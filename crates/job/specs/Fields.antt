@@ -1,4 +1,5 @@
--- "A row refers only to earlier rows of its own sort; one row may be used several times. Unused fields are 0."
+-- "A row refers only to earlier rows of its own sort; one row may be used several times. Unused
+-- fields are 0."
 use Prim.Native.Nat.{ℕ, _<_}
 use mathlib.Core.Bool.{Bool, true, false, _&&_}
 use mathlib.Core.List.{List, [], _∷_}
@@ -7,7 +8,8 @@ use Rattle.job.specs.declared.head.Counts.{Counts}
 use Rattle.job.specs.declared.fields.Field.{Field}
 use Rattle.job.specs.declared.fields.Field.the-variants.{Unused, Fact, Formula, Move, Row}
 
--- what a field may refer to, beside so many facts and so many rows that stand before it: it is below this number
+-- what a field may refer to, beside so many facts and so many rows that stand before it: it is
+-- below this number
 abbrev pub bound : Counts → Field → ℕ
 bound c Unused = 1
 bound c Fact = c .facts

@@ -42,7 +42,8 @@ again Move = Move
 again Effect = Move
 again Row = Row
 
--- "formulas=N, then N lines"; "Each is a line m=.. followed by its E lines"; "program=P, then P lines"
+-- "formulas=N, then N lines"; "Each is a line m=.. followed by its E lines"; "program=P, then P
+-- lines"
 abbrev pub afterRow : RowSort → ℕ → ℕ → Line
 afterRow k due effects = cond (eqb effects 0) (cond (eqb due 0) (past k) (Of (again k))) (Of Effect)
 
@@ -66,7 +67,8 @@ scalarsAfter Moves n s = s
 scalarsAfter Goal n s = record { facts = s .facts; init = s .init; goal = n }
 scalarsAfter Program n s = s
 
--- after a row: how many rows of its sort, and how many effects of the last move, are due, and the job
+-- after a row: how many rows of its sort, and how many effects of the last move, are due, and the
+-- job
 abbrev pub dueAfter : RowSort → ℕ → ℕ
 dueAfter Formula due = due - 1
 dueAfter Move due = due - 1

@@ -76,7 +76,8 @@ pub fn formula_right(numbers: [u16; WIDTH], counts: Counts) -> bool
     false
 }
 
-// Whether a program row refers to formulas, moves and earlier rows alone: its numbers are kind, a, b and c.
+// Whether a program row refers to formulas, moves and earlier rows alone: its numbers are kind, a,
+// b and c.
 pub fn row_right(numbers: [u16; WIDTH], counts: Counts) -> bool
     ensures { λ r. ⌜ r ≡ within counts (getD rowFields (getD numbers 0 0) []) (getD numbers 1 0 ∷ getD numbers 2 0 ∷ getD numbers 3 0 ∷ []) ⌝ }
 {

@@ -15,9 +15,3 @@ pub struct Head {
     pub init: u16,
     pub goal: u16,
 }
-
-// Why a text is refused: the number of the reason, and the place.
-pub struct Refusal {
-    pub number: u8,
-    pub place: usize,
-}

@@ -3,6 +3,7 @@ pub mod fault;
 pub mod fields;
 pub mod head;
 pub mod line;
+pub mod refusal;
 pub mod rows;
 pub mod states;
 pub mod stored;

@@ -1,5 +1,6 @@
-// judge JOB PLAN: the compiled job, and what the list of moves is among the plans that the job's program allows, each text in the file that its argument names
-// (job.txt and plan.txt without one), or the refusal.
+// judge JOB PLAN: the compiled job, and what the list of moves is among the plans that the job's
+// program allows, each text in the file that its argument names (job.txt and plan.txt without one),
+// or the refusal.
 
 // How many numbers the list of steps and the cost table hold.
 const LIST: usize = limits::STEPS * 4;

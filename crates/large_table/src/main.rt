@@ -1,4 +1,5 @@
-// large_table JOB: what least_cost JOB prints, with a cost table that has room for every job: twelve facts and 256 positions.
+// large_table JOB: what least_cost JOB prints, with a cost table that has room for every job:
+// twelve facts and 256 positions.
 
 // How many numbers the list of steps and the cost table hold.
 const LIST: usize = limits::STEPS * 4;

@@ -1,5 +1,5 @@
-// least_cost JOB: the least cost of all plans that the program of the job allows, or that there is none, for the job in the file that the argument names
-// (job.txt without one), or its refusal.
+// least_cost JOB: the least cost of all plans that the program of the job allows, or that there is
+// none, for the job in the file that the argument names (job.txt without one), or its refusal.
 
 // How many numbers the list of steps and the cost table hold.
 const LIST: usize = limits::STEPS * 4;

@@ -1,4 +1,5 @@
-// The limits of a job, of its compiled job and of a plan. `specs/Limits.antt` has the same numbers, each under its sentence.
+// The limits of a job, of its compiled job and of a plan. `specs/Limits.antt` has the same numbers,
+// each under its sentence.
 
 // Numbers of a job text.
 pub const FACTS: u16 = 12;

@@ -15,7 +15,7 @@ use Rattle.job.specs.ReadJob.{readJob}
 use Rattle.job.specs.Store.{storeSize, jobOf}
 use Rattle.job.specs.Stored.{Stored}
 use Rattle.job.specs.declared.head.Head.{Head}
-use Rattle.job.specs.declared.head.Refusal.{Refusal}
+use Rattle.job.specs.declared.refusal.Refusal.{Refusal}
 use Rattle.reader.specs.Reading as S
 use Rattle.reader.specs.Reading.{outcomeOf}
 use Rattle.reader.specs.declared.reading.Answer.{Answer}
@@ -26,7 +26,6 @@ use Rattle.compile.specs.Size.{capped}
 use Rattle.compile.specs.declared.sizes.Sizes.{Sizes}
 use Rattle.load.specs.Refusals.{passed, refused, compilable, jobIn}
 use Rattle.load.specs.Loaded.{jobAs, Measured}
-use Rattle.load.specs.declared.loaded.Load.{Load}
 use Rattle.load.specs.declared.loaded.Loaded.{Loaded}
 
 -- fitting, as two comparisons

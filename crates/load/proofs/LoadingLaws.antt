@@ -2,25 +2,20 @@
 -- Assumes nothing.
 use Prim.Native.Nat.{ℕ, _*_, _≤_, _<_}
 use mathlib.Core.Path.{_≡_, sym, _∙_, ap, subst}
-use mathlib.Core.Bool.{Bool, true, cond}
+use mathlib.Core.Bool.{cond}
 use mathlib.Core.List.{List}
 use mathlib.Core.Logic.{_↔_}
-use native.Mathlib.Omega.{arith}
 use lib.ListN.{take}
-use Rattle.limits.specs.Limits.{mostEntries}
 use Rattle.job.specs.Job.{Job}
 use Rattle.job.specs.Store.{jobOf}
-use Rattle.job.specs.declared.head.Refusal.{Refusal}
+use Rattle.job.specs.declared.refusal.Refusal.{Refusal}
 use Rattle.plans.specs.PlanText as P
-use Rattle.plans.specs.PlanText.{readPlan}
-use Rattle.load.specs.Refusals.{Handed, Checked, passed, refused, next, jobIn, Offer, keyFor, boundFor, planIn, textsIn}
+use Rattle.load.specs.Refusals.{Handed, Checked, passed, refused, next, jobIn, Offer, planIn, textsIn}
 use Rattle.load.specs.Refusals.{longEnough, listNeed, tableNeed, loading}
 use Rattle.load.specs.Loaded.{jobAs, loadedAs, Measured, Fitting, Loads}
-use Rattle.load.specs.declared.request.Request.{Request}
 use Rattle.load.specs.declared.loaded.Load.{Load}
 use Rattle.load.specs.declared.loaded.Loaded.{Loaded}
 use Rattle.load.proofs.StageLaws.{passed-next, long-enough, too-short, long-passed}
-use Rattle.load.proofs.PlanLaws.{plan-taken}
 
 -- both texts: reasons 1 to 5
 module _ (h : Handed) where

@@ -11,14 +11,14 @@ use Rattle.limits.specs.Limits.{mostEntries}
 use Rattle.job.specs.Job.{Job}
 use Rattle.job.specs.Store.{jobOf}
 use Rattle.job.specs.declared.head.Head.{Head}
-use Rattle.job.specs.declared.head.Refusal.{Refusal}
+use Rattle.job.specs.declared.refusal.Refusal.{Refusal}
 use Rattle.domain.specs.Domain.{domainIn}
 use Rattle.compile.specs.CompiledJob.{stepCount}
 use Rattle.plans.specs.PlanText as P
 use Rattle.plans.specs.PlanText.{PlanOutcome, readPlan, planOf, entryCount}
 use Rattle.plans.specs.declared.plan_text.PlanAnswer.{PlanAnswer}
-use Rattle.load.specs.Refusals.{Checked, passed, refused, Offer, offered, keyFor, boundFor, planIn}
-use Rattle.load.specs.Loaded.{loadedAs, countFor, Sized, Measured, Fitting, planRefusal}
+use Rattle.load.specs.Refusals.{passed, refused, Offer, offered, keyFor, boundFor, planIn}
+use Rattle.load.specs.Loaded.{loadedAs, countFor, Measured, Fitting, planRefusal}
 use Rattle.load.specs.declared.request.Request.{Request}
 use Rattle.load.specs.declared.request.Sort.{Sort}
 use Rattle.load.specs.declared.request.Sort.the-variants.{Moves, Steps}

@@ -1,14 +1,14 @@
 -- What loading answers, beside the rows and the entries that are then stored.
 use Prim.Native.Nat.{ℕ, _≤_}
 use mathlib.Core.Path.{_≡_}
-use mathlib.Core.Bool.{true, cond}
+use mathlib.Core.Bool.{true}
 use mathlib.Core.List.{List}
 use lib.ListN.{take}
 use Rattle.limits.specs.Limits.{mostEntries}
 use Rattle.job.specs.Job.{Job}
 use Rattle.job.specs.Store.{jobOf}
 use Rattle.job.specs.Stored.{Stored}
-use Rattle.job.specs.declared.head.Refusal.{Refusal}
+use Rattle.job.specs.declared.refusal.Refusal.{Refusal}
 use Rattle.domain.specs.Domain.{domainIn}
 use Rattle.compile.specs.CompiledJob.{positionCount, stepCount, fits}
 use Rattle.plans.specs.declared.plan_text.PlanAnswer.{PlanAnswer}

@@ -3,7 +3,7 @@ ghost use mathlib.Core.Path.{_≡_};
 ghost use Rattle.load.specs.Loaded.{loadRefusal};
 use compile::sizes::Sizes;
 use job::head::Head;
-use job::head::Refusal;
+use job::refusal::Refusal;
 
 // A job that nothing refuses: its head, whose rows are then stored, the sizes of its compiled job,
 // how many states it has, and how many entries of its plan are then stored.

@@ -2,7 +2,6 @@
 ghost use mathlib.Core.Path.{_≡_};
 ghost use lib.ListN.{length};
 ghost use Rattle.job.specs.Store.{storeSize};
-ghost use Rattle.load.specs.Refusals.{Handed};
 ghost use Rattle.load.specs.Loaded.{Loads, Room};
 use crate::loaded::Loaded;
 use crate::request::Request;

@@ -4,7 +4,7 @@ ghost use mathlib.Core.Bool.{cond};
 ghost use Prim.Native.Nat.{_*_};
 use crate::loaded::Load;
 use crate::loaded::Loaded;
-use job::head::Refusal;
+use job::refusal::Refusal;
 
 // The refusal of a list or a table that is shorter than it has to be.
 pub fn too_short(need: usize) -> Loaded

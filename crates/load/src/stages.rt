@@ -11,7 +11,7 @@ use crate::loaded::Load;
 use crate::loaded::Loaded;
 use crate::request::Request;
 use crate::request::Sort;
-use job::head::Refusal;
+use job::refusal::Refusal;
 use limits::POSITIONS;
 use limits::STEPS;
 use plans::plan_text::PlanAnswer;
@@ -64,7 +64,8 @@ fn plan_refusal(a: PlanAnswer) -> Refusal
 // The entries of a plan for a job with so many moves and steps.
 fn read_plan(sort: Sort, plan: &[u8], moves: u16, steps: u16, entries: &mut [u16]) -> PlanAnswer
     requires { ⌜ length (now entries) ≡ mostEntries ⌝ }
-    ensures { λ r. ⌜ (planOf r (now (entries .exit)) ≡ readPlan (keyFor sort) (countFor sort moves steps) (now (plan .entry))) × (entryCount r ≤ mostEntries) ⌝ }
+    ensures { λ r. ⌜ (planOf r (now (entries .exit)) ≡ readPlan (keyFor sort) (countFor sort moves steps) (now (plan .entry))) ×
+        (entryCount r ≤ mostEntries) ⌝ }
 {
     match sort {
         Sort::Moves => plans::plan_text::read_plan(plan, b"m", moves, entries),
@@ -81,7 +82,8 @@ pub fn load_plan(
     entries: &mut [u16],
 ) -> Loaded
     requires { ⌜ Measured (Loaded.Ready job) (now rows) × Room request (length (now entries)) ⌝ }
-    ensures { λ r. ⌜ (loadedAs r (now (rows .entry)) (now (entries .exit)) ≡ planIn request (now (plan .entry)) (jobOf (job .head) (now (rows .entry)))) × Fitting r (now (rows .entry)) ⌝ }
+    ensures { λ r. ⌜ (loadedAs r (now (rows .entry)) (now (entries .exit)) ≡ planIn request (now (plan .entry))
+        (jobOf (job .head) (now (rows .entry)))) × Fitting r (now (rows .entry)) ⌝ }
 {
     if request.plan {
         let head = job.head;

@@ -49,7 +49,8 @@ fn read_entries(
     entries: &mut [u16],
 ) -> PlanAnswer
     requires { ⌜ (count ≤ mostEntries) × (length (now entries) ≡ mostEntries) ⌝ }
-    ensures { λ r. ⌜ (planOf r (now (entries .exit)) ≡ readEntries (now (key .entry)) bound [] count (lines (drop start (now (text .entry))))) × (entryCount r ≤ mostEntries) ⌝ }
+    ensures { λ r. ⌜ (planOf r (now (entries .exit)) ≡ readEntries (now (key .entry)) bound [] count (lines (drop start (now (text .entry))))) ×
+        (entryCount r ≤ mostEntries) ⌝ }
 {
     let mut at = start;
     let mut n: usize = 0;

@@ -1,4 +1,5 @@
-// read_job JOB: the counts of the job in the file that the argument names (job.txt without one), a line each, or its refusal.
+// read_job JOB: the counts of the job in the file that the argument names (job.txt without one), a
+// line each, or its refusal.
 
 fn main() {
     let mut text = io::large_buffer();

@@ -6,7 +6,7 @@ use Rattle.job.specs.ReadJob.{Reading, on, scalarsAfter, Outcome, read, refused
 use Rattle.job.specs.Store.{movesFrom, effectsFrom, programFrom, jobOf}
 use Rattle.job.specs.declared.head.Counts.{Counts}
 use Rattle.job.specs.declared.head.Head.{Head}
-use Rattle.job.specs.declared.head.Refusal.{Refusal}
+use Rattle.job.specs.declared.refusal.Refusal.{Refusal}
 use Rattle.job.specs.declared.line.Heading.{Heading}
 use Rattle.job.specs.declared.line.RowSort.{RowSort}
 use Rattle.job.specs.declared.line.RowSort.the-variants.{Formula, Move, Effect, Row}

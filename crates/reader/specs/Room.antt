@@ -29,7 +29,8 @@ aheadOne Moves = may 0 mostMoves mostEffects mostProgram
 aheadOne Goal = may 0 0 0 mostProgram
 aheadOne Program = may 0 0 0 mostProgram
 
--- by the line that comes next, with so many rows of its sort due and so many effects of the last move
+-- by the line that comes next, with so many rows of its sort due and so many effects of the last
+-- move
 abbrev pub ahead : Line → ℕ → ℕ → Ahead
 ahead (One h) due effects = aheadOne h
 ahead (Of Formula) due effects = may due mostMoves mostEffects mostProgram

@@ -10,9 +10,9 @@ ghost use Rattle.reader.specs.Reading.{readingOf, outcomeOf, readRefusal
 use crate::taking::ReaderState;
 use job::head::Counts;
 use job::head::Head;
-use job::head::Refusal;
 use job::line::Heading;
 use job::line::Line;
+use job::refusal::Refusal;
 
 // The number of lines and the head of the job, whose rows are then stored; or the refusal.
 pub enum Answer {

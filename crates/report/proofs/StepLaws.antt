@@ -10,7 +10,7 @@ use lib.Seq.{drop-cons, sets}
 use Rattle.laws.proofs.Lists.{sets-append}
 use Rattle.text.specs.Bytes.{bytes}
 use Rattle.text.specs.Written.{decimal, written}
-use Rattle.job.specs.declared.head.Refusal.{Refusal}
+use Rattle.job.specs.declared.refusal.Refusal.{Refusal}
 use Rattle.report.specs.Put.{Put}
 use Rattle.report.specs.Printout.{stepLine, stepLines, refusedLine}
 

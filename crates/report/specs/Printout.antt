@@ -46,7 +46,8 @@ abbrev pub printout : {B : Type 0} → (B → List ℕ) → Checked B → List �
 printout linesOf (passed b) = linesOf b
 printout linesOf (refused number place) = refusedLine number place
 
--- "`answer=blocked,i`, `answer=unfinished` or `answer=missed`"; a check says of a plan its cost, and that it is one
+-- "`answer=blocked,i`, `answer=unfinished` or `answer=missed`"; a check says of a plan its cost,
+-- and that it is one
 abbrev pub verdictLines : Verdict → List ℕ
 verdictLines (plan cost) = line "cost" cost ++ bytes "answer=plan\n"
 verdictLines (blocked i) = bytes "answer=blocked," ++ written (i ∷ [])
@@ -57,7 +58,8 @@ verdictLines missed = bytes "answer=missed\n"
 abbrev pub costLines : ℕ → ℕ → List ℕ
 costLines cost low = line "cost" cost ++ line "least" low
 
--- "`answer=least`"; "A dearer plan differs in the numbers and `answer=dearer`; other verdicts replace the last three lines"
+-- "`answer=least`"; "A dearer plan differs in the numbers and `answer=dearer`; other verdicts
+-- replace the last three lines"
 abbrev pub judgementLines : Judgement → List ℕ
 judgementLines (least cost) = costLines cost cost ++ bytes "answer=least\n"
 judgementLines (dearer cost low) = costLines cost low ++ bytes "answer=dearer\n"

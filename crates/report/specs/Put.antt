@@ -10,7 +10,8 @@ pub record Put (most : ℕ) (v old : List ℕ) (at : ℕ) (new : List ℕ) (next
   pub laid : Laid v old at new next
   pub short : length v ≤ most
 
--- the buffer's first bytes, so many, are the text. The last part follows from `within`: with it a caller's `&buffer[..count]` needs no proof.
+-- the buffer's first bytes, so many, are the text. The last part follows from `within`: with it a
+-- caller's `&buffer[..count]` needs no proof.
 pub record Prints (text buffer : List ℕ) (count : ℕ) : Type 0 where
   pub shows : take count buffer ≡ text
   pub within : count ≤ length buffer

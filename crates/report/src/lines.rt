@@ -1,4 +1,5 @@
-// Lines, written over a buffer from a place on; each function answers the place after what it wrote.
+// Lines, written over a buffer from a place on; each function answers the place after what it
+// wrote.
 ghost use mathlib.Core.List.{[], _∷_, _++_};
 ghost use Prim.Native.Nat.{_+_, _*_, _≤_};
 ghost use lib.ListN.{length};
@@ -8,7 +9,7 @@ ghost use Rattle.semantics.specs.Verdict.{plan};
 ghost use Rattle.validate.specs.Verdict.{verdictOf};
 ghost use Rattle.report.specs.Printout.{stepLine, stepLines, refusedLine, verdictLines};
 use crate::put;
-use job::head::Refusal;
+use job::refusal::Refusal;
 use validate::verdict::Verdict;
 
 // What stands in front, as `cost=`, then a number and the line feed.

@@ -1,4 +1,5 @@
-// Bytes and numbers, written over a buffer from a place on; each function answers the place after what it wrote.
+// Bytes and numbers, written over a buffer from a place on; each function answers the place after
+// what it wrote.
 ghost use mathlib.Core.List.{[], _∷_};
 ghost use Prim.Native.Nat.{_+_, _≤_, _<_};
 ghost use lib.ListN.{length};

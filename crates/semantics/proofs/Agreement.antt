@@ -1,4 +1,5 @@
--- A program and its compiled job make the same lists of moves, in complete runs and in partial ones.
+-- A program and its compiled job make the same lists of moves, in complete runs and in partial
+-- ones.
 -- Assumes nothing.
 use Prim.Native.Nat.{ℕ}
 use mathlib.Core.Path.{refl}

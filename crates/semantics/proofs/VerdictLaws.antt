@@ -1,5 +1,5 @@
--- Each list has at most one verdict, move lists have the same one against the program and against its compiled job, and the plans among step lists
--- are those among move lists.
+-- Each list has at most one verdict, move lists have the same one against the program and against
+-- its compiled job, and the plans among step lists are those among move lists.
 -- Assumes nothing.
 use Prim.Native.Nat.{ℕ}
 use mathlib.Core.Path.{_≡_, refl, sym, subst}

@@ -1,4 +1,5 @@
--- "Compiling table": the steps of a program that is compiled from position n, and the position e where it ends.
+-- "Compiling table": the steps of a program that is compiled from position n, and the position e
+-- where it ends.
 use Prim.Native.Nat.{ℕ, zero, suc}
 use mathlib.Core.Bool.{cond}
 use mathlib.Core.List.{List, [], _∷_, _++_}
@@ -39,7 +40,8 @@ whileSteps a n n₁ = arc (holds a) n (suc n) ∷ arc (fails a) n (suc n₁) ∷
 unfoldable pub starSteps : ℕ → ℕ → List Step
 starSteps n n₁ = arc noop n (suc n) ∷ arc noop n₁ n ∷ arc noop n (suc n₁) ∷ []
 
--- the column "steps", where the job has M moves; "Steps come in the order written; body steps first."
+-- the column "steps", where the job has M moves; "Steps come in the order written; body steps
+-- first."
 unfoldable pub steps : ℕ → Program → ℕ → List Step
 steps M nil n = arc noop n (suc n) ∷ []
 steps M (move a) n = arc (make a) n (suc n) ∷ []

@@ -1,5 +1,5 @@
--- The verdict on a list of moves as a function: "the set of positions that the recipe may be at", one mark a position, and "each move turns it into
--- the next set".
+-- The verdict on a list of moves as a function: "the set of positions that the recipe may be at",
+-- one mark a position, and "each move turns it into the next set".
 use Prim.Native.Nat.{ℕ, zero, suc}
 use mathlib.Core.Path.{_≡_}
 use mathlib.Core.Bool.{Bool, true, false, not, _&&_, _||_, cond}

@@ -1,4 +1,5 @@
--- "What a recipe allows": the transitions of source document 003, equations (4) to (12), and runs of them.
+-- "What a recipe allows": the transitions of source document 003, equations (4) to (12), and runs
+-- of them.
 use Prim.Native.Nat.{ℕ, _<_}
 use mathlib.Core.Path.{_≡_}
 use mathlib.Core.Bool.{true, false}
@@ -7,7 +8,8 @@ use mathlib.Core.List.{List, [], _∷_, _++_}
 use Rattle.semantics.specs.Program.{Program, nil, move, any, test, seq, ifElse, choice, while, star}
 use Rattle.semantics.specs.Domain.{Domain}
 
--- One transition from a state and a program to a state and the residual program, with the moves that it makes.
+-- One transition from a state and a program to a state and the residual program, with the moves
+-- that it makes.
 -- "Nil has no step; nor has a test that fails or a move that can't be made."
 pub data Transition (D : Domain) : ℕ → Program → List ℕ → ℕ → Program → Type 0 where
   -- (4) "move a: where it can be made, nil is left, in the world after the move"

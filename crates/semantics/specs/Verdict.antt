@@ -16,7 +16,8 @@ pub data Verdict : Type 0 where
   blocked : ℕ → Verdict
   unfinished missed : Verdict
 
--- What lists of entries do: the state in which some run has made them, the state in which some such run completes, and their cost.
+-- What lists of entries do: the state in which some run has made them, the state in which some such
+-- run completes, and their cost.
 pub record Entries : Type 1 where
   pub Made : List ℕ → ℕ → Type 0
   pub Completed : List ℕ → ℕ → Type 0
@@ -40,7 +41,8 @@ byRuns D σ = record {
   costOf = λ ms. cost D (D .start) ms;
 }
 
--- "A step list gets the same verdicts on the compiled job, each entry being that one step. No step is added between or after the entries"
+-- "A step list gets the same verdicts on the compiled job, each entry being that one step. No step
+-- is added between or after the entries"
 unfoldable pub bySteps : Domain → List Step → ℕ → Entries
 bySteps D L e = record {
   Made = λ is u. (p : ℕ) × (ms : List ℕ) × Path D L (D .start) 0 is ms u p;

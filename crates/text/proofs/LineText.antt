@@ -1,4 +1,5 @@
--- A line is read as numbers just where it is the text of its key and of these numbers; so it is short.
+-- A line is read as numbers just where it is the text of its key and of these numbers; so it is
+-- short.
 -- Assumes nothing.
 use Prim.Native.Nat.{ℕ, zero, suc, _+_, _*_, _/_, _%_, _≤_, _<_}
 use mathlib.Core.Path.{_≡_, refl, _∙_, ap}

@@ -1,4 +1,5 @@
--- "A value is one or more decimal numbers 0 to 65,535, no leading zeros, commas between, no spaces."
+-- "A value is one or more decimal numbers 0 to 65,535, no leading zeros, commas between, no
+-- spaces."
 use Prim.Native.Nat.{ℕ, _+_, _-_, _*_}
 use mathlib.Core.Bool.{Bool, cond, _&&_}
 use mathlib.Core.List.{List, [], _∷_, _++_, foldl}

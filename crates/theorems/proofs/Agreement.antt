@@ -1,4 +1,5 @@
--- Demand 2: the compiled job of an accepted text has just the plans that its program allows, and the list holds that compiled job.
+-- Demand 2: the compiled job of an accepted text has just the plans that its program allows, and
+-- the list holds that compiled job.
 -- Assumes nothing.
 use Prim.Native.Nat.{ℕ, _≤_}
 use mathlib.Core.Path.{_≡_, sym, subst}
@@ -18,7 +19,8 @@ use Rattle.jesmovit.specs.Compiling.{listAfter}
 use Rattle.theorems.specs.Accepted.{AcceptedJob}
 
 module _ (text : List ℕ) (j : Job) (accepted : AcceptedJob text j) where
-  -- "a plan of the compiled job, bookkeeping dropped, is allowed by the program on the original job, and every allowed plan comes from one"
+  -- "a plan of the compiled job, bookkeeping dropped, is allowed by the program on the original
+  -- job, and every allowed plan comes from one"
   pub accepted-plans-agree : Agrees (domainOf j) (programOf j) (stepsOf j) (end (programOf j) 0)
   accepted-plans-agree = agreement (domainOf j) (programOf j)
 

@@ -1,8 +1,8 @@
--- The number that a call from outside gives back: 0 just where nothing is refused, and otherwise a number of the operation's own.
+-- The number that a call from outside gives back: 0 just where nothing is refused, and otherwise a
+-- number of the operation's own.
 -- Assumes nothing.
 use Prim.Native.Nat.{ℕ, _≤_}
 use mathlib.Core.Path.{_≡_, refl, sym, _∙_, ap, subst}
-use mathlib.Core.Bool.{false}
 use mathlib.Core.Option.{Option, none, some}
 use mathlib.Core.List.{List}
 use mathlib.Core.Logic.{_⊎_, inl, inr}
@@ -15,8 +15,7 @@ use Rattle.job.specs.ReadJob.{Outcome, readJob}
 use Rattle.load.specs.Refusals.{Handed, Checked, passed, refused, next, Offer, loading}
 use Rattle.load.specs.View.{View, viewOf, viewIn}
 use Rattle.load.specs.declared.request.Sort.{Sort}
-use Rattle.load.specs.declared.request.Sort.the-variants.{Moves}
-use Rattle.jesmovit.specs.Outcomes.{readOutcome, compileOutcome, checkOutcome, leastOutcome, judgeOutcome}
+use Rattle.jesmovit.specs.Outcomes.{compileOutcome, checkOutcome, leastOutcome, judgeOutcome}
 use Rattle.jesmovit.specs.Answers.{Answers}
 use Rattle.jesmovit.specs.JobText.{countsIn, Reads}
 use Rattle.jesmovit.specs.Compiling.{compiling, Compiles}

@@ -1,7 +1,7 @@
 -- What is printed of a compiled job has a line for each of its steps, in their order.
 -- Assumes nothing.
 use Prim.Native.Nat.{ℕ, _+_, _*_, _≤_}
-use mathlib.Core.Path.{_≡_, refl, sym, _∙_, ap}
+use mathlib.Core.Path.{_≡_, refl, _∙_, ap}
 use mathlib.Core.List.{List, [], _∷_, _++_}
 use native.Mathlib.Omega.{arith}
 use lib.ListN.{length, take, drop}
@@ -9,11 +9,10 @@ use lib.Seq.{sets, sets-eq, take-at}
 use Rattle.semantics.specs.CompilingTable.{Step, arc, flat, kindOf, argOf}
 use Rattle.semantics.proofs.FlatLaws.{flat-length}
 use Rattle.compile.specs.declared.sizes.Sizes.{Sizes}
-use Rattle.load.specs.Refusals.{Checked, passed, Offer, loading}
-use Rattle.load.specs.View.{View, viewOf, viewSteps, positionsOf, viewIn}
+use Rattle.load.specs.Refusals.{passed, Offer, loading}
+use Rattle.load.specs.View.{View, viewOf, viewSteps, positionsOf}
 use Rattle.load.proofs.LoadingLaws.{loading-iff}
-use Rattle.jesmovit.specs.Outcomes.{compileOutcome}
-use Rattle.jesmovit.specs.Compiling.{compiling, listAfter, viewSizes, Compiles}
+use Rattle.jesmovit.specs.Compiling.{compiling, listAfter, Compiles}
 use Rattle.jesmovit.specs.declared.compiling.CompileAnswer.{CompileAnswer}
 use Rattle.jesmovit.proofs.AnswerLaws.{answered, view-of}
 use Rattle.report.specs.Printout.{line, stepLine, stepLines, compiledLines, printout, compilePrintout}

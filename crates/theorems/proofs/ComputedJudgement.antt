@@ -26,7 +26,8 @@ use Rattle.compile.specs.Program.{programOf}
 use Rattle.compile.specs.CompiledJob.{stepsOf, positionCount}
 use Rattle.validate.specs.declared.verdict.Verdict.the-variants.{Plan}
 use Rattle.search.specs.Filling.{Lowest, Lower, kept, lower}
-use Rattle.search.proofs.LowestLaws.{lowest-none, lowest-more, compiled-closed, lowest-least}
+use Rattle.search.proofs.GraphLaws.{compiled-closed}
+use Rattle.search.proofs.LowestLaws.{lowest-none, lowest-more, lowest-least}
 use Rattle.load.specs.View.{viewOf}
 use Rattle.jesmovit.specs.Outcomes.{judgementOf}
 use Rattle.jesmovit.specs.Judging.{compared}

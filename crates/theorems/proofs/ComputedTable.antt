@@ -1,4 +1,5 @@
--- Cost tables that are computed: every step is followed from every state, round after round, and one computed test says that the table is filled.
+-- Cost tables that are computed: every step is followed from every state, round after round, and
+-- one computed test says that the table is filled.
 -- Assumes nothing.
 use Prim.Native.Nat.{ℕ, zero, suc, _+_, _*_, _≤_, _<_}
 use mathlib.Core.Path.{_≡_, refl, sym, _∙_, ap}
@@ -8,7 +9,7 @@ use mathlib.Core.List.{List, [], _∷_}
 use native.Mathlib.Omega.{arith}
 use native.Mathlib.Decide.{decLt}
 use lib.Dec.{leb, ltb}
-use lib.ListN.{length, getD, set, replicate, length-replicate, getD-replicate}
+use lib.ListN.{getD, set, replicate, length-replicate, getD-replicate}
 use borrow.Author.Tests.{ltb-true, leb-true}
 use Rattle.laws.proofs.Tests.{and-left, and-right, cond-has}
 use Rattle.semantics.specs.Label.{Label}

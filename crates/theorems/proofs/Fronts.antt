@@ -11,8 +11,9 @@ use Rattle.laws.proofs.Lists.{drop-take}
 use Rattle.text.specs.Lines.{lines, lineLength}
 use Rattle.text.proofs.LineLaws.{lines-first, length-le, length-pos, front-length}
 
--- `ahead s` bytes may still come in the state s, at the most. All longer lines are answered alike, whatever follows them (long). What follows one line is
--- answered alike after it where it is in each state after it, in which fewer bytes may come, by the line's length (same).
+-- `ahead s` bytes may still come in the state s, at the most. All longer lines are answered alike,
+-- whatever follows them (long). What follows one line is answered alike after it where it is in
+-- each state after it, in which fewer bytes may come, by the line's length (same).
 module _ {S O : Type 0} (read : S → List (List ℕ) → O) (ahead : S → ℕ)
     (long : (s : S) (line other : List ℕ) (rest more : List (List ℕ))
     → ahead s < length line → ahead s < length other → read s (line ∷ rest) ≡ read s (other ∷ more))

@@ -1,4 +1,5 @@
--- Demand 3, as written: for accepted texts, a list and a table long enough, whatever they held, and every offered list of moves that the program allows.
+-- Demand 3, as written: for accepted texts, a list and a table long enough, whatever they held, and
+-- every offered list of moves that the program allows.
 -- Assumes nothing.
 use Prim.Native.Nat.{ℕ}
 use mathlib.Core.Path.{_≡_, refl, sym, _∙_, ap, subst}
@@ -59,7 +60,15 @@ module _ (v : View) where
           let e = own (plan c) x in record { own = c; low = c; own-cost = cc; low-cost = y; says = inl refl; exactly = (λ z. refl, λ z. refl) }
       by own (is-dearer {c} {b} x y h) =
           let e = own (plan c) x in
-          record { own = c; low = b; own-cost = cc; low-cost = y; says = inr refl; exactly = (λ z. let y = same-judgement v z in never (cc), λ z. absurd (omega arith)) }
+          record {
+            own = c;
+            low = b;
+            own-cost = cc;
+            low-cost = y;
+            says = inr refl;
+            exactly =
+                (λ z. let y = same-judgement v z in never (cc), λ z. absurd (omega arith));
+          }
       by own (is-other x f) = absurd (f _ (sym (own _ x)))
 
   -- of what is no plan

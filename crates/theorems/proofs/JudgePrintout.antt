@@ -1,18 +1,19 @@
--- What the judge prints, from the bytes of the two texts: the compiled job, a line for each of its steps, and what the judge finds; or the refusal alone.
+-- What the judge prints, from the bytes of the two texts: the compiled job, a line for each of its
+-- steps, and what the judge finds; or the refusal alone.
 -- Assumes nothing.
 use Prim.Native.Nat.{ℕ}
 use mathlib.Core.Path.{_≡_, ap, _∙_}
 use mathlib.Core.List.{List, _++_}
 use lib.ListN.{length}
-use Rattle.load.specs.Refusals.{Checked, passed, refused, Offer, loading}
+use Rattle.load.specs.Refusals.{passed, refused, Offer, loading}
 use Rattle.load.specs.View.{viewOf, viewSteps, positionsOf}
 use Rattle.load.proofs.LoadingLaws.{loading-iff}
-use Rattle.jesmovit.specs.Outcomes.{SizedJudgement, judgeOutcome}
+use Rattle.jesmovit.specs.Outcomes.{SizedJudgement}
 use Rattle.jesmovit.specs.Judging.{judging, Judges}
 use Rattle.jesmovit.specs.declared.judging.JudgeAnswer.{JudgeAnswer}
 use Rattle.jesmovit.proofs.AnswerLaws.{viewed, answered, view-of, refusal-kept}
 use Rattle.report.specs.Printout.{compiledLines, judgementLines, refusedLine, printout, judgePrintout}
-use Rattle.theorems.specs.Printed.{compiledJobLines, Printed}
+use Rattle.theorems.specs.Printed.{Printed}
 use Rattle.theorems.proofs.CompiledPrintout.{prints-each-step}
 
 abbrev judgedLines : List ℕ → SizedJudgement → List ℕ

@@ -1,18 +1,18 @@
--- The judge, the check and the least cost agree: the judge's verdict is the check's, of a plan with its cost, and the least cost that it names is the least
--- cost's, with the list and the cost table filled alike.
+-- The judge, the check and the least cost agree: the judge's verdict is the check's, of a plan with
+-- its cost, and the least cost that it names is the least cost's, with the list and the cost table
+-- filled alike.
 -- Assumes nothing.
 use Prim.Native.Nat.{ℕ}
-use mathlib.Core.Path.{_≡_, refl, sym, _∙_, ap, subst}
-use mathlib.Core.Option.{Option, none, some}
+use mathlib.Core.Path.{_≡_, refl, sym, subst}
+use mathlib.Core.Option.{Option, some}
 use mathlib.Core.List.{List, []}
 use native.Mathlib.Omega.{arith}
 use lib.ListN.{length}
 use Rattle.laws.proofs.Tests.{never}
 use Rattle.semantics.specs.Program.{Program}
 use Rattle.semantics.specs.Domain.{Domain}
-use Rattle.semantics.specs.Plan.{Least}
 use Rattle.semantics.specs.Verdict.{Judged, byRuns}
-use Rattle.semantics.specs.Judgement.{Judgement, Finds, least, dearer, other, is-least, is-dearer, is-other}
+use Rattle.semantics.specs.Judgement.{Judgement, Finds, is-least, is-dearer, is-other}
 use Rattle.load.specs.Refusals.{passed, Offer, textsIn, loading}
 use Rattle.load.specs.View.{View, viewOf, viewIn}
 use Rattle.load.specs.declared.request.Sort.the-variants.{Moves}
@@ -20,7 +20,7 @@ use Rattle.load.proofs.LoadingLaws.{loading-iff}
 use Rattle.jesmovit.specs.Outcomes.{SizedJudgement}
 use Rattle.jesmovit.specs.Answers.{Answers}
 use Rattle.jesmovit.specs.Checking.{checking, CheckDone}
-use Rattle.jesmovit.specs.Judging.{costing, judging, Lent, TableOf, TableFor, CostDone, LeastIs, costs, no-plan, JudgeDone}
+use Rattle.jesmovit.specs.Judging.{costing, judging, TableOf, TableFor, CostDone, LeastIs, costs, no-plan, JudgeDone}
 use Rattle.jesmovit.proofs.AnswerLaws.{answer-done, spoken, offer-of}
 use Rattle.theorems.specs.Decided.{verdictIn, leastIn}
 use Rattle.theorems.proofs.Acceptance.{accepted-iff}
@@ -50,7 +50,12 @@ module _ (text plan list table : List ℕ) {g : SizedJudgement} {l t : List ℕ}
   offered =
       let (v, p, d) = spoken x refl in
       let (o, f, q) = offer-of (judging text plan (length list) (length table)) p in
-      record { offer = o; passes = f; done = subst (λ (w : View). JudgeDone w g (record { list = list; table = table }) (record { list = l; table = t })) (sym q) d }
+      record {
+        offer = o;
+        passes = f;
+        done = subst (λ (w : View). JudgeDone w g (record { list = list; table = table }) (record { list = l; table = t }))
+            (sym q) d;
+      }
 
   -- the check's answer
   checked : loading (checking Moves text plan (length list)) ≡ passed (offered .offer)

@@ -1,4 +1,5 @@
--- A text of 65,536 bytes or more is answered just as its first 65,536 bytes are: right texts are short.
+-- A text of 65,536 bytes or more is answered just as its first 65,536 bytes are: right texts are
+-- short.
 -- Assumes nothing.
 use Prim.Native.Nat.{ℕ, _+_, _-_, _*_, _≤_, _<_}
 use mathlib.Core.Path.{_≡_, refl, sym, _∙_, ap}

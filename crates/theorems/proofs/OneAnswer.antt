@@ -1,10 +1,10 @@
--- At most one answer, list and cost table meet the promise of an operation. What is handed in counts by its view alone.
+-- At most one answer, list and cost table meet the promise of an operation. What is handed in
+-- counts by its view alone.
 -- Assumes nothing.
 use Prim.Native.Nat.{ℕ}
 use mathlib.Core.Path.{_≡_, refl, sym, _∙_, ap}
-use mathlib.Core.Option.{Option, none, some}
+use mathlib.Core.Option.{Option, some}
 use mathlib.Core.List.{List}
-use lib.ListN.{length}
 use Rattle.laws.proofs.Tests.{never}
 use Rattle.semantics.specs.Verdict.{Verdict}
 use Rattle.semantics.specs.Judgement as J
@@ -14,7 +14,6 @@ use Rattle.semantics.proofs.FilledLaws.{filled-unique}
 use Rattle.semantics.proofs.JudgementLaws.{one-judgement}
 use Rattle.compile.specs.declared.sizes.Sizes.{Sizes}
 use Rattle.validate.proofs.VerdictLaws.{verdict-injective}
-use Rattle.load.specs.Refusals.{Checked}
 use Rattle.load.specs.View.{View, viewSteps, finalOf, positionsOf}
 use Rattle.load.specs.declared.request.Sort.{Sort}
 use Rattle.load.specs.declared.request.Sort.the-variants.{Moves, Steps}

@@ -1,4 +1,5 @@
--- At most one number, one list of values, one list and one table are what a call from outside gives.
+-- At most one number, one list of values, one list and one table are what a call from outside
+-- gives.
 -- Assumes nothing.
 use Prim.Native.Nat.{ℕ}
 use mathlib.Core.Path.{_≡_, _∙_, sym, ap}

@@ -55,7 +55,8 @@ unfolding bytes lines hasKey valueOf byteRead numbers lineNumbers fault taken en
     entryIn readEntries readLines readPlan jobIn textsIn loading
 refuses-step = refl
 
--- "so 6 doesn't look at the plan": a plan that would be blocked, with a list that is one place too short
+-- "so 6 doesn't look at the plan": a plan that would be blocked, with a list that is one place too
+-- short
 refuses-before-verdict : loading (checking Moves sample (bytes "plan=1\nm=1\n") 7) ≡ refused 6 8
 unfolding bytes lines hasKey valueOf byteRead numbers lineNumbers fault taken ended readFrom readJob end steps build programs fits
     entryIn readEntries readLines readPlan jobIn textsIn loading

@@ -1,5 +1,6 @@
--- 003's star is wrong: with the steps of its own row, on the job of marked case 8, some path that makes move 0 reaches the final position, while no run of
--- the program that makes move 0 leaves nil.
+-- 003's star is wrong: with the steps of its own row, on the job of marked case 8, some path that
+-- makes move 0 reaches the final position, while no run of the program that makes move 0 leaves
+-- nil.
 -- Assumes nothing.
 use Prim.Native.Nat.{ℕ, _<_}
 use mathlib.Core.Path.{_≡_, refl}
@@ -53,7 +54,8 @@ star-of-body : programOf caseEight ≡ star body
 unfolding build programs
 star-of-body = refl
 
--- into the while, move 0, back to the while's position, which is the star's too, and out through the star
+-- into the while, move 0, back to the while's position, which is the star's too, and out through
+-- the star
 way-out : Path D (originalSteps (D .moves) body 0) (D .start) 0 (1 ∷ 0 ∷ 3 ∷ 4 ∷ []) (0 ∷ []) 2 (originalEnd body 0)
 unfolding end steps whileSteps fact putFact value values afterEffect applied affected holdsIn successorOf
 way-out =

@@ -29,7 +29,8 @@ judged-dearer : judgePrintout (Judged 2 1 (Dearer 45 25)) (0 ∷ 9 ∷ 10 ∷ 0 
 unfolding bytes digitsWithin written stepLines
 judged-dearer = refl
 
--- "other verdicts replace the last three lines by `answer=blocked,i`, `answer=unfinished` or `answer=missed`"
+-- "other verdicts replace the last three lines by `answer=blocked,i`, `answer=unfinished` or
+-- `answer=missed`"
 judged-blocked : judgePrintout (Judged 3 2 (Other (Blocked 12))) sampleList ≡ bytes "positions=3\nsteps=2\ns=3,0,1,0\ns=3,1,2,1\nanswer=blocked,12\n"
 unfolding bytes digitsWithin written stepLines sampleList
 judged-blocked = refl

@@ -8,7 +8,7 @@ use mathlib.Core.Logic.{inl, inr}
 use mathlib.Core.Option.{Option, none, some}
 use native.Mathlib.Omega.{arith}
 use lib.Dec.{eqb, leb}
-use lib.ListN.{length, getD}
+use lib.ListN.{getD}
 use borrow.Author.Tests.{eqb-false}
 use Rattle.laws.proofs.Tests.{never, cond-has}
 use Rattle.job.specs.Job.{Job, countsOf}
@@ -39,7 +39,8 @@ Ranged o = (number place : ℕ) → o ≡ R.refused number place → UpTo 3 numb
 reason-small : (next : Line) (c : Counts) (r : List ℕ) → reasonOf next c r ≤ 3
 reason-small (One h) c r = cond-has (λ n. n ≤ 3) (isIn (rangeOf h c) (getD r 0 0)) 0 _ (λ e. omega arith) (λ e. range-reason h c .1)
 reason-small (Of k) c r =
-    cond-has (λ n. n ≤ 3) (criteria k c r .range) _ 2 (λ f. cond-has (λ n. n ≤ 3) (criteria k c r .fields) 0 3 (λ g. omega arith) (λ g. omega arith)) (λ f. omega arith)
+    cond-has (λ n. n ≤ 3) (criteria k c r .range) _ 2 (λ f. cond-has (λ n. n ≤ 3) (criteria k c r .fields) 0 3 (λ g. omega arith) (λ g. omega arith))
+    (λ f. omega arith)
 reason-small End c r = omega arith
 
 fault-small : (next : Line) (c : Counts) (o : Option (List ℕ)) → fault next c o ≤ 3
@@ -49,11 +50,16 @@ fault-small next c (some r) = reason-small next c r
 
 reading-refuses : (n : ℕ) (s : Reading) (ls : List (List ℕ)) → Ranged (readFrom n s ls)
 unfolding readFrom ended
-reading-refuses n s [] = cond-has Ranged (isEnd (s .next)) (R.read n (s .job)) (R.refused 1 (n + 1)) (λ z a b e. never (cc)) (λ z a b e. let y : a ≡ 1 = cc in (omega arith, omega arith))
+reading-refuses n s [] = cond-has Ranged (isEnd (s .next)) (R.read n (s .job)) (R.refused 1 (n + 1)) (λ z a b e. never (cc))
+    (λ z a b e. let y : a ≡ 1 = cc in (omega arith, omega arith))
 reading-refuses n s (line ∷ ls) =
     let reason = fault (s .next) (countsOf (s .job)) (lineNumbers (s .next) line) in
     cond-has Ranged (eqb reason 0) _ (R.refused reason (n + 1)) (λ z. reading-refuses (n + 1) _ ls)
-    (λ z a b e. let y : reason ≡ a = cc in (omega (arith, eqb-false reason 0 z), omega (arith, fault-small (s .next) (countsOf (s .job)) (lineNumbers (s .next) line))))
+    (λ z a b e. let y : reason ≡ a = cc in (
+      omega (arith, eqb-false reason 0 z),
+      omega
+          (arith, fault-small (s .next) (countsOf (s .job)) (lineNumbers (s .next) line)),
+    ))
 
 -- of reading a job
 pub read-number : (text : List ℕ) (number place : ℕ) → readJob text ≡ R.refused number place → UpTo 3 number
@@ -68,10 +74,12 @@ next-refuses P (refused m q) f x y = λ number place e. x number place (cc)
 -- the stage of reason 6
 length-refuses : {A : Type 0} (P : ℕ → Type 0) (a : A) (need places : ℕ) → P 6 → RefusedBy P (cond (leb need places) (passed a) (refused 6 need))
 length-refuses P a need places six =
-    cond-has (RefusedBy P) (leb need places) (passed a) (refused 6 need) (λ z number place e. never (cc)) (λ z number place e. let y : 6 ≡ number = cc in subst P y six)
+    cond-has (RefusedBy P) (leb need places) (passed a) (refused 6 need) (λ z number place e. never (cc))
+    (λ z number place e. let y : 6 ≡ number = cc in subst P y six)
 
 compilable-refuses : (o : Outcome) → Ranged o → RefusedBy (UpTo 4) (compilable o)
-compilable-refuses (R.read n j) r = cond-has (RefusedBy (UpTo 4)) (fits j) (passed j) (refused 4 n) (λ z a b e. never (cc)) (λ z a b e. let y : a ≡ 4 = cc in (omega arith, omega arith))
+compilable-refuses (R.read n j) r = cond-has (RefusedBy (UpTo 4)) (fits j) (passed j) (refused 4 n) (λ z a b e. never (cc))
+    (λ z a b e. let y : a ≡ 4 = cc in (omega arith, omega arith))
 compilable-refuses (R.refused m p) r = λ a b e. let y : m ≡ a = cc in let x = r m p refl in (omega (arith, x .0), omega (arith, x .1))
 
 -- of a job text: reasons 1 to 4

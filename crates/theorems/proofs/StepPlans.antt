@@ -1,4 +1,5 @@
--- Where a step list is a plan, its moves are a plan of the same cost, and a move list that is a plan has such a step list.
+-- Where a step list is a plan, its moves are a plan of the same cost, and a move list that is a
+-- plan has such a step list.
 -- Assumes nothing.
 use Prim.Native.Nat.{ℕ}
 use mathlib.Core.Path.{_≡_}

@@ -93,7 +93,8 @@ row-line k next due effects d e n j a ns rest g w t x y f h =
     ∙ ap (λ (i : ℕ). readFrom (n + 1) (on (afterRow k i (effectsAfter k effects (a ∷ ns))) i (effectsAfter k effects (a ∷ ns)) (jobAfter k j (a ∷ ns))) rest) f
     ∙ ap (λ (i : ℕ). readFrom (n + 1) (on (afterRow k d i) d i (jobAfter k j (a ∷ ns))) rest) h
 
--- rows of one sort, one after the other: `mk l` is the job with the rows l, `st m` the reading with m
+-- rows of one sort, one after the other: `mk l` is the job with the rows l, `st m` the reading with
+-- m
 -- more of them due, and P i what the line of row i wants
 module _ {A : Type 0} (d : A) (mk : List A → J.Job) (P : ℕ → A → Type 0) (st : ℕ → J.Job → Reading) (ln : A → List ℕ)
     (step : (m n : ℕ) (done : List A) (a : A) (rest : List (List ℕ)) → P (length done) a

@@ -1,4 +1,5 @@
--- What is not refused, said without reading it: "Texts are accepted where no reason but 6 refuses them."
+-- What is not refused, said without reading it: "Texts are accepted where no reason but 6 refuses
+-- them."
 use Prim.Native.Nat.{ℕ, _≤_, _<_}
 use mathlib.Core.Path.{_≡_}
 use mathlib.Core.Bool.{true, false}
@@ -13,14 +14,16 @@ use Rattle.load.specs.Refusals.{Handed, Offer, keyFor, boundFor, listNeed, tabl
 use Rattle.load.specs.declared.request.Sort.{Sort}
 use Rattle.theorems.specs.JobText.{jobText}
 
--- no reason from 1 to 4 refuses the text of a well-formed job: "At most 256 positions and 1,024 steps."
+-- no reason from 1 to 4 refuses the text of a well-formed job: "At most 256 positions and 1,024
+-- steps."
 pub record AcceptedJob (text : List ℕ) (j : Job) : Type 0 where
   pub right : WellFormed j
   pub positions : positionCount j ≤ mostPositions
   pub steps : stepCount j ≤ mostSteps
   pub written : text ≡ jobText j
 
--- nor does reason 5 refuse a plan text: "`plan=K`, K from 0 to 4,000, then K lines `m=move`, or `t=step`", of moves or steps that the job has
+-- nor does reason 5 refuse a plan text: "`plan=K`, K from 0 to 4,000, then K lines `m=move`, or
+-- `t=step`", of moves or steps that the job has
 pub record AcceptedPlan (sort : Sort) (j : Job) (plan entries : List ℕ) : Type 0 where
   pub few : length entries ≤ mostEntries
   pub each : (i : ℕ) → i < length entries → getD entries i 0 < boundFor sort j

@@ -1,4 +1,5 @@
--- "Its cost is the sum of its moves' costs, 0 for the empty list": the plain sum, by the moves' classes.
+-- "Its cost is the sum of its moves' costs, 0 for the empty list": the plain sum, by the moves'
+-- classes.
 use Prim.Native.Nat.{ℕ, _+_}
 use mathlib.Core.List.{List, [], _∷_}
 use Rattle.job.specs.Job.{Job, moveAt}

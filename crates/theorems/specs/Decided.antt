@@ -1,4 +1,5 @@
--- Demand 3, as written: what an outcome of the judge says of an offered list of moves that the program allows.
+-- Demand 3, as written: what an outcome of the judge says of an offered list of moves that the
+-- program allows.
 use Prim.Native.Nat.{ℕ}
 use mathlib.Core.Path.{_≡_}
 use mathlib.Core.Option.{Option, none, some}
@@ -20,14 +21,16 @@ pub record Decided (v : View) (outcome : Checked SizedJudgement) : Type 0 where
   pub low : ℕ
   -- "the offered plan's cost"
   pub own-cost : cost (v .domain) (v .domain .start) (v .entries) ≡ own
-  -- "and the true least cost over ALL allowed plans of whatever length": some allowed plan has it, every allowed plan costs at least as much
+  -- "and the true least cost over ALL allowed plans of whatever length": some allowed plan has it,
+  -- every allowed plan costs at least as much
   pub low-cost : Least (v .domain) (v .program) low
   -- "and says `least` …, else `dearer`", with both
   pub says : (outcome ≡ judgedAs v (least own)) ⊎ (outcome ≡ judgedAs v (dearer own low))
   -- "exactly when equal"
   pub exactly : (outcome ≡ judgedAs v (least own)) ↔ (own ≡ low)
 
--- the check's verdict that a judgement has in it: "adds least or dearer with both costs; for others it repeats the check's verdict"
+-- the check's verdict that a judgement has in it: "adds least or dearer with both costs; for others
+-- it repeats the check's verdict"
 abbrev pub verdictIn : Judgement → Verdict
 verdictIn (least cost) = plan cost
 verdictIn (dearer cost low) = plan cost

@@ -13,7 +13,8 @@ use Rattle.compile.specs.CompiledJob.{positionCount, stepCount}
 use Rattle.load.specs.Refusals.{passed, Offer, loading}
 use Rattle.jesmovit.specs.Judging.{judging}
 
--- the bytes of a job text and of a plan text, the positions and steps of the compiled job, and what the judge finds
+-- the bytes of a job text and of a plan text, the positions and steps of the compiled job, and what
+-- the judge finds
 pub record Case : Type 0 where
   pub job : List ℕ
   pub plan : List ℕ
@@ -41,8 +42,8 @@ starOfChoice = sampleWith "init=0\n" "goal=1\n" "program=4\np=1,0,0,0\np=1,1,0,0
 abbrev pub starOfWhile : List ℕ
 starOfWhile = sampleWith "init=0\n" "goal=1\n" "program=3\np=1,0,0,0\np=7,3,0,0\np=8,1,0,0\n"
 
--- "With init 0, goal fact 0 and one move of precondition true that clears and sets fact 0, recipe that move"; the clearing comes last in the text, and
--- the move costs 5
+-- "With init 0, goal fact 0 and one move of precondition true that clears and sets fact 0, recipe
+-- that move"; the clearing comes last in the text, and the move costs 5
 abbrev clearsAndSets : List ℕ
 clearsAndSets = bytes "job=1\nfacts=1\ninit=0\nformulas=2\nf=1,0,0\nf=2,0,0\nmoves=1\nm=0,1,2\ne=0,0,1\ne=0,0,0\ngoal=1\nprogram=1\np=1,0,0,0\n"
 
@@ -65,8 +66,9 @@ marked =
     ∷ marks nilProgram 2 1 "plan=0\n" (least 0)  -- "(10) … empty plan least at 0"
     ∷ []
 
--- nothing is refused, with a list of 4,096 and a cost table of 12,288 places, the compiled job has these sizes, and this is what the judge finds: by the
--- program's own runs, and by all allowed plans of whatever length
+-- nothing is refused, with a list of 4,096 and a cost table of 12,288 places, the compiled job has
+-- these sizes, and this is what the judge finds: by the program's own runs, and by all allowed
+-- plans of whatever length
 pub record Right (c : Case) : Type 0 where
   pub offer : Offer
   pub passes : loading (judging (c .job) (c .plan) (mostSteps * 4) 12288) ≡ passed offer

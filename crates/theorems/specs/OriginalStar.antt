@@ -1,4 +1,5 @@
--- The star as 003's own compiling table has it: "C(σ*, n, E) = (L · [Cnoop(n, n₂), Cnoop(n₁, n)], L′, n₂)", where the body L starts at n itself.
+-- The star as 003's own compiling table has it: "C(σ*, n, E) = (L · [Cnoop(n, n₂), Cnoop(n₁, n)],
+-- L′, n₂)", where the body L starts at n itself.
 use Prim.Native.Nat.{ℕ, suc}
 use mathlib.Core.Path.{_≡_}
 use mathlib.Core.List.{List, [], _∷_, _++_}
@@ -20,7 +21,8 @@ originalEnd a n = suc (end a n)
 abbrev pub originalSteps : ℕ → Program → ℕ → List Step
 originalSteps M a n = steps M a n ++ (arc noop n (originalEnd a n) ∷ arc noop (end a n) n ∷ [])
 
--- a job text whose program is a star, of which these steps allow a list of moves that the program does not complete
+-- a job text whose program is a star, of which these steps allow a list of moves that the program
+-- does not complete
 pub record StarFails (text moves : List ℕ) : Type 0 where
   pub lines : ℕ
   pub job : Job

@@ -11,7 +11,8 @@ UpTo last number = (1 ≤ number) × (number ≤ last)
 abbrev pub WithoutPlan : ℕ → Type 0
 WithoutPlan number = UpTo 4 number ⊎ (number ≡ 6)
 
--- the number that a call from outside gives back: 0 just where nothing is refused, and otherwise one of these numbers
+-- the number that a call from outside gives back: 0 just where nothing is refused, and otherwise
+-- one of these numbers
 pub record CallNumber (Refusal : ℕ → Type 0) (Passes : Type 0) (number : ℕ) : Type 0 where
   pub zero-iff : (number ≡ 0) ↔ Passes
   pub otherwise : (number ≡ 0) ⊎ Refusal number

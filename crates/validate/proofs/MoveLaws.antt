@@ -47,7 +47,8 @@ module _ (head : Head) (rows list : List ℕ) (plan : List ℕ) where
   abbrev e : ℕ
   e = end (programOf (jobOf head rows)) 0
 
-  -- after i moves at this cost, in this state, where its formulas have these values and the program may be at the positions of S
+  -- after i moves at this cost, in this state, where its formulas have these values and the program
+  -- may be at the positions of S
   pub record Checking (state : ℕ) (values : List Bool) (S : PositionSet) (cost i : ℕ) : Type 0 where
     pub left : Left (domainIn head rows) (setMachine (domainIn head rows) (stepsOf (jobOf head rows)) (end (programOf (jobOf head rows)) 0)) plan
         (verdictBy mostPositions (domainIn head rows) (programOf (jobOf head rows)) plan) (record { state = state; marks = S .marks }) cost i

@@ -1,4 +1,5 @@
--- The verdict on a list from that on its rest, once the entries before it are made at a cost; and that no two cases of the answer give one verdict.
+-- The verdict on a list from that on its rest, once the entries before it are made at a cost; and
+-- that no two cases of the answer give one verdict.
 -- Assumes nothing.
 use Prim.Native.Nat.{ℕ, suc, _+_, _≤_, _<_}
 use mathlib.Core.Path.{_≡_, refl, sym, _∙_, ap}
@@ -51,7 +52,8 @@ later-finished c i true false = refl
 later-finished c i false true = refl
 later-finished c i false false = refl
 
--- a list checked entry by entry: the verdict on it is the one that the machine gives its rest from here, after i entries at cost c
+-- a list checked entry by entry: the verdict on it is the one that the machine gives its rest from
+-- here, after i entries at cost c
 module _ (D : Domain) (M : Machine) (plan : List ℕ) (all : Verdict) where
   pub record Left (here : M .Config) (c i : ℕ) : Type 0 where
     pub within : i ≤ length plan

@@ -1,7 +1,7 @@
 use mathlib.Core.Path.{refl}
 use native.Mathlib.Omega.{arith}
 use Rattle.jesmovit.proofs.AnswerLaws.{answer-done}
-use Rattle.jesmovit.proofs.LoadedLaws.{load-refused, load-front, load-ready, load-passed, load-sized, load-few, load-listed, load-entries}
+use Rattle.jesmovit.proofs.LoadedLaws.{load-refused, load-front, load-ready, load-passed, load-few, load-listed, load-entries}
 use borrow.Author.Needs.{needs}
 use Rattle.jesmovit.proofs.checking.check.Statement.{statement}
 use Rattle.jesmovit.proofs.checking.check.Tie as tie

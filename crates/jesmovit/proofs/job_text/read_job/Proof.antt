@@ -20,7 +20,8 @@ returns-2 c =
     let at5 = c .before .before .before .before .before in
     let g = c .before .before .answer .given .1 in
     let t = at5 .read-job .last .1 .0 in
-    ap passed (sym (counts-of (c .before .before .answer .given .0 .1 .0) t)) ∙ sym (ap (λ a. countsIn (outcomeOf a t)) g) ∙ ap countsIn (at5 .read-job .ensures)
+    ap passed (sym (counts-of (c .before .before .answer .given .0 .1 .0) t)) ∙ sym (ap (λ a. countsIn (outcomeOf a t)) g) ∙ ap countsIn
+    (at5 .read-job .ensures)
 
 pub read-job-spec : {M : Type 1} → statement M
 read-job-spec =

@@ -1,7 +1,7 @@
 use mathlib.Core.Path.{_≡_, refl, _∙_, ap}
 use Prim.Native.Nat.{_≤_, _-_, _*_}
 use native.Mathlib.Omega.{arith}
-use lib.ListN.{length, take, length-set}
+use lib.ListN.{length, take}
 use lib.Seq.{sets, length-sets, take-all}
 use Rattle.job.specs.Store.{width}
 use Rattle.job.proofs.StoreLaws.{sets-more}

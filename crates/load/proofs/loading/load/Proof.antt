@@ -1,4 +1,3 @@
-use mathlib.Core.Path.{_∙_}
 use Rattle.load.proofs.LoadingLaws.{job-refused, job-measured, plan-refused, list-refused, table-refused, all-ready}
 use borrow.Author.Needs.{needs}
 use Rattle.load.proofs.loading.load.Statement.{statement}
@@ -28,12 +27,14 @@ returns-3 c =
     let at9 = at5 .before .before .before .before in
     let at13 = at9 .before .before .before .before in
     let at17 = at13 .before .before .before .before in
-    list-refused _ _ _ _ (at17 .load-job .ensures .0) (at13 .read .given .1) _ (at9 .load-plan .ensures) (at5 .offered .given .1) (c .before .before .before .list-need .ensures)
+    list-refused _ _ _ _ (at17 .load-job .ensures .0) (at13 .read .given .1) _ (at9 .load-plan .ensures) (at5 .offered .given .1)
+    (c .before .before .before .list-need .ensures)
     (c .before .if1 .taken) (c .too-short .ensures)
 
 same-length-6 : tie.Need-same-length-6
 same-length-6 c =
-    let at20 = c .before .before .before .before .before .before .before .before .before .before .before .before .before .before .before .before .before .before .before .before in
+    let at20 = c .before .before .before .before .before .before .before .before .before .before .before .before .before .before .before .before .before
+    .before .before .before in
     at20 .load-job .kept .1 .0
 
 returns-4 : tie.Need-returns-4
@@ -49,7 +50,8 @@ returns-4 c =
 
 same-length-8 : tie.Need-same-length-8
 same-length-8 c =
-    let at19 = c .before .before .before .before .before .before .before .before .before .before .before .before .before .before .before .before .before .before .before in
+    let at19 = c .before .before .before .before .before .before .before .before .before .before .before .before .before .before .before .before .before
+    .before .before in
     at19 .load-job .kept .1 .0
 
 returns-5 : tie.Need-returns-5

@@ -17,7 +17,8 @@ returns c =
     let at7 = at5 .before .before in
     let at9 = at7 .before .before in
     let at13 = at9 .before .before .before .before in
-    plan-refused (at13 .args .request) (at13 .args .plan .now) (at13 .args .rows .now) _ (at13 .args .job) (at13 .pre .0) (at9 .if1 .taken) (at7 .move-count .ensures)
+    plan-refused (at13 .args .request) (at13 .args .plan .now) (at13 .args .rows .now) _ (at13 .args .job) (at13 .pre .0) (at9 .if1 .taken)
+    (at7 .move-count .ensures)
     (at5 .read-plan .result) (at5 .read-plan .ensures) (c .before .enum-told .given .1) (c .plan-refusal .ensures)
 
 returns-2 : tie.Need-returns-2
@@ -26,7 +27,8 @@ returns-2 c =
     let at7 = at5 .before .before in
     let at9 = at7 .before .before in
     let at13 = at9 .before .before .before .before in
-    plan-ready (at13 .args .request) (at13 .args .plan .now) (at13 .args .rows .now) _ (at13 .args .job) (at13 .pre .0) (at9 .if1 .taken) (at7 .move-count .ensures)
+    plan-ready (at13 .args .request) (at13 .args .plan .now) (at13 .args .rows .now) _ (at13 .args .job) (at13 .pre .0) (at9 .if1 .taken)
+    (at7 .move-count .ensures)
     (at5 .read-plan .result) (at5 .read-plan .ensures) (c .before .read .given .1)
 
 returns-3 : tie.Need-returns-3

@@ -9,22 +9,26 @@ use Rattle.report.proofs.lines.verdict.Statement.{statement}
 use Rattle.report.proofs.lines.verdict.Tie as tie
 
 returns : tie.Need-returns
-returns c = put-as 64 (sym (ap (λ v. verdictLines (verdictOf v)) (c .before .before .before .before .before .v .given .1))) (omega arith) (c .before .before .plan .ensures)
+returns c = put-as 64 (sym (ap (λ v. verdictLines (verdictOf v)) (c .before .before .before .before .before .v .given .1))) (omega arith)
+    (c .before .before .plan .ensures)
 
 returns-2 : tie.Need-returns-2
 unfolding bytes
 returns-2 c =
-    put-as 64 (sym (ap (λ v. verdictLines (verdictOf v)) (c .before .before .before .before .before .before .v2 .given .1))) (omega arith) (c .before .before .line .ensures)
+    put-as 64 (sym (ap (λ v. verdictLines (verdictOf v)) (c .before .before .before .before .before .before .v2 .given .1))) (omega arith)
+    (c .before .before .line .ensures)
 
 returns-3 : tie.Need-returns-3
 unfolding bytes
 returns-3 c =
-    put-as 64 (sym (ap (λ v. verdictLines (verdictOf v)) (c .before .before .before .before .before .enum-told .given .1))) (omega arith) (c .before .before .text .ensures)
+    put-as 64 (sym (ap (λ v. verdictLines (verdictOf v)) (c .before .before .before .before .before .enum-told .given .1))) (omega arith)
+    (c .before .before .text .ensures)
 
 returns-4 : tie.Need-returns-4
 unfolding bytes
 returns-4 c =
-    put-as 64 (sym (ap (λ v. verdictLines (verdictOf v)) (c .before .before .before .before .before .enum-told2 .given .1))) (omega arith) (c .before .before .text2 .ensures)
+    put-as 64 (sym (ap (λ v. verdictLines (verdictOf v)) (c .before .before .before .before .before .enum-told2 .given .1))) (omega arith)
+    (c .before .before .text2 .ensures)
 
 pub verdict-spec : {M : Type 1} → statement M
 verdict-spec =

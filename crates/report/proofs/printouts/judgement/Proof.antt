@@ -23,7 +23,8 @@ returns-2 c =
     (omega arith) (put-append (at7 .costs2 .ensures) (c .before .before .text2 .ensures))
 
 returns-3 : tie.Need-returns-3
-returns-3 c = put-as 128 (sym (ap (λ g. judgementLines (judgementOf g)) (c .before .before .before .before .before .j3 .given .1))) (omega arith) (c .before .before .verdict .ensures)
+returns-3 c = put-as 128 (sym (ap (λ g. judgementLines (judgementOf g)) (c .before .before .before .before .before .j3 .given .1))) (omega arith)
+    (c .before .before .verdict .ensures)
 
 pub judgement-spec : {M : Type 1} → statement M
 judgement-spec =

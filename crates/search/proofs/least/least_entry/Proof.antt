@@ -36,8 +36,11 @@ lesser-requires c κs = c .before .before .before .before .before .before .pre .
 
 loop-again : tie.Need-loop-again Inv-loop μ-loop
 loop-again c =
-    let at4 = c .before .before .before .before in
-    (omega (arith, c .before .before .before .loop-test .taken), lowest-more _ (at4 .loop .inv .1) (rw (c .before .before .cell .ensures) at (c .lesser .ensures)))
+    let at4 = c .before .before .before .before in (
+      omega (arith, c .before .before .before .loop-test .taken),
+      lowest-more _ (at4 .loop .inv .1)
+          (rw (c .before .before .cell .ensures) at (c .lesser .ensures)),
+    )
 
 returns : tie.Need-returns Inv-loop μ-loop
 returns c =

@@ -1,7 +1,7 @@
 use Prim.Native.Nat.{suc, _+_, _-_, _*_}
 use mathlib.Core.Path.{sym, _∙_}
 use native.Mathlib.Omega.{arith}
-use lib.ListN.{length, length-set}
+use lib.ListN.{length-set}
 use Rattle.limits.specs.Limits.{mostPositions}
 use Rattle.semantics.specs.CostTable.{unreached}
 use Rattle.semantics.specs.Cells.{sum}
