@@ -25,9 +25,9 @@ abbrev pub refusalNumbers : ℕ → ℕ → Numbers
 refusalNumbers number place = record { number = number; values = place ∷ 0 ∷ 0 ∷ 0 ∷ 0 ∷ [] }
 
 -- of an outcome, by what is said of the value
-abbrev pub numbersOf : {B : Type 0} → (B → Numbers) → Checked B → Numbers
-numbersOf say (passed b) = say b
-numbersOf say (refused number place) = refusalNumbers number place
+abbrev pub outcomeNumbers : {B : Type 0} → (B → Numbers) → Checked B → Numbers
+outcomeNumbers say (passed b) = say b
+outcomeNumbers say (refused number place) = refusalNumbers number place
 
 abbrev pub coded : ℕ → ℕ → ℕ → Coded
 coded number first second = record { number = number; first = first; second = second }
@@ -64,16 +64,16 @@ abbrev pub judgedNumbers : Sizes → Coded → Numbers
 judgedNumbers s o = done (s .positions) (s .steps) (o .number) (o .first) (o .second)
 
 abbrev pub readNumbers : ReadAnswer → Numbers
-readNumbers a = numbersOf countNumbers (readOutcome a)
+readNumbers a = outcomeNumbers countNumbers (readOutcome a)
 
 abbrev pub compileNumbers : CompileAnswer → Numbers
-compileNumbers a = numbersOf sizeNumbers (compileOutcome a)
+compileNumbers a = outcomeNumbers sizeNumbers (compileOutcome a)
 
 abbrev pub checkNumbers : CheckAnswer → Numbers
-checkNumbers a = numbersOf (λ v. codeNumbers (verdictCode v)) (checkOutcome a)
+checkNumbers a = outcomeNumbers (λ v. codeNumbers (verdictCode v)) (checkOutcome a)
 
 abbrev pub leastNumbers : LeastAnswer → Numbers
-leastNumbers a = numbersOf costNumbers (leastOutcome a)
+leastNumbers a = outcomeNumbers costNumbers (leastOutcome a)
 
 abbrev pub judgeNumbers : JudgeAnswer → Numbers
-judgeNumbers a = numbersOf (λ g. judgedNumbers (g .sizes) (judgementCode (g .judgement))) (judgeOutcome a)
+judgeNumbers a = outcomeNumbers (λ g. judgedNumbers (g .sizes) (judgementCode (g .judgement))) (judgeOutcome a)

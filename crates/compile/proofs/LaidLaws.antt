@@ -15,7 +15,7 @@ use Rattle.compile.specs.Construct.{firstLabel, secondLabel}
 use Rattle.compile.specs.Laid.{labelNumbers, guardNumbers, Laid}
 use Rattle.compile.specs.declared.rows.Guard.{Guard}
 use Rattle.compile.specs.declared.rows.Guard.the-variants.{Free, On}
-use Rattle.compile.specs.declared.steps.Label.{Label}
+use Rattle.compile.specs.declared.steps.StepLabel.{StepLabel}
 use Rattle.compile.specs.declared.steps.Labels.{Labels}
 use Rattle.compile.proofs.SizeLaws.{moves-count}
 
@@ -46,7 +46,7 @@ moves-more k n =
     rw (add-one k, add-one n) (ap flat (moves-snoc k 0 n) ∙ flat-append (moveSteps k 0 n) _ ∙ rw e)
 
 -- as the code writes them
-pub leaf-flat : (x : L.Label) (k : Label) → k ≡ labelNumbers x → (n : ℕ) → flat (arc x n (n + 1) ∷ []) ≡ k .kind ∷ n ∷ (n + 1) ∷ k .arg ∷ []
+pub leaf-flat : (x : L.Label) (k : StepLabel) → k ≡ labelNumbers x → (n : ℕ) → flat (arc x n (n + 1) ∷ []) ≡ k .kind ∷ n ∷ (n + 1) ∷ k .arg ∷ []
 unfolding flat
 leaf-flat x k e n = rw e
 

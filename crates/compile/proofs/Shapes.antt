@@ -7,7 +7,7 @@ use mathlib.Core.List.{List, [], _∷_, _++_}
 use Rattle.semantics.specs.Label.{Label}
 use Rattle.semantics.specs.Program.{Program, nil, move, any, test, seq, ifElse, choice, while, star}
 use Rattle.semantics.specs.CompilingTable.{Step, arc, end, steps, branchSteps}
-use Rattle.compile.specs.Construct.{simple, labelOf, branch, firstLabel, secondLabel, loop, loopSteps}
+use Rattle.compile.specs.Construct.{simple, leafLabel, branch, firstLabel, secondLabel, loop, loopSteps}
 use Rattle.compile.specs.declared.rows.Simple.{Simple}
 use Rattle.compile.specs.declared.rows.Simple.the-variants.{Nil, Move, Test}
 use Rattle.compile.specs.declared.rows.Guard.{Guard}
@@ -29,7 +29,7 @@ pub record Loop (M : ℕ) (σ a : Program) (glue : ℕ → ℕ → List Step) : 
   pub ends : (n : ℕ) → end σ n ≡ suc (end a (suc n))
 
 module _ (M : ℕ) where
-  pub leaf-made : (s : Simple) → Leaf M (simple s) (labelOf s)
+  pub leaf-made : (s : Simple) → Leaf M (simple s) (leafLabel s)
   unfolding steps end
   leaf-made Nil = record { made = λ n. refl; ends = λ n. refl }
   leaf-made (Move a) = record { made = λ n. refl; ends = λ n. refl }

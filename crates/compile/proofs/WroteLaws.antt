@@ -8,7 +8,7 @@ use native.Mathlib.Numerals.{add-one}
 use Rattle.semantics.specs.Program.{Program}
 use Rattle.semantics.specs.CompilingTable.{arc, end, steps, flat, moveSteps, branchSteps}
 use Rattle.semantics.proofs.FlatLaws.{flat-append, flat-length}
-use Rattle.compile.specs.Construct.{labelOf, firstLabel, secondLabel, loopSteps, RowSays}
+use Rattle.compile.specs.Construct.{leafLabel, firstLabel, secondLabel, loopSteps, RowSays}
 use Rattle.compile.specs.Size.{sizesOf}
 use Rattle.compile.specs.Laid.{Laid, Wrote}
 use Rattle.compile.specs.declared.rows.Simple.{Simple}
@@ -38,7 +38,7 @@ starts {M} {σ} {old} {new} {from} {to} k e w =
 
 module _ {M : ℕ} {of : ℕ → Program} {i : ℕ} {old new : List ℕ} {from to : Cursor} where
   pub wrote-leaf : {s : Simple} → RowSays of i (Leaf s)
-      → Laid (flat (arc (labelOf s) (from .position) (from .position + 1) ∷ [])) old (from .at) new (to .at) × (to .position ≡ from .position + 1)
+      → Laid (flat (arc (leafLabel s) (from .position) (from .position + 1) ∷ [])) old (from .at) new (to .at) × (to .position ≡ from .position + 1)
       → Wrote M (of i) old from new to
   wrote-leaf {s} e x = rw (e .is) (record {
     laid = rw (leaf-made M s .made (from .position), ← (add-one (from .position))) (x .0);

@@ -20,10 +20,10 @@ simple Nil = nil
 simple (Move a) = move a
 simple (Test a) = test a
 
-abbrev pub labelOf : Simple → Label
-labelOf Nil = noop
-labelOf (Move a) = make a
-labelOf (Test a) = holds a
+abbrev pub leafLabel : Simple → Label
+leafLabel Nil = noop
+leafLabel (Move a) = make a
+leafLabel (Test a) = holds a
 
 -- two branches, of which a formula's value names the one that is taken, or either is; a part that
 -- is repeated

@@ -12,11 +12,11 @@ use Rattle.compile.specs.Construct.{firstLabel, secondLabel}
 use Rattle.compile.specs.Size.{sizesOf}
 use Rattle.compile.specs.declared.rows.Guard.{Guard}
 use Rattle.compile.specs.declared.steps.Cursor.{Cursor}
-use Rattle.compile.specs.declared.steps.Label.{Label}
+use Rattle.compile.specs.declared.steps.StepLabel.{StepLabel}
 use Rattle.compile.specs.declared.steps.Labels.{Labels}
 
 -- a label in the list, and those of two ways
-abbrev pub labelNumbers : L.Label → Label
+abbrev pub labelNumbers : L.Label → StepLabel
 labelNumbers l = record { kind = kindOf l; arg = argOf l }
 
 abbrev pub guardNumbers : Guard → Labels

@@ -4,7 +4,7 @@ ghost use mathlib.Core.List.{[], _∷_};
 ghost use Prim.Native.Nat.{_+_, _*_, _≤_, _<_};
 ghost use lib.ListN.{length};
 ghost use Rattle.semantics.specs.CompilingTable.{arc, flat, moveSteps, branchSteps, whileSteps, starSteps};
-ghost use Rattle.compile.specs.Construct.{labelOf, firstLabel, secondLabel, loopSteps};
+ghost use Rattle.compile.specs.Construct.{leafLabel, firstLabel, secondLabel, loopSteps};
 ghost use Rattle.compile.specs.Laid.{labelNumbers, guardNumbers, Laid};
 use crate::rows::Guard;
 use crate::rows::Simple;
@@ -27,18 +27,18 @@ fn put_step(list: &mut [u16], at: usize, kind: u16, from: u16, to: u16, arg: u16
 }
 
 // What a step is taken under: its kind and argument.
-pub struct Label {
+pub struct StepLabel {
     pub kind: u16,
     pub arg: u16,
 }
 
-fn leaf_label(simple: Simple) -> Label
-    ensures { λ r. ⌜ r ≡ labelNumbers (labelOf simple) ⌝ }
+fn leaf_label(simple: Simple) -> StepLabel
+    ensures { λ r. ⌜ r ≡ labelNumbers (leafLabel simple) ⌝ }
 {
     match simple {
-        Simple::Nil => Label { kind: 0, arg: 0 },
-        Simple::Move(a) => Label { kind: 3, arg: a },
-        Simple::Test(a) => Label { kind: 1, arg: a },
+        Simple::Nil => StepLabel { kind: 0, arg: 0 },
+        Simple::Move(a) => StepLabel { kind: 3, arg: a },
+        Simple::Test(a) => StepLabel { kind: 1, arg: a },
     }
 }
 
@@ -69,7 +69,7 @@ fn guard_labels(guard: Guard) -> Labels
 // One step to the next position.
 pub fn leaf_step(list: &mut [u16], from: Cursor, simple: Simple) -> Cursor
     requires { ⌜ (from .at + 4 ≤ length (now list)) × (from .position < 65535) ⌝ }
-    ensures { λ r. ⌜ Laid (flat (arc (labelOf simple) (from .position) (from .position + 1) ∷ [])) (now (list .entry)) (from .at) (now (list .exit))
+    ensures { λ r. ⌜ Laid (flat (arc (leafLabel simple) (from .position) (from .position + 1) ∷ [])) (now (list .entry)) (from .at) (now (list .exit))
         (r .at) × (r .position ≡ from .position + 1) ⌝ }
 {
     let n = from.position;

@@ -31,8 +31,8 @@ lastFrom list p (suc k) = cond (eqb (startIn list k) p) (suc k) (lastFrom list p
 abbrev pub adjacencySize : ℕ
 adjacencySize = mostPositions + mostSteps
 
--- links to it for each position, and for each of the n steps to the one before it from the same
--- position
+-- a link for each position to the last step from it, and for each of the n steps to the one before
+-- it from the same position
 pub record Adjacency (list : List ℕ) (n : ℕ) (adjacency : List ℕ) : Type 0 where
   pub size : length adjacency ≡ adjacencySize
   pub last : (p : ℕ) → p < mostPositions → getD adjacency p 0 ≡ lastFrom list p n

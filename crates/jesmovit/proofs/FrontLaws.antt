@@ -13,7 +13,7 @@ use Rattle.compile.specs.CompiledJob.{stepsOf, stepCount}
 use Rattle.compiled.specs.Adjacency.{stepsOn}
 use Rattle.compiled.specs.Ready.{Ready}
 use Rattle.load.specs.Loaded.{Sized}
-use Rattle.load.specs.declared.loaded.Load.{Load}
+use Rattle.load.specs.declared.loaded.LoadedJob.{LoadedJob}
 
 -- a part from place 0 on
 pub part-front : (k : ℕ) (l : List ℕ) → take (k - 0) l ≡ take k l
@@ -27,7 +27,7 @@ front-flat L list {need = need} e long f =
     rw (f, g, sets-eq (flat L) list 0 (omega (arith, g))) (take-append-seam (flat L) (drop (0 + length (flat L)) list))
 
 -- of a job that is stored and measured
-module _ {l : Load} {rows : List ℕ} (sized : Sized l rows) (list : List ℕ) (long : stepCount (jobOf (l .head) rows) * 4 ≤ length list)
+module _ {l : LoadedJob} {rows : List ℕ} (sized : Sized l rows) (list : List ℕ) (long : stepCount (jobOf (l .head) rows) * 4 ≤ length list)
     {need : ℕ} (n : need ≡ l .sizes .steps * 4) where
   pub front-fits : need ≤ length list
   front-fits = omega (arith, sized .steps, n)

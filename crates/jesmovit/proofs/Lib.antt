@@ -1,6 +1,7 @@
 pub mod AnswerLaws
 pub mod LoadedLaws
 pub mod FrontLaws
+pub mod CompileLaws
 pub mod SaysLaws
 pub mod CostLaws
 pub mod JudgeLaws

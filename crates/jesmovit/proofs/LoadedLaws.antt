@@ -20,7 +20,7 @@ use Rattle.validate.specs.Entries.{EntriesBelow}
 use Rattle.load.specs.Refusals.{Handed, passed, refused, Offer, keyFor, boundFor, textsIn, listNeed, tableNeed, loading}
 use Rattle.load.specs.Loaded.{loadedAs, Sized, Fitting, Loads, loadRefusal}
 use Rattle.load.specs.View.{View, viewOf, viewIn}
-use Rattle.load.specs.declared.loaded.Load.{Load}
+use Rattle.load.specs.declared.loaded.LoadedJob.{LoadedJob}
 use Rattle.load.specs.declared.loaded.Loaded.{Loaded}
 use Rattle.load.proofs.LoadingLaws.{loading-iff, texts-taken}
 use Rattle.load.proofs.PlanLaws.{plan-taken}
@@ -30,13 +30,15 @@ use Rattle.jesmovit.proofs.AnswerLaws.{answer-refused}
 use Rattle.jesmovit.proofs.FrontLaws.{part-front, front-fits, front-ready}
 
 module _ {h : Handed} {rows entries : List ℕ} {a : Loaded} (e : Loads h a rows entries) where
+  pub load-refusal : {q r : Refusal} → a ≡ Loaded.Refused q → r ≡ loadRefusal a → refused (r .number) (r .place) ≡ loading h
+  load-refusal g f =
+      ap (λ (x : Refusal). refused (x .number) (x .place)) (f ∙ ap loadRefusal g) ∙ ap (λ (x : Loaded). loadedAs x rows entries) (sym g) ∙ e .is
+
   pub load-refused : {B C : Type 0} {Does : View → B → C → C → Type 0} {old : C} {q r : Refusal} → a ≡ Loaded.Refused q → r ≡ loadRefusal a
       → Answers Does old (viewIn h) (refused (r .number) (r .place)) old
-  load-refused g f =
-      answer-refused h
-      (ap (λ (x : Refusal). refused (x .number) (x .place)) (f ∙ ap loadRefusal g) ∙ ap (λ (x : Loaded). loadedAs x rows entries) (sym g) ∙ e .is)
+  load-refused g f = answer-refused h (load-refusal g f)
 
-  module _ {l : Load} (g : a ≡ Loaded.Ready l) where
+  module _ {l : LoadedJob} (g : a ≡ Loaded.Ready l) where
     abbrev o : Offer
     o = record { job = jobOf (l .head) rows; entries = take (l .entries) entries }
 
@@ -84,6 +86,6 @@ module _ {h : Handed} {rows entries : List ℕ} {a : Loaded} (e : Loads h a rows
         rw (part-front (l .entries) entries) (record { few = r .0; below = r .1 })
 
 -- the sizes of the compiled job are those of its view
-pub sizes-of : {l : Load} {rows : List ℕ} → Sized l rows
+pub sizes-of : {l : LoadedJob} {rows : List ℕ} → Sized l rows
     → record { positions = l .sizes .positions; steps = l .sizes .steps } ≡ viewSizes (viewOf (record { job = jobOf (l .head) rows; entries = [] }))
 sizes-of {l} s = rw (s .positions, s .steps) refl

@@ -7,11 +7,10 @@ use lib.ListN.{length}
 use lib.Seq.{sets}
 use Rattle.semantics.specs.CompilingTable.{flat}
 use Rattle.compile.specs.declared.sizes.Sizes.{Sizes}
-use Rattle.load.specs.Refusals.{Handed}
+use Rattle.load.specs.Refusals.{Handed, Checked, passed, refused, next}
 use Rattle.load.specs.View.{View, viewSteps, positionsOf, viewIn}
 use Rattle.load.specs.declared.request.Sort.the-variants.{Moves}
 use Rattle.jesmovit.specs.Outcomes.{compileOutcome}
-use Rattle.jesmovit.specs.Answers.{Answers}
 use Rattle.jesmovit.specs.declared.compiling.CompileAnswer.{CompileAnswer}
 
 -- what is handed in: a job text, and a list of so many places
@@ -27,10 +26,12 @@ listAfter v list = sets list 0 (flat (viewSteps v))
 abbrev pub viewSizes : View → Sizes
 viewSizes v = record { positions = positionsOf v; steps = length (viewSteps v) }
 
--- the sizes are answered, and the list holds the steps
-pub record CompileDone (v : View) (sizes : Sizes) (old new : List ℕ) : Type 0 where
-  pub sized : sizes ≡ viewSizes v
-  pub list : new ≡ listAfter v old
+-- where nothing is refused; "A refusal … changes no list or table."
+abbrev pub listIn : Checked View → List ℕ → List ℕ
+listIn (passed v) list = listAfter v list
+listIn (refused number place) list = list
 
-abbrev pub Compiles : List ℕ → List ℕ → CompileAnswer → List ℕ → Type 0
-Compiles text list answer after = Answers CompileDone list (viewIn (compiling text (length list))) (compileOutcome answer) after
+-- the whole promise: the sizes or the refusal, and what the list holds afterwards
+pub record Compiles (text list : List ℕ) (answer : CompileAnswer) (after : List ℕ) : Type 0 where
+  pub outcome : compileOutcome answer ≡ next (viewIn (compiling text (length list))) (λ v. passed (viewSizes v))
+  pub holds : after ≡ listIn (viewIn (compiling text (length list))) list

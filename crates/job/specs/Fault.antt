@@ -35,8 +35,7 @@ rangeOf Program c = range 1 (mostProgram + 1) 2
 abbrev pub isIn : Range → ℕ → Bool
 isIn g n = leb (g .from) n && ltb n (g .below)
 
--- what a row must pass, by reason: its count, and its fields. Reason 3: "kind, reference, class,
--- value or unused field wrong", beside so many facts and earlier rows
+-- what a row must pass, by reason: its count, and its fields
 pub record Criteria : Type 0 where
   pub range : Bool
   pub fields : Bool
@@ -44,6 +43,8 @@ pub record Criteria : Type 0 where
 abbrev criterion : Bool → Bool → Criteria
 criterion range fields = record { range = range; fields = fields }
 
+-- reason 3: "kind, reference, class, value or unused field wrong", beside so many facts and earlier
+-- rows
 abbrev pub criteria : RowSort → Counts → List ℕ → Criteria
 criteria Formula c r = criterion true (within c (getD formulaFields (getD r 0 0) []) (getD r 1 0 ∷ getD r 2 0 ∷ []))
 criteria Move c r = criterion (leb (getD r 2 0) mostMoveEffects) (ltb (getD r 0 0) (c .formulas) && leb (getD r 1 0) lastClass)

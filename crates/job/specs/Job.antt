@@ -76,20 +76,20 @@ abbrev pub programRowAt : Job → ℕ → Row
 programRowAt j i = getD (j .program) i (rowOf [])
 
 -- a job of these parts; a job with a row more, or with other scalars
-abbrev pub made : Scalars → List Formula → List Move → List Effect → List Row → Job
-made s fs ms es ps = record { scalars = s; formulas = fs; moves = ms; effects = es; program = ps }
+abbrev pub jobWith : Scalars → List Formula → List Move → List Effect → List Row → Job
+jobWith s fs ms es ps = record { scalars = s; formulas = fs; moves = ms; effects = es; program = ps }
 
 abbrev pub addFormula : Job → Formula → Job
-addFormula j f = made (j .scalars) (j .formulas ++ (f ∷ [])) (j .moves) (j .effects) (j .program)
+addFormula j f = jobWith (j .scalars) (j .formulas ++ (f ∷ [])) (j .moves) (j .effects) (j .program)
 
 abbrev pub addMove : Job → Move → Job
-addMove j m = made (j .scalars) (j .formulas) (j .moves ++ (m ∷ [])) (j .effects) (j .program)
+addMove j m = jobWith (j .scalars) (j .formulas) (j .moves ++ (m ∷ [])) (j .effects) (j .program)
 
 abbrev pub addEffect : Job → Effect → Job
-addEffect j e = made (j .scalars) (j .formulas) (j .moves) (j .effects ++ (e ∷ [])) (j .program)
+addEffect j e = jobWith (j .scalars) (j .formulas) (j .moves) (j .effects ++ (e ∷ [])) (j .program)
 
 abbrev pub addRow : Job → Row → Job
-addRow j r = made (j .scalars) (j .formulas) (j .moves) (j .effects) (j .program ++ (r ∷ []))
+addRow j r = jobWith (j .scalars) (j .formulas) (j .moves) (j .effects) (j .program ++ (r ∷ []))
 
 abbrev pub withScalars : Job → Scalars → Job
-withScalars j s = made s (j .formulas) (j .moves) (j .effects) (j .program)
+withScalars j s = jobWith s (j .formulas) (j .moves) (j .effects) (j .program)

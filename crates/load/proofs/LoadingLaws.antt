@@ -13,7 +13,7 @@ use Rattle.plans.specs.PlanText as P
 use Rattle.load.specs.Refusals.{Handed, Checked, passed, refused, next, jobIn, Offer, planIn, textsIn}
 use Rattle.load.specs.Refusals.{longEnough, listNeed, tableNeed, loading}
 use Rattle.load.specs.Loaded.{jobAs, loadedAs, Measured, Fitting, Loads}
-use Rattle.load.specs.declared.loaded.Load.{Load}
+use Rattle.load.specs.declared.loaded.LoadedJob.{LoadedJob}
 use Rattle.load.specs.declared.loaded.Loaded.{Loaded}
 use Rattle.load.proofs.StageLaws.{passed-next, long-enough, too-short, long-passed}
 
@@ -72,21 +72,21 @@ module _ (h : Handed) where
     loading-iff = (passes, λ x. sym (all-long (sym (x .0)) (x .1) (x .2)))
 
 -- loading, stage by stage
-pub job-measured : {rows : List ℕ} {a : Loaded} {job : Load} → a ≡ Loaded.Ready job → Measured a rows → Measured (Loaded.Ready job) rows
+pub job-measured : {rows : List ℕ} {a : Loaded} {job : LoadedJob} → a ≡ Loaded.Ready job → Measured a rows → Measured (Loaded.Ready job) rows
 job-measured {rows} g m = subst (λ (x : Loaded). Measured x rows) g m
 
 module _ (h : Handed) (rows entries : List ℕ) where
   abbrev Post : Loaded → Type 0
   Post answer = Loads h answer rows entries
 
-  short : {r : Loaded} {need : ℕ} → r ≡ Loaded.Refused (record { number = 6; place = need }) → refused 6 need ≡ loading h → Post r
-  short f e = subst Post (sym f) (record { is = e; fitting = tt })
+  short : {r : Refusal} {need : ℕ} → r ≡ record { number = 6; place = need } → refused 6 need ≡ loading h → Post (Loaded.Refused r)
+  short f e = record { is = ap (λ (x : Refusal). refused (x .number) (x .place)) f ∙ e; fitting = tt }
 
   module _ (a : Loaded) (e : jobAs a rows ≡ jobIn (h .job)) where
     pub job-refused : {q : Refusal} → a ≡ Loaded.Refused q → Post a
     job-refused g = subst Post (sym g) (record { is = chain h (texts-of h (ap (λ (x : Loaded). jobAs x rows) (sym g) ∙ e)); fitting = tt })
 
-    module _ {job : Load} (g : a ≡ Loaded.Ready job) where
+    module _ {job : LoadedJob} (g : a ≡ Loaded.Ready job) where
       module _ (b : Loaded) (p : (loadedAs b rows entries ≡ planIn (h .request) (h .plan) (jobOf (job .head) rows)) × Fitting b rows) where
         both : loadedAs b rows entries ≡ textsIn h
         both = p .0 ∙ texts-of h (ap (λ (x : Loaded). jobAs x rows) (sym g) ∙ e)
@@ -94,7 +94,7 @@ module _ (h : Handed) (rows entries : List ℕ) where
         pub plan-refused : {q : Refusal} → b ≡ Loaded.Refused q → Post b
         plan-refused k = subst Post (sym k) (record { is = chain h (ap (λ (x : Loaded). loadedAs x rows entries) (sym k) ∙ both); fitting = tt })
 
-        module _ {offer : Load} (k : b ≡ Loaded.Ready offer) where
+        module _ {offer : LoadedJob} (k : b ≡ Loaded.Ready offer) where
           abbrev o : Offer
           o = record { job = jobOf (offer .head) rows; entries = take (offer .entries) entries }
 
@@ -108,14 +108,14 @@ module _ (h : Handed) (rows entries : List ℕ) where
             need : places ≡ listNeed (o .job)
             need = l ∙ ap (λ (n : ℕ). n * 4) (fitting .0 .steps)
 
-            pub list-refused : h .request .places < places → {r : Loaded} → r ≡ Loaded.Refused (record { number = 6; place = places }) → Post r
+            pub list-refused : h .request .places < places → {r : Refusal} → r ≡ record { number = 6; place = places } → Post (Loaded.Refused r)
             list-refused x f = short f (ap (λ (n : ℕ). refused 6 n) need ∙ list-short h texts (rw need at x))
 
             module _ (x : places ≤ h .request .places) {cells : ℕ} (t : cells ≡ cond (h .request .table) (offer .states * offer .sizes .positions) 0) where
               cell-need : cells ≡ tableNeed (h .request) (o .job)
               cell-need = rw (fitting .0 .states, fitting .0 .positions) at t
 
-              pub table-refused : h .request .cells < cells → {r : Loaded} → r ≡ Loaded.Refused (record { number = 6; place = cells }) → Post r
+              pub table-refused : h .request .cells < cells → {r : Refusal} → r ≡ record { number = 6; place = cells } → Post (Loaded.Refused r)
               table-refused y f = short f (ap (λ (n : ℕ). refused 6 n) cell-need ∙ table-short h texts (rw need at x) (rw cell-need at y))
 
               pub all-ready : cells ≤ h .request .cells → Post (Loaded.Ready offer)

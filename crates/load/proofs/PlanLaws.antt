@@ -22,7 +22,7 @@ use Rattle.load.specs.Loaded.{loadedAs, countFor, Measured, Fitting, pla
 use Rattle.load.specs.declared.request.Request.{Request}
 use Rattle.load.specs.declared.request.Sort.{Sort}
 use Rattle.load.specs.declared.request.Sort.the-variants.{Moves, Steps}
-use Rattle.load.specs.declared.loaded.Load.{Load}
+use Rattle.load.specs.declared.loaded.LoadedJob.{LoadedJob}
 use Rattle.load.specs.declared.loaded.Loaded.{Loaded}
 
 -- the job's own counts
@@ -31,7 +31,7 @@ bound-of : (sort : Sort) (h : Head) (rows : List ℕ) {moves steps : ℕ} → mo
 bound-of Moves h rows d e = d
 bound-of Steps h rows d e = e
 
-module _ (r : Request) (plan rows entries : List ℕ) (job : Load) (m : Measured (Loaded.Ready job) rows) where
+module _ (r : Request) (plan rows entries : List ℕ) (job : LoadedJob) (m : Measured (Loaded.Ready job) rows) where
   abbrev j : Job
   j = jobOf (job .head) rows
 

@@ -17,7 +17,7 @@ use Rattle.load.specs.Refusals.{Handed, Checked, Offer, loading}
 use Rattle.load.specs.declared.request.Request.{Request}
 use Rattle.load.specs.declared.request.Sort.{Sort}
 use Rattle.load.specs.declared.request.Sort.the-variants.{Moves, Steps}
-use Rattle.load.specs.declared.loaded.Load.{Load}
+use Rattle.load.specs.declared.loaded.LoadedJob.{LoadedJob}
 use Rattle.load.specs.declared.loaded.Loaded.{Loaded}
 use Rattle.load.specs.declared.loaded.Loaded.the-variants.{Ready, Refused}
 
@@ -32,7 +32,7 @@ jobAs (Ready a) rows = C.passed (jobOf (a .head) rows)
 jobAs (Refused r) rows = C.refused (r .number) (r .place)
 
 -- a stored job whose compiled job is within the limits, and its sizes
-pub record Sized (a : Load) (rows : List ℕ) : Type 0 where
+pub record Sized (a : LoadedJob) (rows : List ℕ) : Type 0 where
   pub stored : Stored (a .head) rows
   pub fit : fits (jobOf (a .head) rows) ≡ true
   pub positions : a .sizes .positions ≡ positionCount (jobOf (a .head) rows)
@@ -55,8 +55,8 @@ pub record Loads (h : Handed) (answer : Loaded) (rows entries : List ℕ) : Type
   pub fitting : Fitting answer rows
 
 -- a plan text's entries have room
-abbrev pub Room : Request → ℕ → Type 0
-Room r places = r .plan ≡ true → places ≡ mostEntries
+abbrev pub EntryRoom : Request → ℕ → Type 0
+EntryRoom r places = r .plan ≡ true → places ≡ mostEntries
 
 -- how many entries of a sort there are, of so many moves and steps
 abbrev pub countFor : Sort → ℕ → ℕ → ℕ

@@ -5,9 +5,9 @@ use compile::sizes::Sizes;
 use job::head::Head;
 use job::refusal::Refusal;
 
-// A job that nothing refuses: its head, whose rows are then stored, the sizes of its compiled job,
+// A job that nothing refuses so far: its head, whose rows are then stored, the sizes of its compiled job,
 // how many states it has, and how many entries of its plan are then stored.
-pub struct Load {
+pub struct LoadedJob {
     pub head: Head,
     pub sizes: Sizes,
     pub states: u16,
@@ -15,7 +15,7 @@ pub struct Load {
 }
 
 pub enum Loaded {
-    Ready(Load),
+    Ready(LoadedJob),
     Refused(Refusal),
 }
 

@@ -2,7 +2,7 @@
 ghost use mathlib.Core.Path.{_≡_};
 ghost use lib.ListN.{length};
 ghost use Rattle.job.specs.Store.{storeSize};
-ghost use Rattle.load.specs.Loaded.{Loads, Room};
+ghost use Rattle.load.specs.Loaded.{Loads, EntryRoom};
 use crate::loaded::Loaded;
 use crate::request::Request;
 
@@ -14,7 +14,7 @@ pub fn load(
     rows: &mut [u16],
     entries: &mut [u16],
 ) -> Loaded
-    requires { ⌜ (length (now rows) ≡ storeSize) × Room request (length (now entries)) ⌝ }
+    requires { ⌜ (length (now rows) ≡ storeSize) × EntryRoom request (length (now entries)) ⌝ }
     ensures { λ r. ⌜ Loads (record { request = request; job = now (text .entry); plan = now (plan .entry) }) r (now (rows .exit)) (now (entries .exit)) ⌝ }
 {
     let read = crate::stages::load_job(text, rows);
@@ -27,11 +27,13 @@ pub fn load(
     };
     let places = crate::room::list_need(offer);
     if request.places < places {
-        return crate::room::too_short(places);
+        let short = crate::room::too_short(places);
+        return Loaded::Refused(short);
     }
     let cells = crate::room::table_need(request.table, offer);
     if request.cells < cells {
-        return crate::room::too_short(cells);
+        let short = crate::room::too_short(cells);
+        return Loaded::Refused(short);
     }
     offered
 }

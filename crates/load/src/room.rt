@@ -2,29 +2,28 @@
 ghost use mathlib.Core.Path.{_≡_};
 ghost use mathlib.Core.Bool.{cond};
 ghost use Prim.Native.Nat.{_*_};
-use crate::loaded::Load;
-use crate::loaded::Loaded;
+use crate::loaded::LoadedJob;
 use job::refusal::Refusal;
 
 // The refusal of a list or a table that is shorter than it has to be.
-pub fn too_short(need: usize) -> Loaded
-    ensures { λ r. ⌜ r ≡ Loaded.Refused (record { number = 6; place = need }) ⌝ }
+pub fn too_short(need: usize) -> Refusal
+    ensures { λ r. ⌜ r ≡ record { number = 6; place = need } ⌝ }
 {
-    Loaded::Refused(Refusal {
+    Refusal {
         number: 6,
         place: need,
-    })
+    }
 }
 
 // The places of the compiled list: four for each step.
-pub fn list_need(job: Load) -> usize
+pub fn list_need(job: LoadedJob) -> usize
     ensures { λ r. ⌜ r ≡ job .sizes .steps * 4 ⌝ }
 {
     (job.sizes.steps as usize) * 4
 }
 
 // The cells of the cost table, one for each state and position; none where there is no table.
-pub fn table_need(table: bool, job: Load) -> usize
+pub fn table_need(table: bool, job: LoadedJob) -> usize
     ensures { λ r. ⌜ r ≡ cond table (job .states * job .sizes .positions) 0 ⌝ }
 {
     if table {

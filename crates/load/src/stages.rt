@@ -6,9 +6,9 @@ ghost use Rattle.limits.specs.Limits.{mostEntries};
 ghost use Rattle.job.specs.Store.{storeSize, jobOf};
 ghost use Rattle.plans.specs.PlanText.{readPlan, planOf, entryCount};
 ghost use Rattle.load.specs.Refusals.{jobIn, keyFor, planIn};
-ghost use Rattle.load.specs.Loaded.{jobAs, loadedAs, Measured, Fitting, Room, countFor, planRefusal};
-use crate::loaded::Load;
+ghost use Rattle.load.specs.Loaded.{jobAs, loadedAs, Measured, Fitting, EntryRoom, countFor, planRefusal};
 use crate::loaded::Loaded;
+use crate::loaded::LoadedJob;
 use crate::request::Request;
 use crate::request::Sort;
 use job::refusal::Refusal;
@@ -38,7 +38,7 @@ pub fn load_job(text: &[u8], rows: &mut [u16]) -> Loaded
     if STEPS < (sizes.steps as usize) {
         return Loaded::Refused(large);
     }
-    Loaded::Ready(Load {
+    Loaded::Ready(LoadedJob {
         head: head,
         sizes: sizes,
         states: domain::states::state_count(head, rows),
@@ -77,11 +77,11 @@ fn read_plan(sort: Sort, plan: &[u8], moves: u16, steps: u16, entries: &mut [u16
 pub fn load_plan(
     request: Request,
     plan: &[u8],
-    job: Load,
+    job: LoadedJob,
     rows: &[u16],
     entries: &mut [u16],
 ) -> Loaded
-    requires { ⌜ Measured (Loaded.Ready job) (now rows) × Room request (length (now entries)) ⌝ }
+    requires { ⌜ Measured (Loaded.Ready job) (now rows) × EntryRoom request (length (now entries)) ⌝ }
     ensures { λ r. ⌜ (loadedAs r (now (rows .entry)) (now (entries .exit)) ≡ planIn request (now (plan .entry))
         (jobOf (job .head) (now (rows .entry)))) × Fitting r (now (rows .entry)) ⌝ }
 {

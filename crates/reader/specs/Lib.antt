@@ -1,3 +1,2 @@
-pub mod Form
 pub mod Room
 pub mod Reading

@@ -41,7 +41,7 @@ oneMore Row c = counts (c .facts) (c .formulas) (c .moves) (c .effects) (c .prog
 abbrev pub readingOf : ReaderState → List ℕ → Reading
 readingOf s l = on (s .next) (s .due) (s .effects) (jobOf (s .head) l)
 
--- the paper's number and values for each case of the answer, with the rows as they are stored
+-- document 01's number and values for each case of the answer, with the rows as they are stored
 abbrev pub outcomeOf : Answer → List ℕ → Outcome
 outcomeOf (Read n h) l = read n (jobOf h l)
 outcomeOf (Refused r) l = refused (r .number) (r .place)

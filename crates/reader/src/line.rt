@@ -1,65 +1,69 @@
 // The numbers of the line that comes next.
 ghost use mathlib.Core.Path.{_≡_};
+ghost use Rattle.text.specs.Lines.{valueOf};
 ghost use Rattle.job.specs.Line.{formOf, lineNumbers};
 ghost use Rattle.job.specs.Store.{numbersOf};
-ghost use Rattle.reader.specs.Form.{HasForm};
 use job::line::Heading;
 use job::line::Line;
 use job::line::LineNumbers;
 use job::line::RowSort;
 use job::rows::WIDTH;
 
-// How many numbers a line has, and its key, which is the front of eight bytes.
-pub struct Form {
-    pub width: usize,
-    pub length: usize,
-    pub key: [u8; 8],
-}
-
-impl Form {
-    fn new(width: usize, length: usize, key: [u8; 8]) -> Form
-        ensures { λ r. ⌜ r ≡ record { width = width; length = length; key = key } ⌝ }
-    {
-        Form {
-            width: width,
-            length: length,
-            key: key,
-        }
-    }
-}
-
-fn heading_form(heading: Heading) -> Form
-    ensures { λ r. ⌜ HasForm r (formOf (Line.One heading)) ⌝ }
-{
-    match heading {
-        Heading::Job => Form::new(1, 3, *b"job     "),
-        Heading::Facts => Form::new(1, 5, *b"facts   "),
-        Heading::Init => Form::new(1, 4, *b"init    "),
-        Heading::Formulas => Form::new(1, 8, *b"formulas"),
-        Heading::Moves => Form::new(1, 5, *b"moves   "),
-        Heading::Goal => Form::new(1, 4, *b"goal    "),
-        Heading::Program => Form::new(1, 7, *b"program "),
-    }
-}
-
-fn row_form(sort: RowSort) -> Form
-    ensures { λ r. ⌜ HasForm r (formOf (Line.Of sort)) ⌝ }
+fn row_width(sort: RowSort) -> usize
+    ensures { λ r. ⌜ r ≡ formOf (Line.Of sort) .width ⌝ }
 {
     match sort {
-        RowSort::Formula => Form::new(3, 1, *b"f       "),
-        RowSort::Move => Form::new(3, 1, *b"m       "),
-        RowSort::Effect => Form::new(3, 1, *b"e       "),
-        RowSort::Row => Form::new(4, 1, *b"p       "),
+        RowSort::Formula => 3,
+        RowSort::Move => 3,
+        RowSort::Effect => 3,
+        RowSort::Row => 4,
     }
 }
 
-fn line_form(next: Line) -> Form
-    ensures { λ r. ⌜ HasForm r (formOf next) ⌝ }
+// How many numbers a line has.
+fn width(next: Line) -> usize
+    ensures { λ r. ⌜ r ≡ formOf next .width ⌝ }
 {
     match next {
-        Line::One(heading) => heading_form(heading),
-        Line::Of(sort) => row_form(sort),
-        Line::End => Form::new(0, 0, *b"        "),
+        Line::One(_) => 1,
+        Line::Of(sort) => row_width(sort),
+        Line::End => 0,
+    }
+}
+
+fn heading_value(heading: Heading, line: &[u8]) -> &[u8]
+    ensures { λ r. ⌜ now r ≡ valueOf (formOf (Line.One heading) .key) (now (line .entry)) ⌝ }
+{
+    match heading {
+        Heading::Job => text::lines::value(line, b"job"),
+        Heading::Facts => text::lines::value(line, b"facts"),
+        Heading::Init => text::lines::value(line, b"init"),
+        Heading::Formulas => text::lines::value(line, b"formulas"),
+        Heading::Moves => text::lines::value(line, b"moves"),
+        Heading::Goal => text::lines::value(line, b"goal"),
+        Heading::Program => text::lines::value(line, b"program"),
+    }
+}
+
+fn row_value(sort: RowSort, line: &[u8]) -> &[u8]
+    ensures { λ r. ⌜ now r ≡ valueOf (formOf (Line.Of sort) .key) (now (line .entry)) ⌝ }
+{
+    match sort {
+        RowSort::Formula => text::lines::value(line, b"f"),
+        RowSort::Move => text::lines::value(line, b"m"),
+        RowSort::Effect => text::lines::value(line, b"e"),
+        RowSort::Row => text::lines::value(line, b"p"),
+    }
+}
+
+// The value after a line's key, as a part of the line.
+fn value(next: Line, line: &[u8]) -> &[u8]
+    ensures { λ r. ⌜ now r ≡ valueOf (formOf next .key) (now (line .entry)) ⌝ }
+{
+    match next {
+        Line::One(heading) => heading_value(heading, line),
+        Line::Of(sort) => row_value(sort, line),
+        Line::End => text::lines::value(line, b""),
     }
 }
 
@@ -68,12 +72,9 @@ pub fn read_line(next: Line, line: &[u8]) -> LineNumbers
     ensures { λ r. ⌜ numbersOf next r ≡ lineNumbers next (now (line .entry)) ⌝ }
 {
     let mut n = [0u16; WIDTH];
-    let form = line_form(next);
-    let key = form.key;
-    let length = form.length;
-    let width = form.width;
-    let value = text::lines::value(line, &key[0..length]);
-    let formed = text::numbers::read_numbers(value, &mut n[0..width]);
+    let w = width(next);
+    let v = value(next, line);
+    let formed = text::numbers::read_numbers(v, &mut n[0..w]);
     LineNumbers {
         formed: formed,
         numbers: n,

@@ -38,7 +38,7 @@ use Rattle.search.specs.declared.Front.{Front}
 use Rattle.search.specs.declared.Target.{Target}
 use Rattle.search.specs.Cells.{Idle, followed, low, far, due}
 use Rattle.search.specs.Sweeps.{Only, Processed, below, passed, marked, potential, domainAt, graphIn}
-use Rattle.search.specs.Relaxation.{Room, Sweep, targetOf, cellAt, Relaxing, kept, within, lowered, Stepped, stays, leads, Progress, Scanned}
+use Rattle.search.specs.Relaxation.{TableRoom, Sweep, targetOf, cellAt, Relaxing, kept, within, lowered, Stepped, stays, leads, ScanProgress, Scanned}
 use Rattle.search.proofs.GraphLaws.{graph-closed}
 use Rattle.search.proofs.PotentialLaws.{store-falls}
 
@@ -46,7 +46,7 @@ pub cell-room : (positions t q states : ℕ) {size : ℕ} → t < states → q <
 cell-room positions t q states a b h = omega (arith, cell-below positions t q states a b)
 
 -- room stays while lengths do
-pub room-on : {grid : Grid} {T queue U queue′ : List ℕ} → Room grid T queue → length U ≡ length T → length queue′ ≡ length queue → Room grid U queue′
+pub room-on : {grid : Grid} {T queue U queue′ : List ℕ} → TableRoom grid T queue → length U ≡ length T → length queue′ ≡ length queue → TableRoom grid U queue′
 room-on x a b = record { few = x .few; cells = omega (arith, x .cells); keys = record { size = b ∙ x .keys .size; few = x .keys .few } }
 
 module _ {origin : Origin} {rows : List ℕ} {values : List Bool} {T queue cache : List ℕ} (x : Sweep origin rows values T queue cache) where
@@ -100,7 +100,7 @@ Elsewhere p Q r z = (r ≡ p → ⊥) × Q r z
 
 -- the steps from p, whose cell is at x, are followed but for the one at link h and those before it
 pub record Scanning (G : Graph) (list : List ℕ) (w k x p : ℕ) (T₀ queue₀ T queue : List ℕ) (marks : List Bool) (next h : ℕ) : Type 0 where
-  pub progress : Progress G w p T₀ queue₀ T queue marks next
+  pub progress : ScanProgress G w p T₀ queue₀ T queue marks next
   pub due : k ≤ x
   pub here : entry G T w p ≡ x
   pub walked : Walked list p (λ l q. Spent G w x T l q) h
@@ -134,7 +134,7 @@ module _ {origin : Origin} {rows list adjacency : List ℕ} {values : List Bool}
   few-states = omega (arith, swept .states, swept .room .keys .few)
 
   module _ (marks₀ : List Bool) (width : length marks₀ ≡ mostPositions) (R : Relaxed G (Only queue₀ w (Processed k p marks₀)) T₀) where
-    start : (marks : List Bool) → length marks ≡ mostPositions → Progress G w p T₀ queue₀ T₀ queue₀ marks (p + 1)
+    start : (marks : List Bool) → length marks ≡ mostPositions → ScanProgress G w p T₀ queue₀ T₀ queue₀ marks (p + 1)
     start marks e = record { runs = none; size = refl; width = e; key = omega arith; low = omega arith; falls = omega arith; less = omega arith }
 
     -- there is nothing to follow

@@ -13,14 +13,14 @@ use Rattle.domain.specs.Domain.{domainIn}
 use Rattle.compiled.specs.Adjacency.{Indexed}
 use Rattle.compiled.specs.Ready.{Ready}
 use Rattle.search.specs.declared.Grid.{Grid}
-use Rattle.search.specs.Relaxation.{Room}
+use Rattle.search.specs.Relaxation.{TableRoom}
 
 -- a job, its steps, and room for its table and keys
 pub record Search (head : Head) (rows list adjacency : List ℕ) (grid : Grid) (T queue : List ℕ) : Type 0 where
   pub ready : Ready head rows list (grid .positions)
   pub indexed : Indexed list adjacency
   pub states : grid .states ≡ domainIn head rows .states
-  pub room : Room grid T queue
+  pub room : TableRoom grid T queue
 
 -- nothing is left to follow
 pub record Exhausted (G : Graph) (T T′ : List ℕ) : Type 0 where

@@ -20,7 +20,7 @@ use Rattle.search.specs.declared.Target.{Target}
 use Rattle.search.specs.Sweeps.{Keyed, Only, Processed, graphIn, domainAt, potential}
 
 -- room for a table of so many states and positions, and for the states' keys
-pub record Room (grid : Grid) (T queue : List ℕ) : Type 0 where
+pub record TableRoom (grid : Grid) (T queue : List ℕ) : Type 0 where
   pub few : grid .positions ≤ mostPositions
   pub cells : grid .states * grid .positions ≤ length T
   pub keys : Queue queue (grid .states)
@@ -29,7 +29,7 @@ pub record Room (grid : Grid) (T queue : List ℕ) : Type 0 where
 pub record Sweep (origin : Origin) (rows : List ℕ) (values : List Bool) (T queue cache : List ℕ) : Type 0 where
   pub standing : Standing (origin .head) rows values (origin .state) cache
   pub states : origin .grid .states ≡ domainAt origin rows .states
-  pub room : Room (origin .grid) T queue
+  pub room : TableRoom (origin .grid) T queue
 
 abbrev pub targetOf : Target → Arrival Configuration
 targetOf t = arrival (t .state) (t .position) (t .cost)
@@ -57,7 +57,7 @@ pub data Stepped (origin : Origin) (rows : List ℕ) (step : OutStep) (x next : 
       → Relaxing origin target x next T queue marks T′ queue′ marks′ r → Stepped origin rows step x next T queue marks T′ queue′ marks′ r
 
 -- stores along steps from position p of state w, after which r is where to go on
-pub record Progress (G : Graph) (w p : ℕ) (T queue T′ queue′ : List ℕ) (marks′ : List Bool) (r : ℕ) : Type 0 where
+pub record ScanProgress (G : Graph) (w p : ℕ) (T queue T′ queue′ : List ℕ) (marks′ : List Bool) (r : ℕ) : Type 0 where
   pub runs : Runs G T T′
   pub size : length queue′ ≡ length queue
   pub width : length marks′ ≡ mostPositions
@@ -68,7 +68,7 @@ pub record Progress (G : Graph) (w p : ℕ) (T queue T′ queue′ : List ℕ) (
 
 -- the steps from the front's position followed
 pub record Scanned (origin : Origin) (front : Front) (rows list T queue T′ queue′ : List ℕ) (marks′ : List Bool) (r : ℕ) : Type 0 where
-  pub progress : Progress (graphIn origin rows list) (origin .state) (front .position) T queue T′ queue′ marks′ r
+  pub progress : ScanProgress (graphIn origin rows list) (origin .state) (front .position) T queue T′ queue′ marks′ r
   pub relaxed : Relaxed (graphIn origin rows list) (Only queue′ (origin .state) (Processed (front .key) r marks′)) T′
 
 -- stores along steps, after which the steps are followed from all cells with an entry below their

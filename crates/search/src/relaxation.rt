@@ -11,7 +11,7 @@ ghost use Rattle.compiled.specs.Adjacency.{Indexed};
 ghost use Rattle.compiled.specs.Ready.{Ready};
 ghost use Rattle.compiled.specs.Successors.{Cached};
 ghost use Rattle.search.specs.Sweeps.{Only, Processed, graphIn, domainAt};
-ghost use Rattle.search.specs.Relaxation.{Room, Sweep, Relaxing, Stepped, Scanned};
+ghost use Rattle.search.specs.Relaxation.{TableRoom, Sweep, Relaxing, Stepped, Scanned};
 use crate::Front;
 use crate::Origin;
 use crate::Target;
@@ -31,7 +31,7 @@ fn relax(
     target: Target,
     next: usize,
 ) -> usize
-    requires { ⌜ Room (origin .grid) (now costs) (now queue) × (length (now marks) ≡ mostPositions) ⌝ }
+    requires { ⌜ TableRoom (origin .grid) (now costs) (now queue) × (length (now marks) ≡ mostPositions) ⌝ }
     requires { ⌜ (target .state < origin .grid .states) × (target .position < origin .grid .positions) ⌝ }
     ensures { λ r. ⌜ Relaxing origin target x next (now (costs .entry)) (now (queue .entry)) (now (marks .entry))
         (now (costs .exit)) (now (queue .exit)) (now (marks .exit)) r ⌝ }

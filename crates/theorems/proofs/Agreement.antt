@@ -2,9 +2,11 @@
 -- the list holds that compiled job.
 -- Assumes nothing.
 use Prim.Native.Nat.{ℕ, _≤_}
-use mathlib.Core.Path.{_≡_, sym, subst}
+use mathlib.Core.Path.{_≡_, refl, sym, _∙_, ap, subst}
 use mathlib.Core.List.{List, []}
+use native.Mathlib.Omega.{arith}
 use lib.ListN.{length}
+use Rattle.laws.proofs.Tests.{never}
 use Rattle.job.specs.Job.{Job}
 use Rattle.semantics.specs.CompilingTable.{Step, end, stepsIn}
 use Rattle.semantics.specs.Agreement.{Agrees}
@@ -13,10 +15,13 @@ use Rattle.semantics.proofs.FlatLaws.{laid-back}
 use Rattle.domain.specs.Domain.{domainOf}
 use Rattle.compile.specs.Program.{programOf}
 use Rattle.compile.specs.CompiledJob.{stepsOf, stepCount}
-use Rattle.load.specs.Refusals.{listNeed}
-use Rattle.load.specs.View.{viewOf}
-use Rattle.jesmovit.specs.Compiling.{listAfter}
+use Rattle.load.specs.Refusals.{Checked, passed, listNeed, loading}
+use Rattle.load.specs.View.{View}
+use Rattle.jesmovit.specs.Compiling.{compiling, listIn, Compiles}
+use Rattle.jesmovit.specs.declared.compiling.CompileAnswer.{CompileAnswer}
+use Rattle.jesmovit.proofs.AnswerLaws.{view-of}
 use Rattle.theorems.specs.Accepted.{AcceptedJob}
+use Rattle.theorems.proofs.Acceptance.{accepted-iff}
 
 module _ (text : List ℕ) (j : Job) (accepted : AcceptedJob text j) where
   -- "a plan of the compiled job, bookkeeping dropped, is allowed by the program on the original
@@ -24,13 +29,20 @@ module _ (text : List ℕ) (j : Job) (accepted : AcceptedJob text j) where
   pub accepted-plans-agree : Agrees (domainOf j) (programOf j) (stepsOf j) (end (programOf j) 0)
   accepted-plans-agree = agreement (domainOf j) (programOf j)
 
-  -- a list that is long enough
-  module _ (list : List ℕ) (long : listNeed j ≤ length list) where
-    abbrev after : List ℕ
-    after = listAfter (viewOf (record { job = j; entries = [] })) list
+  -- a list that is long enough, and whatever answer and list meet the promise of compiling
+  module _ (list : List ℕ) (long : listNeed j ≤ length list) (answer : CompileAnswer) (after : List ℕ)
+      (promised : Compiles text list answer after) where
+    compiles : loading (compiling text (length list)) ≡ passed (record { job = j; entries = [] })
+    compiles = accepted-iff (compiling text (length list)) (record { job = j; entries = [] }) .1 (record {
+      texts = record { its-job = accepted; its-plan = λ f. never (cc); alone = λ f. refl };
+      list = long;
+      table = omega arith;
+    })
 
     pub list-holds : stepsIn (stepCount j) after ≡ stepsOf j
-    list-holds = laid-back (stepsOf j) list long
+    list-holds =
+        ap (stepsIn (stepCount j)) (promised .holds ∙ ap (λ (c : Checked View). listIn c list) (view-of (compiling text (length list)) compiles))
+        ∙ laid-back (stepsOf j) list long
 
     -- the same of the steps that it holds after compiling
     pub compiled-plans-agree : Agrees (domainOf j) (programOf j) (stepsIn (stepCount j) after) (end (programOf j) 0)

@@ -9,12 +9,12 @@ use lib.Seq.{sets, sets-eq, take-at}
 use Rattle.semantics.specs.CompilingTable.{Step, arc, flat, kindOf, argOf}
 use Rattle.semantics.proofs.FlatLaws.{flat-length}
 use Rattle.compile.specs.declared.sizes.Sizes.{Sizes}
-use Rattle.load.specs.Refusals.{passed, Offer, loading}
+use Rattle.load.specs.Refusals.{Checked, passed, next, Offer, loading}
 use Rattle.load.specs.View.{View, viewOf, viewSteps, positionsOf}
 use Rattle.load.proofs.LoadingLaws.{loading-iff}
-use Rattle.jesmovit.specs.Compiling.{compiling, listAfter, Compiles}
+use Rattle.jesmovit.specs.Compiling.{compiling, listAfter, listIn, viewSizes, Compiles}
 use Rattle.jesmovit.specs.declared.compiling.CompileAnswer.{CompileAnswer}
-use Rattle.jesmovit.proofs.AnswerLaws.{answered, view-of}
+use Rattle.jesmovit.proofs.AnswerLaws.{view-of}
 use Rattle.report.specs.Printout.{line, stepLine, stepLines, compiledLines, printout, compilePrintout}
 use Rattle.theorems.specs.Printed.{linesOf, compiledJobLines}
 
@@ -40,8 +40,8 @@ pub compile-prints : (text list : List ℕ) (answer : CompileAnswer) (after : Li
     → (o : Offer) → loading (compiling text (length list)) ≡ passed o → compilePrintout answer after ≡ compiledJobLines (viewOf o)
 compile-prints text list answer after x o e =
     let h = compiling text (length list) in
-    let a = answered x (view-of h e) in
-    ap (printout (λ (s : Sizes). compiledLines (s .positions) (s .steps) after)) (a .is)
-    ∙ ap (λ (s : Sizes). compiledLines (s .positions) (s .steps) after) (a .done .sized)
-    ∙ ap (compiledLines (positionsOf (viewOf o)) (length (viewSteps (viewOf o)))) (a .done .list)
+    let v = view-of h e in
+    ap (printout (λ (s : Sizes). compiledLines (s .positions) (s .steps) after))
+    (x .outcome ∙ ap (λ (c : Checked View). next c (λ w. passed (viewSizes w))) v)
+    ∙ ap (compiledLines (positionsOf (viewOf o)) (length (viewSteps (viewOf o)))) (x .holds ∙ ap (λ (c : Checked View). listIn c list) v)
     ∙ prints-each-step (viewOf o) list (loading-iff h o .0 e .1)

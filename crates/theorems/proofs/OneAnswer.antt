@@ -2,10 +2,11 @@
 -- counts by its view alone.
 -- Assumes nothing.
 use Prim.Native.Nat.{ℕ}
-use mathlib.Core.Path.{_≡_, refl, sym, _∙_, ap}
+use mathlib.Core.Path.{_≡_, refl, sym, _∙_, ap, subst}
 use mathlib.Core.Option.{Option, some}
 use mathlib.Core.List.{List}
 use Rattle.laws.proofs.Tests.{never}
+use Rattle.job.specs.declared.refusal.Refusal.{Refusal}
 use Rattle.semantics.specs.Verdict.{Verdict}
 use Rattle.semantics.specs.Judgement as J
 use Rattle.semantics.proofs.CostLaws.{least-unique}
@@ -14,12 +15,14 @@ use Rattle.semantics.proofs.FilledLaws.{filled-unique}
 use Rattle.semantics.proofs.JudgementLaws.{one-judgement}
 use Rattle.compile.specs.declared.sizes.Sizes.{Sizes}
 use Rattle.validate.proofs.VerdictLaws.{verdict-injective}
-use Rattle.load.specs.View.{View, viewSteps, finalOf, positionsOf}
+use Rattle.load.specs.Refusals.{Handed, Checked, refused}
+use Rattle.load.specs.View.{View, viewIn, viewSteps, finalOf, positionsOf}
 use Rattle.load.specs.declared.request.Sort.{Sort}
 use Rattle.load.specs.declared.request.Sort.the-variants.{Moves, Steps}
 use Rattle.jesmovit.specs.Outcomes.{readOutcome, compileOutcome, checkOutcome, leastOutcome, judgementOf, SizedJudgement, judgeOutcome}
+use Rattle.jesmovit.specs.Answers.{Answers}
 use Rattle.jesmovit.specs.JobText.{Reads}
-use Rattle.jesmovit.specs.Compiling.{CompileDone, Compiles}
+use Rattle.jesmovit.specs.Compiling.{Compiles}
 use Rattle.jesmovit.specs.Checking.{Says, CheckDone, Checks}
 use Rattle.jesmovit.specs.Judging.{Lent, TableOf, LeastIs, costs, no-plan, CostDone, CostsLeast, TableFor, JudgeDone, Judges}
 use Rattle.jesmovit.specs.declared.job_text.ReadAnswer as R
@@ -32,9 +35,6 @@ use Rattle.jesmovit.specs.declared.judging.JudgeAnswer as G
 use Rattle.jesmovit.proofs.AnswerLaws.{OneWay, one-outcome}
 
 -- what each operation does, it does in one way
-pub one-compiled : {old : List ℕ} → OneWay CompileDone old
-one-compiled v s t x y p q = (p .sized ∙ sym (q .sized), p .list ∙ sym (q .list))
-
 one-says : (sort : Sort) (v : View) {w u : Verdict} → Says sort v w → Says sort v u → w ≡ u
 one-says Moves v x y = one-move-verdict (v .domain) (v .program) (v .entries) _ _ x y
 one-says Steps v x y = one-step-verdict (v .domain) (viewSteps v) (finalOf v) (v .entries) _ _ x y
@@ -71,11 +71,14 @@ one-judged v g h x y p q =
     )
 
 -- one answer has an outcome
+refusal-same : {B : Type 0} (r q : Refusal) → _≡_ {A = Checked B} (refused (r .number) (r .place)) (refused (q .number) (q .place)) → r ≡ q
+refusal-same r q e = let f : r .number ≡ q .number = cc in let g : r .place ≡ q .place = cc in rw (f, g)
+
 read-injective : (a b : R.ReadAnswer) → readOutcome a ≡ readOutcome b → a ≡ b
 read-injective (R.the-variants.Read c) (R.the-variants.Read d) e = ap R.the-variants.Read (cc)
 read-injective (R.the-variants.Read c) (R.the-variants.Refused r) e = never (cc)
 read-injective (R.the-variants.Refused r) (R.the-variants.Read c) e = never (cc)
-read-injective (R.the-variants.Refused r) (R.the-variants.Refused q) e = let f : r .number ≡ q .number = cc in let g : r .place ≡ q .place = cc in rw (f, g)
+read-injective (R.the-variants.Refused r) (R.the-variants.Refused q) e = ap R.the-variants.Refused (refusal-same r q e)
 
 sizes-same : {A : Type 0} {p n q m : ℕ} → _≡_ {A = Sizes} (record { positions = p; steps = n }) (record { positions = q; steps = m })
     → (f : ℕ → ℕ → A) → f p n ≡ f q m
@@ -86,13 +89,13 @@ compile-injective (C.the-variants.Compiled p n) (C.the-variants.Compiled q m) e 
     let s : _≡_ {A = Sizes} (record { positions = p; steps = n }) (record { positions = q; steps = m }) = cc in sizes-same s C.the-variants.Compiled
 compile-injective (C.the-variants.Compiled p n) (C.the-variants.Refused r) e = never (cc)
 compile-injective (C.the-variants.Refused r) (C.the-variants.Compiled p n) e = never (cc)
-compile-injective (C.the-variants.Refused r) (C.the-variants.Refused q) e = let f : r .number ≡ q .number = cc in let g : r .place ≡ q .place = cc in rw (f, g)
+compile-injective (C.the-variants.Refused r) (C.the-variants.Refused q) e = ap C.the-variants.Refused (refusal-same r q e)
 
 check-injective : (a b : K.CheckAnswer) → checkOutcome a ≡ checkOutcome b → a ≡ b
 check-injective (K.the-variants.Said v) (K.the-variants.Said w) e = ap K.the-variants.Said (verdict-injective v w (cc))
 check-injective (K.the-variants.Said v) (K.the-variants.Refused r) e = never (cc)
 check-injective (K.the-variants.Refused r) (K.the-variants.Said v) e = never (cc)
-check-injective (K.the-variants.Refused r) (K.the-variants.Refused q) e = let f : r .number ≡ q .number = cc in let g : r .place ≡ q .place = cc in rw (f, g)
+check-injective (K.the-variants.Refused r) (K.the-variants.Refused q) e = ap K.the-variants.Refused (refusal-same r q e)
 
 least-injective : (a b : L.LeastAnswer) → leastOutcome a ≡ leastOutcome b → a ≡ b
 least-injective (L.the-variants.Costs c) (L.the-variants.Costs d) e = ap L.the-variants.Costs (cc)
@@ -103,7 +106,7 @@ least-injective L.the-variants.NoPlan L.the-variants.NoPlan e = refl
 least-injective L.the-variants.NoPlan (L.the-variants.Refused r) e = never (cc)
 least-injective (L.the-variants.Refused r) (L.the-variants.Costs d) e = never (cc)
 least-injective (L.the-variants.Refused r) L.the-variants.NoPlan e = never (cc)
-least-injective (L.the-variants.Refused r) (L.the-variants.Refused q) e = let f : r .number ≡ q .number = cc in let g : r .place ≡ q .place = cc in rw (f, g)
+least-injective (L.the-variants.Refused r) (L.the-variants.Refused q) e = ap L.the-variants.Refused (refusal-same r q e)
 
 judgement-injective : (g h : Judgement) → judgementOf g ≡ judgementOf h → g ≡ h
 judgement-injective (Least c) (Least d) e = let f : c ≡ d = cc in ap Least f
@@ -124,7 +127,12 @@ judge-injective (G.the-variants.Judged p n g) (G.the-variants.Judged q m h) e =
     rw f (sizes-same (ap (λ (x : SizedJudgement). x .sizes) j) (λ x y. G.the-variants.Judged x y h))
 judge-injective (G.the-variants.Judged p n g) (G.the-variants.Refused r) e = never (cc)
 judge-injective (G.the-variants.Refused r) (G.the-variants.Judged p n g) e = never (cc)
-judge-injective (G.the-variants.Refused r) (G.the-variants.Refused q) e = let f : r .number ≡ q .number = cc in let g : r .place ≡ q .place = cc in rw (f, g)
+judge-injective (G.the-variants.Refused r) (G.the-variants.Refused q) e = ap G.the-variants.Refused (refusal-same r q e)
+
+-- only the view counts: calls that are handed other things, with the same view, have the same outcome
+pub same-view : {B C : Type 0} {Does : View → B → C → C → Type 0} {old : C} → OneWay Does old → (h k : Handed) → viewIn h ≡ viewIn k
+    → {d e : Checked B} {x y : C} → Answers Does old (viewIn h) d x → Answers Does old (viewIn k) e y → (d ≡ e) × (x ≡ y)
+same-view {Does = Does} {old} one h k same {d} {x = x} p q = one-outcome one (subst (λ (c : Checked View). Answers Does old c d x) same p) q
 
 -- of reading
 pub one-read-answer : (text : List ℕ) (a b : R.ReadAnswer) → Reads text a → Reads text b → a ≡ b
@@ -132,7 +140,7 @@ one-read-answer text a b x y = read-injective a b (x ∙ sym y)
 
 -- of compiling
 pub one-compile-answer : (text list : List ℕ) (a b : C.CompileAnswer) (l m : List ℕ) → Compiles text list a l → Compiles text list b m → (a ≡ b) × (l ≡ m)
-one-compile-answer text list a b l m x y = let z = one-outcome one-compiled x y in (compile-injective a b (z .0), z .1)
+one-compile-answer text list a b l m x y = (compile-injective a b (x .outcome ∙ sym (y .outcome)), x .holds ∙ sym (y .holds))
 
 -- of a check
 pub one-answer : (sort : Sort) (text plan list : List ℕ) (a b : K.CheckAnswer) (l m : List ℕ)

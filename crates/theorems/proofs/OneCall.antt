@@ -13,32 +13,34 @@ use Rattle.jesmovit.specs.Compiling.{Compiles}
 use Rattle.jesmovit.specs.Checking.{Checks}
 use Rattle.jesmovit.specs.Judging.{Lent, CostsLeast, Judges}
 use Rattle.jesmovit.proofs.AnswerLaws.{OneWay, one-outcome}
-use Rattle.jesmovit.specs.Outcomes.{compileOutcome, checkOutcome, leastOutcome, judgeOutcome}
-use Rattle.capi.specs.Numbers.{numbersOf, readNumbers, compileNumbers, checkNumbers, leastNumbers, judgeNumbers}
+use Rattle.jesmovit.specs.Outcomes.{checkOutcome, leastOutcome, judgeOutcome}
+use Rattle.capi.specs.Numbers.{outcomeNumbers, readNumbers, compileNumbers, checkNumbers, leastNumbers, judgeNumbers}
 use Rattle.capi.specs.Numbers.{countNumbers, sizeNumbers, verdictCode, codeNumbers, costNumbers, judgedNumbers, judgementCode}
 use Rattle.capi.specs.Calls.{Gives}
 use Rattle.capi.specs.declared.numbers.Numbers.{Numbers}
 use Rattle.capi.proofs.GivesLaws.{gives-once}
-use Rattle.theorems.proofs.OneAnswer.{one-compiled, one-checked, one-costed, one-judged}
+use Rattle.theorems.proofs.OneAnswer.{one-checked, one-costed, one-judged}
 
 -- of every operation that takes texts: its outcome is one, and so is what is lent
 one-call : {A B C : Type 0} {Does : View → B → C → C → Type 0} {old x y : C} {c : Checked View} (outcome : A → Checked B) (say : B → Numbers)
     → OneWay Does old → {n m : ℕ} {v w : List ℕ}
-    → Gives (λ a. numbersOf say (outcome a)) (λ a. Answers Does old c (outcome a) x) n v
-    → Gives (λ a. numbersOf say (outcome a)) (λ a. Answers Does old c (outcome a) y) m w → (n ≡ m) × (v ≡ w) × (x ≡ y)
+    → Gives (λ a. outcomeNumbers say (outcome a)) (λ a. Answers Does old c (outcome a) x) n v
+    → Gives (λ a. outcomeNumbers say (outcome a)) (λ a. Answers Does old c (outcome a) y) m w → (n ≡ m) × (v ≡ w) × (x ≡ y)
 one-call outcome say one g h =
-    let e = gives-once (λ a b p q. ap (numbersOf say) (one-outcome one p q .0)) g h in
+    let e = gives-once (λ a b p q. ap (outcomeNumbers say) (one-outcome one p q .0)) g h in
     (e .0, e .1, one-outcome one (g .holds) (h .holds) .1)
 
 -- of reading
 pub one-read-call : (text : List ℕ) (n m : ℕ) (v w : List ℕ) → Gives readNumbers (λ a. Reads text a) n v → Gives readNumbers (λ a. Reads text a) m w
     → (n ≡ m) × (v ≡ w)
-one-read-call text n m v w g h = gives-once (λ a b x y. ap (numbersOf countNumbers) (x ∙ sym y)) g h
+one-read-call text n m v w g h = gives-once (λ a b x y. ap (outcomeNumbers countNumbers) (x ∙ sym y)) g h
 
 -- of compiling
 pub one-compile-call : (text list : List ℕ) (n m : ℕ) (v w l k : List ℕ) → Gives compileNumbers (λ a. Compiles text list a l) n v
     → Gives compileNumbers (λ a. Compiles text list a k) m w → (n ≡ m) × (v ≡ w) × (l ≡ k)
-one-compile-call text list n m v w l k g h = one-call compileOutcome sizeNumbers one-compiled g h
+one-compile-call text list n m v w l k g h =
+    let e = gives-once (λ a b x y. ap (outcomeNumbers sizeNumbers) (x .outcome ∙ sym (y .outcome))) g h in
+    (e .0, e .1, g .holds .holds ∙ sym (h .holds .holds))
 
 -- of a check
 pub one-check-call : (sort : Sort) (text plan list : List ℕ) (n m : ℕ) (v w l k : List ℕ) → Gives checkNumbers (λ a. Checks sort text plan list a l) n v

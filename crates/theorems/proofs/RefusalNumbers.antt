@@ -112,11 +112,11 @@ module _ (h : Handed) where
       (next-refuses P (textsIn h) _ x (λ o. length-refuses P o (listNeed (o .job)) (h .request .places) six))
       (λ o. length-refuses P o (tableNeed (h .request) (o .job)) (h .request .cells) six)
 
-  texts-number : RefusedBy (UpTo 6) (textsIn h)
+  -- of the texts alone
+  pub texts-number : (number place : ℕ) → textsIn h ≡ refused number place → UpTo 5 number
   unfolding textsIn
   texts-number =
-      next-refuses (UpTo 6) (jobIn (h .job)) _ (λ a b e. let x = job-number (h .job) a b e in (x .0, omega (arith, x .1)))
-      (λ j a b e. let x = plan-refuses j a b e in (x .0, omega (arith, x .1)))
+      next-refuses (UpTo 5) (jobIn (h .job)) _ (λ a b e. let x = job-number (h .job) a b e in (x .0, omega (arith, x .1))) plan-refuses
 
   job-text-number : h .request .plan ≡ false → RefusedBy WithoutPlan (textsIn h)
   unfolding textsIn
@@ -124,7 +124,8 @@ module _ (h : Handed) where
 
   -- of every operation that takes texts
   pub load-number : (number place : ℕ) → loading h ≡ refused number place → UpTo 6 number
-  load-number = lengths-refuse (UpTo 6) (omega arith, omega arith) texts-number
+  load-number =
+      lengths-refuse (UpTo 6) (omega arith, omega arith) (λ a b e. let x = texts-number a b e in (x .0, omega (arith, x .1)))
 
   -- and where it takes no plan text
   pub job-load-number : h .request .plan ≡ false → (number place : ℕ) → loading h ≡ refused number place → WithoutPlan number

@@ -17,7 +17,7 @@ use Rattle.text.proofs.WrittenLaws.{Small}
 use Rattle.text.specs.Lines.{lines}
 use Rattle.text.proofs.LineText.{line-complete, plain, endsOnce, line-of, line-ends}
 use Rattle.job.specs.Job as J
-use Rattle.job.specs.Job.{countsOf, made}
+use Rattle.job.specs.Job.{countsOf, jobWith}
 use Rattle.job.specs.Line.{formOf, lineNumbers}
 use Rattle.job.specs.Fields.{bound, within, Within, formulaFields, rowFields}
 use Rattle.job.specs.Fault.{rangeOf, criteria, reasonOf, fault}
@@ -94,8 +94,7 @@ row-line k next due effects d e n j a ns rest g w t x y f h =
     ∙ ap (λ (i : ℕ). readFrom (n + 1) (on (afterRow k d i) d i (jobAfter k j (a ∷ ns))) rest) h
 
 -- rows of one sort, one after the other: `mk l` is the job with the rows l, `st m` the reading with
--- m
--- more of them due, and P i what the line of row i wants
+-- m more of them due, and P i what the line of row i wants
 module _ {A : Type 0} (d : A) (mk : List A → J.Job) (P : ℕ → A → Type 0) (st : ℕ → J.Job → Reading) (ln : A → List ℕ)
     (step : (m n : ℕ) (done : List A) (a : A) (rest : List (List ℕ)) → P (length done) a
     → readFrom n (st (suc m) (mk done)) (ln a ∷ rest) ≡ readFrom (n + 1) (st m (mk (done ++ (a ∷ [])))) rest) where
@@ -185,8 +184,8 @@ module _ (sc : J.Scalars) (fs : List J.Formula) (few : length fs ≤ mostFormula
 
   moves-read : (ms : List J.Move) (es : List J.Effect) (ms₀ : List J.Move) (es₀ : List J.Effect) (n : ℕ) (tail : List (List ℕ))
       → Tiled (length es₀) ms (length es₀ + length es) → All (MoveFits (length fs)) ms → All P es
-      → readFrom n (on (afterRow Effect (length ms) 0) (length ms) 0 (made sc fs ms₀ es₀ [])) (moveLines ms es ++ tail)
-      ≡ readFrom (n + length (moveLines ms es)) (on (One Goal) 0 0 (made sc fs (ms₀ ++ ms) (es₀ ++ es) [])) tail
+      → readFrom n (on (afterRow Effect (length ms) 0) (length ms) 0 (jobWith sc fs ms₀ es₀ [])) (moveLines ms es ++ tail)
+      ≡ readFrom (n + length (moveLines ms es)) (on (One Goal) 0 0 (jobWith sc fs (ms₀ ++ ms) (es₀ ++ es) [])) tail
   unfolding moveLines
   moves-read [] [] ms₀ es₀ n tail t f g = let e : n + 0 ≡ n = omega arith in rw (append-nil ms₀, append-nil es₀, e)
   moves-read [] (x ∷ es) ms₀ es₀ n tail t f g = absurd (omega (arith, t))
@@ -196,7 +195,7 @@ module _ (sc : J.Scalars) (fs : List J.Formula) (few : length fs ≤ mostFormula
       let a : List J.Effect = take (m .effects) es in
       let b : List J.Effect = drop (m .effects) es in
       let la : length (take (m .effects) es) ≡ m .effects = length-take-le (m .effects) es (omega (arith, own, t .0)) in
-      let mk : List J.Effect → J.Job = λ l. made sc fs (ms₀ ++ (m ∷ [])) l [] in
+      let mk : List J.Effect → J.Job = λ l. jobWith sc fs (ms₀ ++ (m ∷ [])) l [] in
       let rest : List (List ℕ) = moveLines ms b ++ tail in
       let e₂ : length (es₀ ++ a) + length b ≡ length es₀ + length es =
       omega (arith, length-append es₀ a, la, length-drop (m .effects) es, own, t .0) in
@@ -204,7 +203,7 @@ module _ (sc : J.Scalars) (fs : List J.Formula) (few : length fs ≤ mostFormula
       let e₃ : n + 1 + length a + length (moveLines ms b) ≡ n + suc (length (map effectLine a ++ moveLines ms b)) =
       omega (arith, length-append (map effectLine a) (moveLines ms b), length-map a effectLine) in
       rw (ne-eqb (suc (length ms)) 0 (λ z. omega arith), append-assoc (map effectLine a) (moveLines ms b) tail)
-      (move-step (length ms) n (made sc fs ms₀ es₀ []) m (map effectLine a ++ rest) few (f .0) (t .0)
+      (move-step (length ms) n (jobWith sc fs ms₀ es₀ []) m (map effectLine a ++ rest) few (f .0) (t .0)
       ∙ ap (λ k. readFrom (n + 1) (on (afterRow Effect (length ms) k) (length ms) k (mk es₀)) (map effectLine a ++ rest)) (sym la)
       ∙ rows-read (J.effectOf []) mk (λ i x. P x) (λ k j. on (afterRow Effect (length ms) k) (length ms) k j) effectLine
       (λ k i done. effect-step (length ms) k i (mk done)) a es₀ (n + 1) rest (all-at (J.effectOf []) P a (all-take P (m .effects) es g))
@@ -258,21 +257,21 @@ module _ (j : J.Job) (w : WellFormed j) where
       → readFrom n begun
       (lineOf (One Job) (1 ∷ []) ∷ lineOf (One Facts) (facts ∷ []) ∷ lineOf (One Init) (j .scalars .init ∷ []) ∷ lineOf (One Formulas)
       (length (j .formulas) ∷ []) ∷ tail)
-      ≡ readFrom (n + 1 + 1 + 1 + 1) (on (afterRow Formula (length (j .formulas)) 0) (length (j .formulas)) 0 (made sc [] [] [] [])) tail
+      ≡ readFrom (n + 1 + 1 + 1 + 1) (on (afterRow Formula (length (j .formulas)) 0) (length (j .formulas)) 0 (jobWith sc [] [] [] [])) tail
   head-read n tail =
       one-line Job 0 (begun .job) n 1 _ (omega arith) (omega arith) (omega arith)
       ∙ one-line Facts 1 (begun .job) (n + 1) facts _ (omega (arith, w .facts)) (omega arith) (omega (arith, w .facts))
-      ∙ one-line Init facts (made (record { facts = facts; init = 0; goal = 0 }) [] [] [] []) (n + 1 + 1) (j .scalars .init) _ init-small (omega arith)
+      ∙ one-line Init facts (jobWith (record { facts = facts; init = 0; goal = 0 }) [] [] [] []) (n + 1 + 1) (j .scalars .init) _ init-small (omega arith)
       (w .init)
-      ∙ one-line Formulas (j .scalars .init) (made sc [] [] [] []) (n + 1 + 1 + 1) (length (j .formulas)) tail
+      ∙ one-line Formulas (j .scalars .init) (jobWith sc [] [] [] []) (n + 1 + 1 + 1) (length (j .formulas)) tail
       (omega (arith, w .formulas)) (omega (arith, w .goal)) (omega (arith, w .formulas))
 
-  program-read : (n : ℕ) → readFrom n (on (One Goal) 0 0 (made sc (j .formulas) (j .moves) (j .effects) [])) (programLines j) ≡ read
+  program-read : (n : ℕ) → readFrom n (on (One Goal) 0 0 (jobWith sc (j .formulas) (j .moves) (j .effects) [])) (programLines j) ≡ read
       (n + 1 + 1 + length (j .program)) j
   program-read n =
-      let mk : List J.Row → J.Job = λ l. made (j .scalars) (j .formulas) (j .moves) (j .effects) l in
+      let mk : List J.Row → J.Job = λ l. jobWith (j .scalars) (j .formulas) (j .moves) (j .effects) l in
       let st : ℕ → J.Job → Reading = λ k q. on (afterRow Row k 0) k 0 q in
-      one-line Goal 0 (made sc (j .formulas) (j .moves) (j .effects) []) n (j .scalars .goal)
+      one-line Goal 0 (jobWith sc (j .formulas) (j .moves) (j .effects) []) n (j .scalars .goal)
       (lineOf (One Program) (length (j .program) ∷ []) ∷ map rowLine (j .program))
       (omega (arith, w .goal, w .formulas)) (omega arith) (w .goal)
       ∙ one-line Program (j .scalars .goal) (mk []) (n + 1) (length (j .program)) (map rowLine (j .program)) (omega (arith, w .program)) (w .last)
@@ -288,7 +287,7 @@ module _ (j : J.Job) (w : WellFormed j) where
       let es : List J.Effect = j .effects in
       let after : List (List ℕ) = lineOf (One Moves) (length ms ∷ []) ∷ (moveLines ms es ++ programLines j) in
       let n : ℕ = 4 + length fs in
-      let mk : List J.Formula → J.Job = λ l. made sc l [] [] [] in
+      let mk : List J.Formula → J.Job = λ l. jobWith sc l [] [] [] in
       let z : 0 + length es ≡ length es = omega arith in
       let e : 4 + length fs + 1 + length (moveLines ms es) + 1 + 1 + length (j .program) ≡ length (jobLines j) =
       omega (
@@ -302,7 +301,7 @@ module _ (j : J.Job) (w : WellFormed j) where
       head-read 0 (map formulaLine fs ++ after)
       ∙ rows-read (J.formulaOf []) mk FormulaAt (λ k q. on (afterRow Formula k 0) k 0 q) formulaLine (λ k i done. formula-step k i (mk done))
       fs [] 4 after formula-texts
-      ∙ one-line Moves 0 (made sc fs [] [] []) n (length ms) (moveLines ms es ++ programLines j) (omega (arith, w .moves)) (omega arith)
+      ∙ one-line Moves 0 (jobWith sc fs [] [] []) n (length ms) (moveLines ms es ++ programLines j) (omega (arith, w .moves)) (omega arith)
       (omega (arith, w .moves))
       ∙ moves-read sc fs (w .formulas) ms es [] [] (n + 1) (programLines j) (rw z (w .tiled)) move-texts effect-texts
       ∙ program-read (n + 1 + length (moveLines ms es))

@@ -35,8 +35,10 @@ programLines j = lineOf (One Goal) (j .scalars .goal ∷ []) ∷ lineOf (One Pro
 
 abbrev pub jobLines : J.Job → List (List ℕ)
 jobLines j =
-    lineOf (One Job) (1 ∷ []) ∷ lineOf (One Facts) (j .scalars .facts ∷ []) ∷ lineOf (One Init) (j .scalars .init ∷ []) ∷ lineOf (One Formulas)
-    (length (j .formulas) ∷ [])
+    lineOf (One Job) (1 ∷ [])
+    ∷ lineOf (One Facts) (j .scalars .facts ∷ [])
+    ∷ lineOf (One Init) (j .scalars .init ∷ [])
+    ∷ lineOf (One Formulas) (length (j .formulas) ∷ [])
     ∷ (map formulaLine (j .formulas)
     ++ (lineOf (One Moves) (length (j .moves) ∷ []) ∷ (moveLines (j .moves) (j .effects) ++ programLines j)))
 

@@ -1,4 +1,4 @@
--- The paper's verdict and its values for each case of the answer.
+-- Document 01's verdict and its values for each case of the answer.
 use Rattle.semantics.specs.Verdict as S
 use Rattle.semantics.specs.Verdict.{plan, blocked, unfinished, missed}
 use Rattle.validate.specs.declared.verdict.Verdict.{Verdict}

@@ -1,6 +1,6 @@
 use Rattle.laws.proofs.Tests.{never}
-use Rattle.jesmovit.proofs.AnswerLaws.{answer-done}
-use Rattle.jesmovit.proofs.LoadedLaws.{load-refused, load-passed, load-sized, load-listed, sizes-of}
+use Rattle.jesmovit.proofs.CompileLaws.{compile-refused, compile-done}
+use Rattle.jesmovit.proofs.LoadedLaws.{load-refusal, load-passed, load-sized, load-listed, sizes-of}
 use borrow.Author.Needs.{needs}
 use Rattle.jesmovit.proofs.compiling.compile.Statement.{statement}
 use Rattle.jesmovit.proofs.compiling.compile.Tie as tie
@@ -9,9 +9,7 @@ load-requires : tie.Need-load-requires
 load-requires c κs = (search needs, λ e. never (cc))
 
 returns : tie.Need-returns
-returns c =
-    let at5 = c .before .before .before .before .before in
-    load-refused (at5 .load .ensures) (c .before .enum-told .given .1) (c .refusal .ensures)
+returns c = compile-refused _ _ (load-refusal (c .before .before .before .before .before .load .ensures) (c .before .enum-told .given .1) (c .refusal .ensures))
 
 compile-requires : tie.Need-compile-requires
 compile-requires c κs =
@@ -21,10 +19,11 @@ compile-requires c κs =
 
 returns-2 : tie.Need-returns-2
 returns-2 c =
-    let at7 = c .before .before .before .before .before .before .before in
-    let at11 = at7 .before .before .before .before in
-    answer-done _ (load-passed (at11 .load .ensures) (at7 .loaded .given .1))
-    (record { sized = sizes-of (load-sized (at11 .load .ensures) (at7 .loaded .given .1)); list = c .before .before .compile .ensures })
+    compile-done _ _ (load-passed (c .before .before .before .before .before .before .before .before .before .before .before .load .ensures)
+    (c .before .before .before .before .before .before .before .loaded .given .1))
+    (sizes-of (load-sized (c .before .before .before .before .before .before .before .before .before .before .before .load .ensures)
+    (c .before .before .before .before .before .before .before .loaded .given .1)))
+    (c .before .before .compile .ensures)
 
 pub compile-spec : {M : Type 1} → statement M
 compile-spec =

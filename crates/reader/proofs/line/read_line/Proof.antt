@@ -1,52 +1,39 @@
-use Prim.Native.Nat.{ℕ, _-_}
 use mathlib.Core.Path.{_≡_, refl, sym, _∙_, ap}
-use mathlib.Core.List.{[], _∷_}
 use native.Mathlib.Omega.{arith}
-use lib.ListN.{length, take}
+use Prim.Native.Nat.{_≤_}
+use mathlib.Core.List.{[], _∷_}
+use lib.ListN.{length}
 use lib.Seq.{take-at}
 use borrow.Rule.Slice.PartMut.{mid-len}
-use Rattle.text.specs.Lines.{valueOf}
 use Rattle.text.specs.Numbers.{numbers}
 use Rattle.job.specs.Line.{formOf, lineNumbers}
-use Rattle.reader.proofs.LineLaws.{numbers-answered}
+use Rattle.job.specs.Store.{width}
+use Rattle.reader.proofs.LineLaws.{width-within, numbers-answered}
 use borrow.Author.Needs.{needs}
 use Rattle.reader.proofs.line.read_line.Statement.{statement}
 use Rattle.reader.proofs.line.read_line.Tie as tie
 
-part-value-end : tie.Need-part-value-end
-part-value-end c =
-    let f = c .before .before .line-form in
-    let l : length (f .result .key) ≡ 8 = search needs in
-    omega (arith, l, f .ensures .short)
-
 part-n-end : tie.Need-part-n-end
-part-n-end c = omega (arith, c .before .before .before .before .line-form .ensures .narrow)
+part-n-end c = let h : c .before .width .result ≤ width = omega (arith, c .before .width .ensures, width-within (c .before .before .before .args .next)) in h
 
 returns : tie.Need-returns
 unfolding lineNumbers
 returns c =
-    let at3 = c .before .before .before in
-    let at7 = at3 .before .before .before .before in
-    let a = at7 .before .before .args in
-    let f = at7 .line-form in
-    let w = formOf (a .next) .width in
+    let next = c .before .before .before .before .before .before .args .next in
+    let e = c .before .before .before .before .width .ensures in
+    let w = c .before .before .before .before .width .result in
+    let h : w ≤ width = omega (arith, e, width-within next) in
     let r = c .before .read-numbers in
-    let k : length (r .last .1 .0) ≡ w =
-    r .kept .1 .0 ∙ mid-len 0 (f .result .width) (0 ∷ 0 ∷ 0 ∷ 0 ∷ 0 ∷ 0 ∷ 0 ∷ 0 ∷ []) (f .ensures .narrow) ∙ omega (arith, f .ensures .wide) in
-    let z : f .result .length - 0 ≡ f .result .length = omega arith in
-    let key = ap (λ (i : ℕ). take i (f .result .key)) z ∙ f .ensures .front in
-    numbers-answered (a .next) _ (r .last .1 .0) (r .result) refl (take-at _ _ w k)
-    ∙ r .ensures ∙ ap (λ n. numbers n (at3 .value .result .now)) (sym (r .kept .1 .0) ∙ k)
-    ∙ ap (numbers w) (at3 .value .ensures ∙ ap (λ q. valueOf q (a .line .now)) key)
+    let v = c .before .before .before .value in
+    let k : length (r .last .1 .0) ≡ formOf next .width = r .kept .1 .0 ∙ mid-len 0 w (0 ∷ 0 ∷ 0 ∷ 0 ∷ 0 ∷ 0 ∷ 0 ∷ 0 ∷ []) h ∙ omega (arith, e) in
+    numbers-answered next _ (r .last .1 .0) (r .result) refl (take-at _ _ (formOf next .width) k)
+    ∙ r .ensures ∙ ap (λ n. numbers n (v .result .now)) (sym (r .kept .1 .0) ∙ k) ∙ ap (numbers (formOf next .width)) (v .ensures)
 
 pub read-line-spec : {M : Type 1} → statement M
 read-line-spec =
     tie.close
     (tie.spec
     (λ c κs. search needs)
-    (λ c. search needs)
-    (λ c. search needs)
-    part-value-end
     (λ c κs. search needs)
     (λ c. search needs)
     (λ c. search needs)
