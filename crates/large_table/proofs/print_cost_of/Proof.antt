@@ -13,6 +13,4 @@ pub print-cost-of-spec : {M : Type 1} → statement M
 print-cost-of-spec =
     tie.close
     (tie.spec
-    slice-aggregate-print-cost
-    (λ c κs. search needs)
-    (λ c. search needs))
+    slice-aggregate-print-cost (λ c κs. search needs) (λ c. search needs))

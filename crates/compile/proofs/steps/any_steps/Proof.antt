@@ -44,14 +44,5 @@ pub any-steps-spec : {M : Type 1} → statement M
 any-steps-spec =
     tie.close
     (tie.spec
-    Inv-loop
-    μ-loop
-    loop-holds
-    (λ c. search needs)
-    put-step-requires
-    (λ c. search needs)
-    (λ c. search needs)
-    loop-again
-    (λ c. search needs)
-    (λ c. search needs)
-    returns)
+    Inv-loop μ-loop loop-holds (λ c. search needs) put-step-requires (λ c. search needs) (λ c. search needs) loop-again (λ c. search needs)
+    (λ c. search needs) returns)

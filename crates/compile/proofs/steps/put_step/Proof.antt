@@ -22,17 +22,5 @@ pub put-step-spec : {M : Type 1} → statement M
 put-step-spec =
     tie.close
     (tie.spec
-    (λ c. search needs)
-    (λ c. search needs)
-    (λ c. search needs)
-    (λ c. search needs)
-    slice-write-list-2
-    (λ c. search needs)
-    (λ c. search needs)
-    slice-write-list-3
-    (λ c. search needs)
-    (λ c. search needs)
-    slice-write-list-4
-    (λ c. search needs)
-    (λ c. search needs)
-    returns)
+    (λ c. search needs) (λ c. search needs) (λ c. search needs) (λ c. search needs) slice-write-list-2 (λ c. search needs) (λ c. search needs)
+    slice-write-list-3 (λ c. search needs) (λ c. search needs) slice-write-list-4 (λ c. search needs) (λ c. search needs) returns)

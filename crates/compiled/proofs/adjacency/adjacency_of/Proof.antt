@@ -50,20 +50,5 @@ pub adjacency-of-spec : {M : Type 1} → statement M
 adjacency-of-spec =
     tie.close
     (tie.spec
-    Inv-loop
-    μ-loop
-    loop-holds
-    (λ c κs. search needs)
-    cast-from
-    mul-adjacency
-    array-read-adjacency
-    (λ c. search needs)
-    (λ c. search needs)
-    (λ c. search needs)
-    (λ c. search needs)
-    (λ c. search needs)
-    mul-adjacency-3
-    array-write-adjacency-2
-    (λ c. search needs)
-    loop-again
-    returns)
+    Inv-loop μ-loop loop-holds (λ c κs. search needs) cast-from mul-adjacency array-read-adjacency (λ c. search needs) (λ c. search needs)
+    (λ c. search needs) (λ c. search needs) (λ c. search needs) mul-adjacency-3 array-write-adjacency-2 (λ c. search needs) loop-again returns)

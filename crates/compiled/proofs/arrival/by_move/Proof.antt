@@ -40,13 +40,5 @@ pub by-move-spec : {M : Type 1} → statement M
 by-move-spec =
     tie.close
     (tie.spec
-    move-count-requires
-    returns
-    successor-requires
-    (λ c. search needs)
-    (λ c. search needs)
-    (λ c. search needs)
-    returns-2
-    cost-requires
-    (λ c. search needs)
-    returns-3)
+    move-count-requires returns successor-requires (λ c. search needs) (λ c. search needs) (λ c. search needs) returns-2 cost-requires
+    (λ c. search needs) returns-3)

@@ -50,14 +50,5 @@ pub successor-spec : {M : Type 1} → statement M
 successor-spec =
     tie.close
     (tie.spec
-    (λ c. search needs)
-    slice-read-x
-    (λ c. search needs)
-    returns
-    returns-2
-    successor-requires
-    note-requires
-    (λ c. search needs)
-    slice-write-cache
-    (λ c. search needs)
-    returns-3)
+    (λ c. search needs) slice-read-x (λ c. search needs) returns returns-2 successor-requires note-requires (λ c. search needs) slice-write-cache
+    (λ c. search needs) returns-3)

@@ -40,10 +40,4 @@ pub apply-effect-spec : {M : Type 1} → statement M
 apply-effect-spec =
     tie.close
     (tie.spec
-    (λ c κs. search needs)
-    (λ c κs. search needs)
-    (λ c κs. search needs)
-    (λ c κs. search needs)
-    mul-times
-    put-fact-requires
-    returns)
+    (λ c κs. search needs) (λ c κs. search needs) (λ c κs. search needs) (λ c κs. search needs) mul-times put-fact-requires returns)

@@ -52,12 +52,4 @@ pub apply-effects-spec : {M : Type 1} → statement M
 apply-effects-spec =
     tie.close
     (tie.spec
-    Inv-loop
-    μ-loop
-    loop-holds
-    add-apply-effect
-    apply-effect-requires
-    (λ c. search needs)
-    (λ c. search needs)
-    loop-again
-    returns)
+    Inv-loop μ-loop loop-holds add-apply-effect apply-effect-requires (λ c. search needs) (λ c. search needs) loop-again returns)

@@ -52,13 +52,4 @@ pub put-fact-spec : {M : Type 1} → statement M
 put-fact-spec =
     tie.close
     (tie.spec
-    (λ c κs. search needs)
-    mul-p
-    (λ c. search needs)
-    mul-result
-    sub-result
-    returns
-    (λ c. search needs)
-    mul-result-2
-    add-result
-    returns-2)
+    (λ c κs. search needs) mul-p (λ c. search needs) mul-result sub-result returns (λ c. search needs) mul-result-2 add-result returns-2)

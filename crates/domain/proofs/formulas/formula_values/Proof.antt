@@ -54,15 +54,5 @@ pub formula-values-spec : {M : Type 1} → statement M
 formula-values-spec =
     tie.close
     (tie.spec
-    Inv-loop
-    μ-loop
-    loop-holds
-    (λ c κs. search needs)
-    (λ c. search needs)
-    value-requires
-    (λ c. search needs)
-    array-write-values
-    (λ c. search needs)
-    (λ c. search needs)
-    loop-again
-    returns)
+    Inv-loop μ-loop loop-holds (λ c κs. search needs) (λ c. search needs) value-requires (λ c. search needs) array-write-values (λ c. search needs)
+    (λ c. search needs) loop-again returns)

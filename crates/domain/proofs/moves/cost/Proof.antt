@@ -34,8 +34,4 @@ pub cost-spec : {M : Type 1} → statement M
 cost-spec =
     tie.close
     (tie.spec
-    move-at-requires
-    (λ c. search needs)
-    (λ c. search needs)
-    array-read-result
-    returns)
+    move-at-requires (λ c. search needs) (λ c. search needs) array-read-result returns)

@@ -56,9 +56,4 @@ pub successor-spec : {M : Type 1} → statement M
 successor-spec =
     tie.close
     (tie.spec
-    move-at-requires
-    (λ c κs. search needs)
-    apply-effects-requires
-    apply-effects-requires-2
-    returns
-    returns-2)
+    move-at-requires (λ c κs. search needs) apply-effects-requires apply-effects-requires-2 returns returns-2)

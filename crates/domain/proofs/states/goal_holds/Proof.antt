@@ -10,5 +10,4 @@ pub goal-holds-spec : {M : Type 1} → statement M
 goal-holds-spec =
     tie.close
     (tie.spec
-    (λ c κs. search needs)
-    returns)
+    (λ c κs. search needs) returns)

@@ -55,23 +55,6 @@ pub check-spec : {M : Type 1} → statement M
 check-spec =
     tie.close
     (tie.spec
-    (λ c. search needs)
-    (λ c. search needs)
-    (λ c κs. search needs)
-    (λ c. search needs)
-    (λ c. search needs)
-    (λ c κs. search needs)
-    returns
-    (λ c κs. search needs)
-    (λ c. search needs)
-    compile-requires
-    (λ c. search needs)
-    (λ c. search needs)
-    (λ c. search needs)
-    part-verdict-end
-    (λ c. search needs)
-    (λ c. search needs)
-    part-verdict-end-2
-    verdict-requires
-    (λ c. search needs)
-    returns-2)
+    (λ c. search needs) (λ c. search needs) (λ c κs. search needs) (λ c. search needs) (λ c. search needs) (λ c κs. search needs) returns
+    (λ c κs. search needs) (λ c. search needs) compile-requires (λ c. search needs) (λ c. search needs) (λ c. search needs) part-verdict-end
+    (λ c. search needs) (λ c. search needs) part-verdict-end-2 verdict-requires (λ c. search needs) returns-2)

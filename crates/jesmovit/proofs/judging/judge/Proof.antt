@@ -63,24 +63,6 @@ pub judge-spec : {M : Type 1} → statement M
 judge-spec =
     tie.close
     (tie.spec
-    (λ c. search needs)
-    (λ c. search needs)
-    (λ c κs. search needs)
-    (λ c. search needs)
-    (λ c. search needs)
-    (λ c κs. search needs)
-    returns
-    (λ c κs. search needs)
-    (λ c. search needs)
-    compile-requires
-    (λ c. search needs)
-    (λ c. search needs)
-    (λ c. search needs)
-    part-judge-entries-end
-    (λ c. search needs)
-    (λ c. search needs)
-    part-judge-entries-end-2
-    judge-entries-requires
-    (λ c. search needs)
-    (λ c. search needs)
-    returns-2)
+    (λ c. search needs) (λ c. search needs) (λ c κs. search needs) (λ c. search needs) (λ c. search needs) (λ c κs. search needs) returns
+    (λ c κs. search needs) (λ c. search needs) compile-requires (λ c. search needs) (λ c. search needs) (λ c. search needs) part-judge-entries-end
+    (λ c. search needs) (λ c. search needs) part-judge-entries-end-2 judge-entries-requires (λ c. search needs) (λ c. search needs) returns-2)

@@ -16,9 +16,4 @@ pub effect-right-spec : {M : Type 1} → statement M
 effect-right-spec =
     tie.close
     (tie.spec
-    (λ c. search needs)
-    (λ c. search needs)
-    (λ c. search needs)
-    returns
-    returns-2
-    returns-3)
+    (λ c. search needs) (λ c. search needs) (λ c. search needs) returns returns-2 returns-3)

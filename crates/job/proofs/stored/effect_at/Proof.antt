@@ -21,9 +21,4 @@ pub effect-at-spec : {M : Type 1} → statement M
 effect-at-spec =
     tie.close
     (tie.spec
-    add-row-at
-    row-at-requires
-    (λ c. search needs)
-    (λ c. search needs)
-    (λ c. search needs)
-    returns)
+    add-row-at row-at-requires (λ c. search needs) (λ c. search needs) (λ c. search needs) returns)

@@ -21,8 +21,4 @@ pub formula-at-spec : {M : Type 1} → statement M
 formula-at-spec =
     tie.close
     (tie.spec
-    row-at-requires
-    (λ c. search needs)
-    (λ c. search needs)
-    (λ c. search needs)
-    returns)
+    row-at-requires (λ c. search needs) (λ c. search needs) (λ c. search needs) returns)

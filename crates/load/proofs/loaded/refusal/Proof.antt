@@ -11,7 +11,4 @@ pub refusal-spec : {M : Type 1} → statement M
 refusal-spec =
     tie.close
     (tie.spec
-    (λ c. search needs)
-    (λ c. search needs)
-    returns
-    (λ c. search needs))
+    (λ c. search needs) (λ c. search needs) returns (λ c. search needs))

@@ -21,8 +21,4 @@ pub table-need-spec : {M : Type 1} → statement M
 table-need-spec =
     tie.close
     (tie.spec
-    (λ c. search needs)
-    (λ c. search needs)
-    mul-result
-    returns
-    returns-2)
+    (λ c. search needs) (λ c. search needs) mul-result returns returns-2)

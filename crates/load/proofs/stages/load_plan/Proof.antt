@@ -40,13 +40,5 @@ pub load-plan-spec : {M : Type 1} → statement M
 load-plan-spec =
     tie.close
     (tie.spec
-    move-count-requires
-    read-plan-requires
-    (λ c. search needs)
-    (λ c. search needs)
-    (λ c κs. search needs)
-    (λ c. search needs)
-    returns
-    (λ c. search needs)
-    returns-2
-    returns-3)
+    move-count-requires read-plan-requires (λ c. search needs) (λ c. search needs) (λ c κs. search needs) (λ c. search needs) returns
+    (λ c. search needs) returns-2 returns-3)

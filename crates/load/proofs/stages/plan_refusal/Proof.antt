@@ -14,7 +14,4 @@ pub plan-refusal-spec : {M : Type 1} → statement M
 plan-refusal-spec =
     tie.close
     (tie.spec
-    (λ c. search needs)
-    (λ c. search needs)
-    returns
-    returns-2)
+    (λ c. search needs) (λ c. search needs) returns returns-2)

@@ -40,16 +40,5 @@ pub order-spec : {M : Type 1} → statement M
 order-spec =
     tie.close
     (tie.spec
-    Inv-loop
-    μ-loop
-    loop-holds
-    (λ c. search needs)
-    (λ c. search needs)
-    named-requires
-    (λ c. search needs)
-    (λ c. search needs)
-    slice-write-queue
-    (λ c. search needs)
-    loop-again
-    same-length
-    returns)
+    Inv-loop μ-loop loop-holds (λ c. search needs) (λ c. search needs) named-requires (λ c. search needs) (λ c. search needs) slice-write-queue
+    (λ c. search needs) loop-again same-length returns)

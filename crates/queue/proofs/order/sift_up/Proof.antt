@@ -66,26 +66,6 @@ pub sift-up-spec : {M : Type 1} → statement M
 sift-up-spec =
     tie.close
     (tie.spec
-    Inv-loop
-    μ-loop
-    add-i
-    loop-holds
-    (λ c. search needs)
-    named-requires
-    (λ c. search needs)
-    (λ c. search needs)
-    named-requires-2
-    lesser-requires
-    (λ c. search needs)
-    (λ c. search needs)
-    (λ c. search needs)
-    slice-read-if2
-    same-length
-    returns
-    (λ c. search needs)
-    (λ c. search needs)
-    slice-write-queue
-    loop-less
-    loop-again
-    same-length-2
-    returns-2)
+    Inv-loop μ-loop add-i loop-holds (λ c. search needs) named-requires (λ c. search needs) (λ c. search needs) named-requires-2 lesser-requires
+    (λ c. search needs) (λ c. search needs) (λ c. search needs) slice-read-if2 same-length returns (λ c. search needs) (λ c. search needs)
+    slice-write-queue loop-less loop-again same-length-2 returns-2)

@@ -127,23 +127,5 @@ pub read-job-spec : {M : Type 1} → statement M
 read-job-spec =
     tie.close
     (tie.spec
-    Inv-loop
-    μ-loop
-    (λ c κs. search needs)
-    loop-holds
-    (λ c κs. search needs)
-    sub-line
-    part-line-start
-    part-line-end
-    (λ c κs. search needs)
-    add-n
-    reason-requires
-    (λ c κs. search needs)
-    same-length
-    returns
-    take-line-requires
-    loop-less
-    loop-again
-    finish-requires
-    same-length-2
-    returns-2)
+    Inv-loop μ-loop (λ c κs. search needs) loop-holds (λ c κs. search needs) sub-line part-line-start part-line-end (λ c κs. search needs) add-n
+    reason-requires (λ c κs. search needs) same-length returns take-line-requires loop-less loop-again finish-requires same-length-2 returns-2)

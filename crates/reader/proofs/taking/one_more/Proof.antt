@@ -7,15 +7,8 @@ pub one-more-spec : {M : Type 1} → statement M
 one-more-spec =
     tie.close
     (tie.spec
-    (λ c. search needs)
-    (λ c. search needs)
-    (λ c. search needs)
-    (λ c. search needs)
-    (λ c. search needs)
-    (λ c. search needs)
-    (λ c. search needs)
-    (λ c. search needs)
-    (λ c. counts-are (c .before .before .before .args .c) (c .before .enum-told .given .1))
+    (λ c. search needs) (λ c. search needs) (λ c. search needs) (λ c. search needs) (λ c. search needs) (λ c. search needs) (λ c. search needs)
+    (λ c. search needs) (λ c. counts-are (c .before .before .before .args .c) (c .before .enum-told .given .1))
     (λ c. counts-are (c .before .before .before .args .c) (c .before .enum-told2 .given .1))
     (λ c. counts-are (c .before .before .before .args .c) (c .before .enum-told3 .given .1))
     (λ c. counts-are (c .before .before .before .args .c) (c .before .enum-told4 .given .1)))

@@ -108,22 +108,6 @@ pub fill-spec : {M : Type 1} → statement M
 fill-spec =
     tie.close
     (tie.spec
-    (λ c. search needs)
-    (λ c. search needs)
-    start-requires
-    adjacency-of-requires
-    (λ c. search needs)
-    order-requires
-    (λ c. search needs)
-    (λ c. search needs)
-    lower-requires
-    mul-clear
-    clear-requires
-    cell-requires
-    mul-costs
-    slice-write-costs
-    (λ c. search needs)
-    (λ c. search needs)
-    settle-requires
-    same-length
-    returns)
+    (λ c. search needs) (λ c. search needs) start-requires adjacency-of-requires (λ c. search needs) order-requires (λ c. search needs)
+    (λ c. search needs) lower-requires mul-clear clear-requires cell-requires mul-costs slice-write-costs (λ c. search needs) (λ c. search needs)
+    settle-requires same-length returns)

@@ -62,15 +62,4 @@ pub settle-spec : {M : Type 1} → statement M
 settle-spec =
     tie.close
     (tie.spec
-    Inv-loop
-    μ-loop
-    (λ c. search needs)
-    loop-holds
-    choose-requires
-    same-length
-    same-length-2
-    returns
-    cast-t14
-    visit-requires
-    loop-less
-    loop-again)
+    Inv-loop μ-loop (λ c. search needs) loop-holds choose-requires same-length same-length-2 returns cast-t14 visit-requires loop-less loop-again)

@@ -34,13 +34,5 @@ pub visit-spec : {M : Type 1} → statement M
 visit-spec =
     tie.close
     (tie.spec
-    formula-values-requires
-    (λ c. search needs)
-    (λ c. search needs)
-    (λ c. search needs)
-    (λ c. search needs)
-    sweep-requires
-    sift-up-requires
-    (λ c. search needs)
-    (λ c. search needs)
-    returns)
+    formula-values-requires (λ c. search needs) (λ c. search needs) (λ c. search needs) (λ c. search needs) sweep-requires sift-up-requires
+    (λ c. search needs) (λ c. search needs) returns)

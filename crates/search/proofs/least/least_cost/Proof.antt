@@ -29,9 +29,4 @@ pub least-cost-spec : {M : Type 1} → statement M
 least-cost-spec =
     tie.close
     (tie.spec
-    (λ c κs. search needs)
-    (λ c. search needs)
-    sub-last
-    least-entry-requires
-    (λ c. search needs)
-    returns)
+    (λ c κs. search needs) (λ c. search needs) sub-last least-entry-requires (λ c. search needs) returns)

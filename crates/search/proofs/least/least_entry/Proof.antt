@@ -53,14 +53,4 @@ pub least-entry-spec : {M : Type 1} → statement M
 least-entry-spec =
     tie.close
     (tie.spec
-    Inv-loop
-    μ-loop
-    loop-holds
-    cell-requires
-    mul-x
-    shared-slice-read-x
-    lesser-requires
-    (λ c. search needs)
-    (λ c. search needs)
-    loop-again
-    returns)
+    Inv-loop μ-loop loop-holds cell-requires mul-x shared-slice-read-x lesser-requires (λ c. search needs) (λ c. search needs) loop-again returns)

@@ -69,27 +69,6 @@ pub relax-spec : {M : Type 1} → statement M
 relax-spec =
     tie.close
     (tie.spec
-    (λ c. search needs)
-    (λ c κs. search needs)
-    mul-old
-    slice-read-old
-    returns
-    (λ c. search needs)
-    returns-2
-    add-costs
-    mul-costs
-    slice-write-costs
-    (λ c. search needs)
-    (λ c. search needs)
-    add-lower
-    (λ c κs. search needs)
-    (λ c. search needs)
-    (λ c. search needs)
-    returns-3
-    (λ c. search needs)
-    (λ c. search needs)
-    (λ c. search needs)
-    returns-4
-    (λ c. search needs)
-    (λ c. search needs)
-    returns-5)
+    (λ c. search needs) (λ c κs. search needs) mul-old slice-read-old returns (λ c. search needs) returns-2 add-costs mul-costs slice-write-costs
+    (λ c. search needs) (λ c. search needs) add-lower (λ c κs. search needs) (λ c. search needs) (λ c. search needs) returns-3 (λ c. search needs)
+    (λ c. search needs) (λ c. search needs) returns-4 (λ c. search needs) (λ c. search needs) returns-5)

@@ -157,27 +157,6 @@ pub scan-spec : {M : Type 1} → statement M
 scan-spec =
     tie.close
     (tie.spec
-    Inv-loop
-    μ-loop
-    cell-requires
-    mul-x
-    slice-read-x
-    add-next
-    slice-read-is-idle
-    (λ c κs. search needs)
-    returns
-    slice-write-marks
-    link-at-requires
-    loop-holds
-    (λ c. search needs)
-    step-at-requires
-    follow-requires
-    add-link-at
-    link-at-requires-2
-    loop-less
-    loop-again
-    same-length
-    same-length-2
-    same-length-3
-    same-length-4
-    returns-2)
+    Inv-loop μ-loop cell-requires mul-x slice-read-x add-next slice-read-is-idle (λ c κs. search needs) returns slice-write-marks link-at-requires
+    loop-holds (λ c. search needs) step-at-requires follow-requires add-link-at link-at-requires-2 loop-less loop-again same-length same-length-2
+    same-length-3 same-length-4 returns-2)

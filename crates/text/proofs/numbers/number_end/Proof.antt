@@ -43,16 +43,5 @@ pub number-end-spec : {M : Type 1} → statement M
 number-end-spec =
     tie.close
     (tie.spec
-    (λ c. search needs)
-    (λ c. search needs)
-    (λ c. search needs)
-    (λ c. search needs)
-    (λ c. search needs)
-    returns
-    returns-2
-    (λ c. search needs)
-    (λ c. search needs)
-    (λ c. search needs)
-    returns-3
-    returns-4
-    returns-5)
+    (λ c. search needs) (λ c. search needs) (λ c. search needs) (λ c. search needs) (λ c. search needs) returns returns-2 (λ c. search needs)
+    (λ c. search needs) (λ c. search needs) returns-3 returns-4 returns-5)

@@ -43,17 +43,5 @@ pub read-byte-spec : {M : Type 1} → statement M
 read-byte-spec =
     tie.close
     (tie.spec
-    (λ c. search needs)
-    (λ c κs. search needs)
-    (λ c. search needs)
-    (λ c κs. search needs)
-    more-digits-requires
-    returns
-    number-end-requires
-    (λ c. search needs)
-    (λ c. search needs)
-    returns-2
-    (λ c. search needs)
-    returns-3
-    returns-4
-    returns-5)
+    (λ c. search needs) (λ c κs. search needs) (λ c. search needs) (λ c κs. search needs) more-digits-requires returns number-end-requires
+    (λ c. search needs) (λ c. search needs) returns-2 (λ c. search needs) returns-3 returns-4 returns-5)

@@ -162,39 +162,8 @@ pub check-moves-spec : {M : Type 1} → statement M
 check-moves-spec =
     tie.close
     (tie.spec
-    Inv-loop
-    μ-loop
-    adjacency-of-requires
-    start-requires
-    formula-values-requires
-    (λ c κs. search needs)
-    (λ c. search needs)
-    (λ c. search needs)
-    closed-requires
-    loop-holds
-    (λ c. search needs)
-    (λ c. search needs)
-    slice-aggregate-successor
-    successor-requires
-    (λ c. search needs)
-    (λ c. search needs)
-    returns
-    slice-aggregate-cost
-    cost-requires
-    formula-values-requires-2
-    slice-aggregate-advanced
-    advanced-requires
-    slice-aggregate-closed-3
-    (λ c. search needs)
-    closed-requires-2
-    returns-2
-    add-cost
-    add-i
-    loop-less
-    loop-again
-    slice-aggregate-goal-holds
-    goal-holds-requires
-    sub-has
-    (λ c κs. search needs)
-    (λ c κs. search needs)
-    returns-3)
+    Inv-loop μ-loop adjacency-of-requires start-requires formula-values-requires (λ c κs. search needs) (λ c. search needs) (λ c. search needs)
+    closed-requires loop-holds (λ c. search needs) (λ c. search needs) slice-aggregate-successor successor-requires (λ c. search needs)
+    (λ c. search needs) returns slice-aggregate-cost cost-requires formula-values-requires-2 slice-aggregate-advanced advanced-requires
+    slice-aggregate-closed-3 (λ c. search needs) closed-requires-2 returns-2 add-cost add-i loop-less loop-again slice-aggregate-goal-holds
+    goal-holds-requires sub-has (λ c κs. search needs) (λ c κs. search needs) returns-3)

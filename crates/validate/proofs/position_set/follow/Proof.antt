@@ -70,18 +70,5 @@ pub follow-spec : {M : Type 1} → statement M
 follow-spec =
     tie.close
     (tie.spec
-    Inv-loop
-    μ-loop
-    link-at-requires
-    loop-holds
-    (λ c. search needs)
-    step-at-requires
-    (λ c κs. search needs)
-    mark-requires
-    add-link-at
-    link-at-requires-2
-    loop-less
-    loop-again
-    (λ c. search needs)
-    (λ c. search needs)
-    returns)
+    Inv-loop μ-loop link-at-requires loop-holds (λ c. search needs) step-at-requires (λ c κs. search needs) mark-requires add-link-at
+    link-at-requires-2 loop-less loop-again (λ c. search needs) (λ c. search needs) returns)

@@ -28,13 +28,5 @@ pub mark-spec : {M : Type 1} → statement M
 mark-spec =
     tie.close
     (tie.spec
-    (λ c. search needs)
-    returns
-    (λ c. search needs)
-    mul-members
-    slice-write-members
-    add-result
-    (λ c. search needs)
-    (λ c. search needs)
-    returns-2
+    (λ c. search needs) returns (λ c. search needs) mul-members slice-write-members add-result (λ c. search needs) (λ c. search needs) returns-2
     returns-3)

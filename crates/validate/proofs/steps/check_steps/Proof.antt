@@ -68,23 +68,6 @@ pub check-steps-spec : {M : Type 1} → statement M
 check-steps-spec =
     tie.close
     (tie.spec
-    Inv-loop
-    μ-loop
-    (λ c κs. search needs)
-    loop-holds
-    (λ c. search needs)
-    (λ c. search needs)
-    make-step-requires
-    (λ c. search needs)
-    (λ c. search needs)
-    returns
-    add-cost
-    (λ c. search needs)
-    (λ c. search needs)
-    loop-again
-    (λ c κs. search needs)
-    (λ c. search needs)
-    (λ c κs. search needs)
-    sub-finish
-    (λ c κs. search needs)
-    returns-2)
+    Inv-loop μ-loop (λ c κs. search needs) loop-holds (λ c. search needs) (λ c. search needs) make-step-requires (λ c. search needs)
+    (λ c. search needs) returns add-cost (λ c. search needs) (λ c. search needs) loop-again (λ c κs. search needs) (λ c. search needs)
+    (λ c κs. search needs) sub-finish (λ c κs. search needs) returns-2)

@@ -47,16 +47,5 @@ pub advanced-spec : {M : Type 1} → statement M
 advanced-spec =
     tie.close
     (tie.spec
-    Inv-loop
-    μ-loop
-    loop-holds
-    mul-p
-    array-read-p
-    (λ c. search needs)
-    (λ c. search needs)
-    (λ c. search needs)
-    follow-requires
-    (λ c. search needs)
-    loop-less
-    loop-again
-    returns)
+    Inv-loop μ-loop loop-holds mul-p array-read-p (λ c. search needs) (λ c. search needs) (λ c. search needs) follow-requires (λ c. search needs)
+    loop-less loop-again returns)

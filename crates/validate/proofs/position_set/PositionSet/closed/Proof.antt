@@ -55,15 +55,4 @@ pub closed-spec : {M : Type 1} → statement M
 closed-spec =
     tie.close
     (tie.spec
-    Inv-loop
-    μ-loop
-    loop-holds
-    mul-p
-    array-read-p
-    (λ c. search needs)
-    (λ c. search needs)
-    follow-requires
-    add-at
-    loop-less
-    loop-again
-    returns)
+    Inv-loop μ-loop loop-holds mul-p array-read-p (λ c. search needs) (λ c. search needs) follow-requires add-at loop-less loop-again returns)
