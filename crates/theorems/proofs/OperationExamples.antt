@@ -1,8 +1,8 @@
 -- Small texts, compiled by the definition: the sample, and examples of refusals 4, 5 and 6.
 -- Assumes nothing.
 use mathlib.Core.Path.{_≡_, refl}
-use mathlib.Core.List.{[], _∷_}
-use Prim.Native.Nat.{_*_}
+use mathlib.Core.List.{List, [], _∷_, _++_}
+use Prim.Native.Nat.{ℕ, _*_}
 use Rattle.limits.specs.Limits.{mostSteps}
 use Rattle.text.specs.Bytes.{bytes}
 use Rattle.text.specs.Lines.{lines, hasKey, valueOf}
@@ -39,7 +39,12 @@ unfolding bytes lines hasKey valueOf byteRead numbers lineNumbers fault taken en
 refuses-list = refl
 
 -- "`p=1,0,0,0`, then `p=4,k,k,0` for k from 0 to 7: 257 positions"
-refuses-positions : jobIn (bytes "job=1\nfacts=0\ninit=0\nformulas=1\nf=1,0,0\nmoves=1\nm=0,0,0\ngoal=0\nprogram=9\np=1,0,0,0\np=4,0,0,0\np=4,1,1,0\np=4,2,2,0\np=4,3,3,0\np=4,4,4,0\np=4,5,5,0\np=4,6,6,0\np=4,7,7,0\n") ≡ refused 4 18
+abbrev doubled : List ℕ
+doubled =
+    bytes "job=1\nfacts=0\ninit=0\nformulas=1\nf=1,0,0\nmoves=1\nm=0,0,0\ngoal=0\nprogram=9\np=1,0,0,0\n"
+    ++ bytes "p=4,0,0,0\np=4,1,1,0\np=4,2,2,0\np=4,3,3,0\np=4,4,4,0\np=4,5,5,0\np=4,6,6,0\np=4,7,7,0\n"
+
+refuses-positions : jobIn doubled ≡ refused 4 18
 unfolding bytes lines hasKey valueOf byteRead numbers lineNumbers fault taken ended readFrom readJob end steps build programs fits jobIn
 refuses-positions = refl
 
