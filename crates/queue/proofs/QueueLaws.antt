@@ -8,8 +8,7 @@ use mathlib.Core.List.{List}
 use lib.ListN.{getD, set, length-set}
 use lib.Seq.{getD-set-same, getD-set-other}
 use Rattle.limits.specs.Limits.{mostStates}
-use Rattle.semantics.specs.CostTable.{unreached}
-use Rattle.queue.specs.Queue.{Queue, SameKeys, Lowered, Chosen}
+use Rattle.queue.specs.Queue.{noKey, Queue, SameKeys, Lowered, Chosen}
 
 pub same-keys-none : (q : List ℕ) → SameKeys q q
 same-keys-none q = record { size = refl; keys = λ k h. refl }
@@ -36,12 +35,12 @@ lowered-stored s x {old} q h less same =
 
 -- the first i states have no key
 pub record NoKey (i : ℕ) (queue : List ℕ) : Type 0 where
-  pub none : (k : ℕ) → k < i → unreached ≤ getD queue k 0
+  pub none : (k : ℕ) → k < i → noKey ≤ getD queue k 0
 
 pub no-key-none : (q : List ℕ) → NoKey 0 q
 no-key-none q = record { none = λ k h. absurd (omega arith) }
 
-pub no-key-more : (i : ℕ) (q : List ℕ) → NoKey i q → unreached ≤ getD q i 0 → NoKey (i + 1) q
+pub no-key-more : (i : ℕ) (q : List ℕ) → NoKey i q → noKey ≤ getD q i 0 → NoKey (i + 1) q
 no-key-more i q f h = record {
   none = λ k l. elim (decLt k i) [ yes a ↦ f .none k a | no a ↦ (let e : k ≡ i = omega arith in rw e h) ];
 }

@@ -4,11 +4,14 @@ use mathlib.Core.Path.{_≡_}
 use mathlib.Core.List.{List}
 use lib.ListN.{length, getD}
 use Rattle.limits.specs.Limits.{mostStates}
-use Rattle.semantics.specs.CostTable.{unreached}
 
 -- how many numbers there are: the keys of all states, and as many for the order
 abbrev pub queueSize : ℕ
 queueSize = mostStates * 2
+
+-- the key of a state with nothing to follow
+abbrev pub noKey : ℕ
+noKey = 4294967295
 
 -- a queue for n states
 pub record Queue (queue : List ℕ) (n : ℕ) : Type 0 where
@@ -30,5 +33,5 @@ pub record Lowered (s x : ℕ) (old new : List ℕ) : Type 0 where
 -- r is a state that has a key, or n where none of the n has
 pub record Chosen (n : ℕ) (queue : List ℕ) (r : ℕ) : Type 0 where
   pub low : r ≤ n
-  pub due : r < n → getD queue r 0 < unreached
-  pub rest : r ≡ n → (k : ℕ) → k < n → unreached ≤ getD queue k 0
+  pub due : r < n → getD queue r 0 < noKey
+  pub rest : r ≡ n → (k : ℕ) → k < n → noKey ≤ getD queue k 0

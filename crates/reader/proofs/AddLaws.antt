@@ -126,5 +126,5 @@ module _ (s : ReaderState) (l : List ℕ) (r : LineNumbers) (k : Line) (e : s .n
   unfolding taken
   taken-of h = ap (λ q. takenAt q (readingOf s l) (listOf q r)) e ∙ line-front (s .head .counts) (readingOf s l) k (r .numbers) h .1
 
-  pub room-of : {c : Counts} → Room (s .next) (s .due) (s .effects) c → Room k (s .due) (s .effects) c
-  room-of h = rw e at h
+  pub room-at : {c : Counts} → Room (s .next) (s .due) (s .effects) c → Room k (s .due) (s .effects) c
+  room-at h = rw e at h

@@ -1,6 +1,6 @@
 use mathlib.Core.Path.{sym, _∙_}
 use Rattle.job.specs.declared.line.Line.the-variants.{One, Of, End}
-use Rattle.reader.proofs.AddLaws.{taken-of, room-of}
+use Rattle.reader.proofs.AddLaws.{taken-of, room-at}
 use borrow.Author.Needs.{needs}
 use Rattle.reader.proofs.taking.take_line.Statement.{statement}
 use Rattle.reader.proofs.taking.take_line.Tie as tie
@@ -8,7 +8,7 @@ use Rattle.reader.proofs.taking.take_line.Tie as tie
 take-row-requires : tie.Need-take-row-requires
 take-row-requires c κs =
     let b = c .before .before .before .before .before .before in
-    (room-of (b .args .s) (b .args .rows .now) (b .args .line) (Of _) (c .before .before .next2 .given .1) (b .pre .0), b .pre .1)
+    (room-at (b .args .s) (b .args .rows .now) (b .args .line) (Of _) (c .before .before .next2 .given .1) (b .pre .0), b .pre .1)
 
 returns : tie.Need-returns
 returns c =
