@@ -21,7 +21,7 @@ use Rattle.capi.specs.declared.numbers.Numbers.{Numbers}
 use Rattle.capi.proofs.GivesLaws.{gives-once}
 use Rattle.theorems.proofs.OneAnswer.{one-checked, one-costed, one-judged}
 
--- of every operation that takes texts: its outcome is one, and so is what is lent
+-- of the checks, the least cost and the judge: the outcome is one, and so is what is lent
 one-call : {A B C : Type 0} {Does : View → B → C → C → Type 0} {old x y : C} {c : Checked View} (outcome : A → Checked B) (say : B → Numbers)
     → OneWay Does old → {n m : ℕ} {v w : List ℕ}
     → Gives (λ a. outcomeNumbers say (outcome a)) (λ a. Answers Does old c (outcome a) x) n v

@@ -42,8 +42,7 @@ judge-entries-requires c κs =
     let at25 = at18 .before .before .before .before .before .before .before in (
       (
         load-ready (at18 .load .ensures) (at14 .loaded .given .1) (at25 .args .list .now) refl (at11 .list-need .ensures) (at8 .compile .ensures),
-        load-sized
-            (at18 .load .ensures) (at14 .loaded .given .1) .states,
+        load-sized (at18 .load .ensures) (at14 .loaded .given .1) .states,
       ),
       (load-entries (at18 .load .ensures) (at14 .loaded .given .1) refl, load-cells (at18 .load .ensures) (at14 .loaded .given .1) refl),
     )

@@ -40,8 +40,7 @@ least-cost-requires c κs =
     let at23 = at16 .before .before .before .before .before .before .before in (
       (
         load-ready (at16 .load .ensures) (at12 .loaded .given .1) (at23 .args .list .now) refl (at9 .list-need .ensures) (at6 .compile .ensures),
-        load-sized
-            (at16 .load .ensures) (at12 .loaded .given .1) .states,
+        load-sized (at16 .load .ensures) (at12 .loaded .given .1) .states,
       ),
       load-cells (at16 .load .ensures) (at12 .loaded .given .1) refl,
     )

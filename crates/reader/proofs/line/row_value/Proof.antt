@@ -5,24 +5,13 @@ use borrow.Author.Needs.{needs}
 use Rattle.reader.proofs.line.row_value.Statement.{statement}
 use Rattle.reader.proofs.line.row_value.Tie as tie
 
-returns : tie.Need-returns
-returns c = value-of (Of _) (c .before .before .before .before .before .args .line .now) (ap Of (c .before .before .enum-told .given .1)) (c .value .ensures)
-
-returns-2 : tie.Need-returns-2
-returns-2 c = value-of (Of _) (c .before .before .before .before .before .args .line .now) (ap Of (c .before .before .enum-told2 .given .1))
-    (c .value2 .ensures)
-
-returns-3 : tie.Need-returns-3
-returns-3 c = value-of (Of _) (c .before .before .before .before .before .args .line .now) (ap Of (c .before .before .enum-told3 .given .1))
-    (c .value3 .ensures)
-
-returns-4 : tie.Need-returns-4
-returns-4 c = value-of (Of _) (c .before .before .before .before .before .args .line .now) (ap Of (c .before .before .enum-told4 .given .1))
-    (c .value4 .ensures)
-
 pub row-value-spec : {M : Type 1} → statement M
 row-value-spec =
     tie.close
     (tie.spec
     (λ c. search needs) (λ c. search needs) (λ c κs. search needs) (λ c. search needs) (λ c. search needs) (λ c κs. search needs) (λ c. search needs)
-    (λ c. search needs) (λ c κs. search needs) (λ c. search needs) (λ c. search needs) (λ c κs. search needs) returns returns-2 returns-3 returns-4)
+    (λ c. search needs) (λ c κs. search needs) (λ c. search needs) (λ c. search needs) (λ c κs. search needs)
+    (λ c. value-of (Of _) (c .before .before .before .before .before .args .line .now) (ap Of (c .before .before .enum-told .given .1)) (c .value .ensures))
+    (λ c. value-of (Of _) (c .before .before .before .before .before .args .line .now) (ap Of (c .before .before .enum-told2 .given .1)) (c .value2 .ensures))
+    (λ c. value-of (Of _) (c .before .before .before .before .before .args .line .now) (ap Of (c .before .before .enum-told3 .given .1)) (c .value3 .ensures))
+    (λ c. value-of (Of _) (c .before .before .before .before .before .args .line .now) (ap Of (c .before .before .enum-told4 .given .1)) (c .value4 .ensures)))
