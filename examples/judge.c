@@ -1,4 +1,5 @@
-/* judge JOB PLAN: judges the plan in a file for the job in a file, by the library's C interface. */
+/* judge JOB PLAN [COSTS]: judges the plan in a file for the job in a file, by the class costs in a file or, where none is named, by the house's; by the
+ * library's C interface. */
 #include "jesmovit.h"
 #include <stdio.h>
 #include <stdlib.h>
@@ -25,16 +26,18 @@ static size_t read_file(const char *path, uint8_t text[65536])
 
 int main(int count, char **arguments)
 {
-    static uint8_t job[65536], plan[65536];
+    static uint8_t job[65536], plan[65536], costs[65536];
     static const char *const words[] = {"plan", "blocked", "unfinished", "missed", "least", "dearer"};
     uint64_t answer[5];
-    if (count != 3) {
-        fprintf(stderr, "usage: judge JOB PLAN\n");
+    if (count != 3 && count != 4) {
+        fprintf(stderr, "usage: judge JOB PLAN [COSTS]\n");
         return 2;
     }
     size_t job_length = read_file(arguments[1], job);
     size_t plan_length = read_file(arguments[2], plan);
-    uint32_t refusal = jesmovit_judge(job, job_length, plan, plan_length, list, 4096, table, 1048576, answer);
+    size_t costs_length = count == 4 ? read_file(arguments[3], costs) : 0;
+    uint32_t given = count == 4 ? JESMOVIT_COSTS_GIVEN : 0;
+    uint32_t refusal = jesmovit_judge(job, job_length, plan, plan_length, costs, costs_length, given, list, 4096, table, 1048576, answer);
     if (refusal) {
         printf("refused by %u at %llu\n", (unsigned)refusal, (unsigned long long)answer[0]);
         return 1;

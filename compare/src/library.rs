@@ -2,6 +2,19 @@
 
 use crate::answer::Answer;
 
+/// In the bits of `Given`: a costs text is handed in.
+pub const COSTS_GIVEN: u32 = 1;
+
+/// What may be left out: the bytes of a costs text, and the bits that say what of it is handed in.
+#[derive(Clone, Copy)]
+pub struct Given<'a> {
+    pub costs: &'a [u8],
+    pub bits: u32,
+}
+
+/// Nothing that may be left out.
+pub const NONE_GIVEN: Given = Given { costs: b"", bits: 0 };
+
 extern "C" {
     fn jesmovit_read_job(job: *const u8, job_length: usize, answer: *mut u64) -> u32;
     fn jesmovit_compile(job: *const u8, job_length: usize, list: *mut u16, list_length: usize, answer: *mut u64)
@@ -11,6 +24,9 @@ extern "C" {
         job_length: usize,
         plan: *const u8,
         plan_length: usize,
+        costs: *const u8,
+        costs_length: usize,
+        given: u32,
         list: *mut u16,
         list_length: usize,
         answer: *mut u64,
@@ -20,6 +36,9 @@ extern "C" {
         job_length: usize,
         plan: *const u8,
         plan_length: usize,
+        costs: *const u8,
+        costs_length: usize,
+        given: u32,
         list: *mut u16,
         list_length: usize,
         answer: *mut u64,
@@ -27,6 +46,9 @@ extern "C" {
     fn jesmovit_least_cost(
         job: *const u8,
         job_length: usize,
+        costs: *const u8,
+        costs_length: usize,
+        given: u32,
         list: *mut u16,
         list_length: usize,
         table: *mut u32,
@@ -38,6 +60,9 @@ extern "C" {
         job_length: usize,
         plan: *const u8,
         plan_length: usize,
+        costs: *const u8,
+        costs_length: usize,
+        given: u32,
         list: *mut u16,
         list_length: usize,
         table: *mut u32,
@@ -67,23 +92,48 @@ pub fn compile(job: &[u8], list: &mut [u16]) -> Answer {
     answered(|answer| unsafe { jesmovit_compile(job.as_ptr(), job.len(), list.as_mut_ptr(), list.len(), answer) })
 }
 
-pub fn check_moves(job: &[u8], plan: &[u8], list: &mut [u16]) -> Answer {
+pub fn check_moves(job: &[u8], plan: &[u8], given: Given, list: &mut [u16]) -> Answer {
     answered(|answer| unsafe {
-        jesmovit_check_moves(job.as_ptr(), job.len(), plan.as_ptr(), plan.len(), list.as_mut_ptr(), list.len(), answer)
+        jesmovit_check_moves(
+            job.as_ptr(),
+            job.len(),
+            plan.as_ptr(),
+            plan.len(),
+            given.costs.as_ptr(),
+            given.costs.len(),
+            given.bits,
+            list.as_mut_ptr(),
+            list.len(),
+            answer,
+        )
     })
 }
 
-pub fn check_steps(job: &[u8], plan: &[u8], list: &mut [u16]) -> Answer {
+pub fn check_steps(job: &[u8], plan: &[u8], given: Given, list: &mut [u16]) -> Answer {
     answered(|answer| unsafe {
-        jesmovit_check_steps(job.as_ptr(), job.len(), plan.as_ptr(), plan.len(), list.as_mut_ptr(), list.len(), answer)
+        jesmovit_check_steps(
+            job.as_ptr(),
+            job.len(),
+            plan.as_ptr(),
+            plan.len(),
+            given.costs.as_ptr(),
+            given.costs.len(),
+            given.bits,
+            list.as_mut_ptr(),
+            list.len(),
+            answer,
+        )
     })
 }
 
-pub fn least_cost(job: &[u8], list: &mut [u16], table: &mut [u32]) -> Answer {
+pub fn least_cost(job: &[u8], given: Given, list: &mut [u16], table: &mut [u32]) -> Answer {
     answered(|answer| unsafe {
         jesmovit_least_cost(
             job.as_ptr(),
             job.len(),
+            given.costs.as_ptr(),
+            given.costs.len(),
+            given.bits,
             list.as_mut_ptr(),
             list.len(),
             table.as_mut_ptr(),
@@ -93,13 +143,16 @@ pub fn least_cost(job: &[u8], list: &mut [u16], table: &mut [u32]) -> Answer {
     })
 }
 
-pub fn judge(job: &[u8], plan: &[u8], list: &mut [u16], table: &mut [u32]) -> Answer {
+pub fn judge(job: &[u8], plan: &[u8], given: Given, list: &mut [u16], table: &mut [u32]) -> Answer {
     answered(|answer| unsafe {
         jesmovit_judge(
             job.as_ptr(),
             job.len(),
             plan.as_ptr(),
             plan.len(),
+            given.costs.as_ptr(),
+            given.costs.len(),
+            given.bits,
             list.as_mut_ptr(),
             list.len(),
             table.as_mut_ptr(),

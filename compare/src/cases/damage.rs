@@ -4,19 +4,19 @@ use super::fields::change_fields;
 use crate::generator::random::Random;
 
 /// Bytes that take another's place.
-const BYTES: &[u8] = b"0123456789,,==\n\n\r\t -+.\0\xffmtfepjx";
+const BYTES: &[u8] = b"0123456789,,==\n\n\r\t -+.\0\xffmtfepjcx";
 
 /// Numbers at the edges of ranges and forms.
 #[rustfmt::skip]
-const NUMBERS: [&str; 37] = [
+const NUMBERS: [&str; 39] = [
     "0", "1", "2", "3", "4", "5", "6", "8", "9", "11", "12", "13", "15", "16", "17", "63", "64", "65", "127", "128",
-    "129", "254", "255", "256", "4000", "4001", "4096", "65535", "65536", "99999", "100000", "4294967296",
-    "18446744073709551617", "", "00", "01", "007",
+    "129", "254", "255", "256", "3600", "3601", "4000", "4001", "4096", "65535", "65536", "99999", "100000",
+    "4294967296", "18446744073709551617", "", "00", "01", "007",
 ];
 
 /// Bytes that are appended.
-const TAILS: [&[u8]; 10] =
-    [b"\n", b" ", b"0", b"\0", b"\r\n", b"p=0,0,0,0\n", b"m=0\n", b"t=0\n", b"job=1\n", b"=\n\n"];
+const TAILS: [&[u8]; 11] =
+    [b"\n", b" ", b"0", b"\0", b"\r\n", b"p=0,0,0,0\n", b"m=0\n", b"t=0\n", b"c=0\n", b"job=1\n", b"=\n\n"];
 
 /// How a text is damaged.
 #[derive(Clone, Copy)]
@@ -120,7 +120,7 @@ fn change_line(random: &mut Random, lines: &mut Vec<Vec<u8>>) {
 fn change_key(random: &mut Random, lines: &mut [Vec<u8>]) {
     let chosen = random.below(lines.len());
     let all = random.chance(300);
-    let key = random.pick(b"mtfepMj=");
+    let key = random.pick(b"mtfepcMj=");
     for (place, line) in lines.iter_mut().enumerate() {
         if place == chosen || (all && line.get(1) == Some(&b'=')) {
             line[0] = key;

@@ -1,15 +1,16 @@
-//! Which limits of document 01 a case meets, or passes by one.
+//! Which limits of documents 01 and 02 a case meets, or passes by one; which costs texts it has, and which bad texts
+//! beside each other.
 
 use super::Case;
 use crate::second::compiler::{program_size, Size, MOST_POSITIONS, MOST_STEPS};
 use crate::second::job::*;
-use crate::second::reader::{read_job, read_plan};
+use crate::second::reader::{read_costs, read_job, read_plan};
 
 /// A limit, and whether a case meets it.
 type Edge = (&'static str, fn(&Look) -> bool);
 
 /// The limits, in the order in which they are printed.
-pub const EDGES: [Edge; 27] = [
+pub const EDGES: [Edge; 44] = [
     ("0 facts", |look| look.job(|job| job.facts == 0)),
     ("12 facts", |look| look.job(|job| job.facts == MOST_FACTS)),
     ("13 facts", |look| look.refused_line == Some(b"facts=13")),
@@ -36,13 +37,33 @@ pub const EDGES: [Edge; 27] = [
     ("1025 steps", |look| look.size(|size, _| size.steps == MOST_STEPS + 1 && size.length < MOST_POSITIONS)),
     ("100000 costs and more", |look| look.size(|size, facts| size.fits() && (size.length + 1) << facts >= 100_000)),
     ("1048576 costs", |look| look.size(|size, facts| size.fits() && (size.length + 1) << facts == 1_048_576)),
-    ("plan of 4000 moves", |look| look.entries(&look.case.moves, b'm', |job| job.moves.len())),
-    ("plan of 4000 steps", |look| look.entries(&look.case.steps, b't', |job| program_size(job).steps as usize)),
+    ("plan of 4000 moves", |look| is_longest(look.moves())),
+    ("plan of 4000 steps", |look| is_longest(look.steps())),
     ("plan=4001", |look| {
         let texts = [&look.case.moves, &look.case.steps];
-        look.size(|size, _| size.fits()) && texts.iter().any(|text| text.starts_with(b"plan=4001\n"))
+        look.compiles() && texts.iter().any(|text| text.starts_with(b"plan=4001\n"))
     }),
+    ("no costs", |look| look.compiles() && look.costs.is_none()),
+    ("no costs, bad bytes", |look| look.compiles() && look.costs.is_none() && read_costs(&look.case.costs).is_err()),
+    ("costs of 0", |look| look.costs(|costs| costs.iter().all(|cost| *cost == 0))),
+    ("costs of 3600", |look| look.costs(|costs| costs[1..].iter().all(|cost| *cost == MOST_COST))),
+    ("house costs", |look| look.costs(|costs| *costs == HOUSE_COSTS)),
+    ("empty costs", |look| look.bad_costs(|place, line| place == 1 && line.is_none())),
+    ("costs=15", |look| look.bad_costs(|_, line| line == Some(b"costs=15"))),
+    ("costs=17", |look| look.bad_costs(|_, line| line == Some(b"costs=17"))),
+    ("cost of 3601", |look| look.bad_costs(|_, line| line == Some(b"c=3601"))),
+    ("class 0 above 0", |look| look.bad_costs(|place, line| place == 2 && line == Some(b"c=1"))),
+    ("cost of wrong form", |look| look.bad_costs(|place, line| place > 1 && line.is_some_and(|line| !is_cost(line)))),
+    ("cost missing", |look| look.bad_costs(|place, line| place > 1 && line.is_none())),
+    ("cost extra", |look| look.bad_costs(|place, line| place == 18 && line.is_some_and(is_cost))),
+    ("bad job and costs", |look| look.job.is_none() && look.costs_are_bad()),
+    ("too large and bad costs", |look| look.size(|size, _| !size.fits()) && look.costs_are_bad()),
+    ("bad costs and moves", |look| look.costs_are_bad() && matches!(look.moves(), Some(Err(_)))),
+    ("bad costs and steps", |look| look.costs_are_bad() && matches!(look.steps(), Some(Err(_)))),
 ];
+
+/// A plan text as it is read.
+type Plan = Result<Vec<u16>, Refusal>;
 
 /// A job, and the size of its program.
 struct Measured {
@@ -50,23 +71,41 @@ struct Measured {
     size: Size,
 }
 
-/// A case, with its job where it is read, and otherwise the line that is refused by reason 2.
+/// A case, with its job where it is read, and otherwise the line that is refused by reason 2; and with its costs text
+/// as it is read, where one is handed in.
 pub struct Look<'a> {
     case: &'a Case,
     job: Option<Measured>,
     refused_line: Option<&'a [u8]>,
+    costs: Option<Result<ClassCosts, Refusal>>,
 }
 
 /// Whether the case meets each limit.
 pub fn edges(case: &Case) -> [bool; EDGES.len()] {
     let read = read_job(&case.job);
     let refused_line = match read {
-        Err(Refusal { number: 2, place }) => case.job.split(|byte| *byte == b'\n').nth(place - 1),
+        Err(Refusal { number: 2, place }) => line_of(&case.job, place),
         _ => None,
     };
     let job = read.ok().map(|job| Measured { size: program_size(&job), job });
-    let look = Look { case, job, refused_line };
+    let look = Look { case, job, refused_line, costs: case.texts().costs.map(read_costs) };
     EDGES.map(|(_, meets)| meets(&look))
+}
+
+/// A line of a text by its number, without its line feed; none past the last.
+fn line_of(text: &[u8], place: usize) -> Option<&[u8]> {
+    let line = text.split_inclusive(|byte| *byte == b'\n').nth(place - 1)?;
+    Some(line.strip_suffix(b"\n").unwrap_or(line))
+}
+
+/// Whether a plan that is read has as many entries as are allowed.
+fn is_longest(plan: Option<Plan>) -> bool {
+    matches!(plan, Some(Ok(entries)) if entries.len() == usize::from(MOST_ENTRIES))
+}
+
+/// Whether a line is of the form of a cost.
+fn is_cost(line: &[u8]) -> bool {
+    line.strip_prefix(b"c=").is_some_and(|value| !value.is_empty() && value.iter().all(u8::is_ascii_digit))
 }
 
 impl Look<'_> {
@@ -79,10 +118,39 @@ impl Look<'_> {
         self.job.as_ref().is_some_and(|own| holds(own.size, own.job.facts))
     }
 
-    /// Whether a plan text has as many entries as are allowed.
-    fn entries(&self, text: &[u8], key: u8, bound: impl Fn(&Job) -> usize) -> bool {
-        let most = usize::from(MOST_ENTRIES);
+    fn compiles(&self) -> bool {
         self.size(|size, _| size.fits())
-            && self.job(|job| read_plan(text, key, bound(job)).is_ok_and(|entries| entries.len() == most))
+    }
+
+    /// Whether a costs text is handed in and read, for a job that compiles, and something holds of the costs.
+    fn costs(&self, holds: impl Fn(&ClassCosts) -> bool) -> bool {
+        self.compiles() && matches!(&self.costs, Some(Ok(costs)) if holds(costs))
+    }
+
+    fn costs_are_bad(&self) -> bool {
+        matches!(self.costs, Some(Err(_)))
+    }
+
+    /// Whether the costs text decides, and something holds of the place and the line there.
+    fn bad_costs(&self, holds: impl Fn(usize, Option<&[u8]>) -> bool) -> bool {
+        let Some(Err(Refusal { place, .. })) = self.costs else {
+            return false;
+        };
+        self.compiles() && holds(place, line_of(&self.case.costs, place))
+    }
+
+    /// The text of moves as it is read, where the job compiles.
+    fn moves(&self) -> Option<Plan> {
+        self.plan(&self.case.moves, b'm', |own| own.job.moves.len())
+    }
+
+    /// The text of steps as it is read, where the job compiles.
+    fn steps(&self) -> Option<Plan> {
+        self.plan(&self.case.steps, b't', |own| own.size.steps as usize)
+    }
+
+    fn plan(&self, text: &[u8], key: u8, bound: impl Fn(&Measured) -> usize) -> Option<Plan> {
+        let own = self.job.as_ref().filter(|own| own.size.fits())?;
+        Some(read_plan(text, key, bound(own)))
     }
 }

@@ -1,9 +1,11 @@
 //! Random cases.
 //!
 //! The mix: jobs come from the generator; 7 of 10 goals are replaced by ones that some complete run reaches. Plans are
-//! walks, walks that are cut, continued or changed, and random lists (`plans`, `walks`). Of each sort of text 23 in 100
-//! are damaged (`damage`, `fields`); a damaged text may still be a right one. `edges` says which limits a case meets.
+//! walks, walks that are cut, continued or changed, and random lists (`plans`, `walks`). In 6 of 10 cases a costs text
+//! is handed in (`costs`). Of each sort of text 23 in 100 are damaged (`damage`, `fields`); a damaged text may still be
+//! a right one. `edges` says which limits a case meets.
 
+mod costs;
 mod damage;
 pub mod edges;
 mod fields;
@@ -13,26 +15,43 @@ mod walks;
 use crate::generator::random::Random;
 use crate::generator::random_jobs::random_job;
 use crate::generator::writer::{job_text, plan_text};
+use crate::library::{Given, COSTS_GIVEN};
 use crate::second::compiler::compile;
+use crate::second::expected::Texts;
+use costs::{random_bits, random_costs};
 use damage::damage;
 use plans::{random_plans, Plans};
 
-/// A job text, a text of moves and a text of steps.
+/// A job text, a text of moves, a text of steps, the bytes of a costs text, and the bits that say whether it is handed
+/// in.
 pub struct Case {
     pub job: Vec<u8>,
     pub moves: Vec<u8>,
     pub steps: Vec<u8>,
+    pub costs: Vec<u8>,
+    pub bits: u32,
 }
 
 impl Case {
     pub fn random(random: &mut Random) -> Case {
         let mut case = Case::undamaged(random);
-        for text in [&mut case.job, &mut case.moves, &mut case.steps] {
+        for text in [&mut case.job, &mut case.moves, &mut case.steps, &mut case.costs] {
             if random.chance(230) {
                 damage(random, text);
             }
         }
         case
+    }
+
+    /// What may be left out, as the library takes it.
+    pub fn given(&self) -> Given<'_> {
+        Given { costs: &self.costs, bits: self.bits }
+    }
+
+    /// The texts that are handed in.
+    pub fn texts(&self) -> Texts<'_> {
+        let costs = (self.bits & COSTS_GIVEN != 0).then_some(&self.costs[..]);
+        Texts { job: &self.job, moves: &self.moves, steps: &self.steps, costs }
     }
 
     /// The plans are empty where the job doesn't compile.
@@ -44,6 +63,12 @@ impl Case {
         };
         job.goal = plans.goal;
         let [move_key, step_key] = random.weighted(&[(98, ["m", "t"]), (1, ["t", "m"]), (1, ["m", "m"])]);
-        Case { job: job_text(&job), moves: plan_text(move_key, &plans.moves), steps: plan_text(step_key, &plans.steps) }
+        Case {
+            job: job_text(&job),
+            moves: plan_text(move_key, &plans.moves),
+            steps: plan_text(step_key, &plans.steps),
+            costs: random_costs(random),
+            bits: random_bits(random),
+        }
     }
 }

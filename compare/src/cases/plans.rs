@@ -7,7 +7,7 @@ use crate::generator::random::Random;
 use crate::second::compiler::Compiled;
 use crate::second::domain::Domain;
 use crate::second::fault::Fault;
-use crate::second::job::{Job, MOST_ENTRIES};
+use crate::second::job::{Job, HOUSE_COSTS, MOST_ENTRIES};
 use crate::second::residual::{Residual, NIL};
 use crate::second::runs::Runs;
 use crate::second::steps::Steps;
@@ -21,7 +21,7 @@ pub struct Plans {
 
 /// Random plans for a job that compiles; mostly for a goal that some complete run reaches.
 pub fn random_plans(random: &mut Random, job: &Job, compiled: &Compiled) -> Plans {
-    let domain = Domain::new(job, Fault::None);
+    let domain = Domain::new(job, HOUSE_COSTS, Fault::None);
     let runs = run_graph(&domain);
     let reached = if random.chance(700) { reached_goal(random, &domain, &runs) } else { None };
     let goal = reached.unwrap_or(job.goal);

@@ -39,6 +39,10 @@ impl Operation {
         matches!(self, LeastCost | Judge)
     }
 
+    pub fn takes_costs(self) -> bool {
+        !matches!(self, ReadJob | Compile)
+    }
+
     /// The plan text that the operation takes.
     pub fn plan(self, case: &Case) -> Option<&[u8]> {
         match self {
@@ -53,10 +57,10 @@ impl Operation {
         match self {
             ReadJob => library::read_job(&case.job),
             Compile => library::compile(&case.job, list),
-            CheckMoves => library::check_moves(&case.job, &case.moves, list),
-            CheckSteps => library::check_steps(&case.job, &case.steps, list),
-            LeastCost => library::least_cost(&case.job, list, table),
-            Judge => library::judge(&case.job, &case.moves, list, table),
+            CheckMoves => library::check_moves(&case.job, &case.moves, case.given(), list),
+            CheckSteps => library::check_steps(&case.job, &case.steps, case.given(), list),
+            LeastCost => library::least_cost(&case.job, case.given(), list, table),
+            Judge => library::judge(&case.job, &case.moves, case.given(), list, table),
         }
     }
 

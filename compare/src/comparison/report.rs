@@ -19,7 +19,16 @@ pub fn mismatch_text(mismatch: &Mismatch, case: &Case, seed: u64, number: u64) -
     }
     lines.push(text_lines("job text", &case.job));
     lines.extend(mismatch.operation.plan(case).map(|plan| text_lines("plan text", plan)));
+    if mismatch.operation.takes_costs() {
+        lines.push(costs_lines(case));
+    }
     lines.join("\n")
+}
+
+/// The bits of a case and the bytes of its costs text.
+pub fn costs_lines(case: &Case) -> String {
+    let said = case.texts().costs.map_or("not handed in", |_| "handed in");
+    text_lines(&format!("costs text, {said} (bits {:#x})", case.bits), &case.costs)
 }
 
 /// A text line by line; bytes that can't be printed as escapes.

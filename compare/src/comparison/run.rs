@@ -3,7 +3,7 @@
 use std::io::Write;
 
 use super::calls::{Mismatch, Trial};
-use super::report::{mismatch_text, text_lines};
+use super::report::{costs_lines, mismatch_text, text_lines};
 use super::tally::Tally;
 use crate::cases::edges::edges;
 use crate::cases::Case;
@@ -37,6 +37,7 @@ pub fn case_agrees(number: u64, seed: u64, fault: Fault) -> bool {
     print(&text_lines("job text", &case.job));
     print(&text_lines("text of moves", &case.moves));
     print(&text_lines("text of steps", &case.steps));
+    print(&costs_lines(&case));
     let mut tally = Tally::default();
     if let Err(mismatch) = ask_both(&mut random, &case, fault, &mut tally) {
         print(&mismatch_text(&mismatch, &case, seed, number));
@@ -82,7 +83,7 @@ fn first_mismatch(cases: u64, seed: u64, fault: Fault, tally: &mut Tally) -> Opt
 }
 
 fn ask_both(random: &mut Random, case: &Case, fault: Fault, tally: &mut Tally) -> Result<(), Box<Mismatch>> {
-    let expected = Expected::of(&case.job, &case.moves, &case.steps, fault);
+    let expected = Expected::of(&case.texts(), fault);
     Trial::new(random, case, expected).calls(random, tally)
 }
 

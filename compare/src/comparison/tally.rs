@@ -7,14 +7,19 @@ use crate::answer::Answer;
 use crate::cases::edges::EDGES;
 
 /// What is counted apart: refusals by number, otherwise what is said.
-const REFUSALS: [&str; 6] = ["refused 1", "refused 2", "refused 3", "refused 4", "refused 5", "refused 6"];
+const REFUSALS: [&str; 7] = ["refused 1", "refused 2", "refused 3", "refused 4", "refused 5", "refused 6", "refused 7"];
 const SAYINGS: [&str; 8] = ["plan", "blocked", "unfinished", "missed", "least", "dearer", "costs", "none"];
 const DONE: &str = "done";
 
-#[derive(Default)]
 pub struct Tally {
     counts: BTreeMap<(Operation, &'static str), u64>,
     edges: [u64; EDGES.len()],
+}
+
+impl Default for Tally {
+    fn default() -> Tally {
+        Tally { counts: BTreeMap::new(), edges: [0; EDGES.len()] }
+    }
 }
 
 impl Tally {
@@ -83,15 +88,15 @@ fn refusal(answer: Answer) -> Option<&'static str> {
 
 /// All that an operation can answer.
 fn outcomes(operation: Operation) -> Vec<&'static str> {
-    let [one, two, three, four, five, six] = REFUSALS;
+    let [one, two, three, four, five, six, seven] = REFUSALS;
     let [plan, blocked, unfinished, missed, least, dearer, costs, none] = SAYINGS;
     match operation {
         Operation::ReadJob => vec![DONE, one, two, three],
         Operation::Compile => vec![DONE, one, two, three, four, six],
         Operation::CheckMoves | Operation::CheckSteps => {
-            vec![plan, blocked, unfinished, missed, one, two, three, four, five, six]
+            vec![plan, blocked, unfinished, missed, one, two, three, four, seven, five, six]
         }
-        Operation::LeastCost => vec![costs, none, one, two, three, four, six],
-        Operation::Judge => vec![least, dearer, blocked, unfinished, missed, one, two, three, four, five, six],
+        Operation::LeastCost => vec![costs, none, one, two, three, four, seven, six],
+        Operation::Judge => vec![least, dearer, blocked, unfinished, missed, one, two, three, four, seven, five, six],
     }
 }

@@ -1,4 +1,4 @@
-//! Jobs, and the texts of jobs and plans.
+//! Jobs, and the texts of jobs, class costs and plans.
 //!
 //! `random_jobs` draws jobs from random numbers (`random`); `jobs` has certain ones, the benchmarks' among them. Both
 //! use the same sets of moves (`moves`, `formulas`), shapes of programs (`shapes`, `program`) and writer (`writer`).

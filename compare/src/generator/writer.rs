@@ -1,4 +1,4 @@
-//! The texts of jobs and plans.
+//! The texts of jobs, class costs and plans.
 
 use crate::second::job::Job;
 
@@ -18,6 +18,16 @@ pub fn job_text(job: &Job) -> Vec<u8> {
     text.line("goal", &[job.goal]);
     text.count("program", job.rows.len());
     text.lines("p", &job.rows);
+    text.bytes
+}
+
+/// The text of class costs.
+pub fn costs_text(costs: &[u16]) -> Vec<u8> {
+    let mut text = Text::default();
+    text.count("costs", costs.len());
+    for cost in costs {
+        text.line("c", &[*cost]);
+    }
     text.bytes
 }
 

@@ -3,10 +3,7 @@
 use std::cell::OnceCell;
 
 use super::fault::Fault;
-use super::job::{Job, Move};
-
-/// Cost of each class in tenths of a second.
-pub const CLASS_COSTS: [u64; 16] = [0, 5, 12, 20, 30, 45, 60, 90, 120, 180, 240, 360, 600, 900, 1800, 3600];
+use super::job::{ClassCosts, Job, Move};
 
 /// What is true of one state: the value of each formula, and the successor by each move that is applicable.
 pub struct View {
@@ -14,17 +11,18 @@ pub struct View {
     pub successors: Vec<Option<u16>>,
 }
 
-/// The states of a job; what is true of a state is worked out once.
+/// The states of a job and the costs of its moves; what is true of a state is worked out once.
 pub struct Domain<'a> {
     pub job: &'a Job,
+    costs: ClassCosts,
     fault: Fault,
     views: Vec<OnceCell<View>>,
 }
 
 impl<'a> Domain<'a> {
-    pub fn new(job: &'a Job, fault: Fault) -> Self {
+    pub fn new(job: &'a Job, costs: ClassCosts, fault: Fault) -> Self {
         let views = (0..state_count(job)).map(|_| OnceCell::new()).collect();
-        Domain { job, fault, views }
+        Domain { job, costs, fault, views }
     }
 
     /// The value of a formula in a state.
@@ -39,7 +37,12 @@ impl<'a> Domain<'a> {
 
     /// What a move costs.
     pub fn cost(&self, index: u16) -> u64 {
-        CLASS_COSTS[usize::from(self.job.moves[usize::from(index)].class)]
+        self.cost_by(&self.costs, index)
+    }
+
+    /// What a move costs by these class costs.
+    pub fn cost_by(&self, costs: &ClassCosts, index: u16) -> u64 {
+        costs[usize::from(self.job.moves[usize::from(index)].class)].into()
     }
 
     /// Whether the goal holds.

@@ -2,10 +2,10 @@
 
 use super::compiler::{compile_with, Compiled};
 use super::costs::cost_table;
-use super::domain::Domain;
+use super::domain::{state_count, Domain};
 use super::fault::Fault;
-use super::job::{Job, Refusal};
-use super::reader::{read_job, read_plan};
+use super::job::{ClassCosts, Job, Refusal, HOUSE_COSTS};
+use super::reader::{read_costs, read_job, read_plan};
 use super::runs::Runs;
 use super::steps::Steps;
 use super::verdict::Verdict;
@@ -17,17 +17,32 @@ impl From<Refusal> for Answer {
     }
 }
 
-/// What the operations should answer to a job text, a text of moves and a text of steps.
+/// A job text, a text of moves, a text of steps, and the costs text where one is handed in.
+#[derive(Clone, Copy)]
+pub struct Texts<'a> {
+    pub job: &'a [u8],
+    pub moves: &'a [u8],
+    pub steps: &'a [u8],
+    pub costs: Option<&'a [u8]>,
+}
+
+/// What the operations should answer to some texts: `job` is refused by 1 to 3, `built` by 4 too, `known` also by 7.
 pub struct Expected {
     job: Result<Job, Refusal>,
+    built: Result<Built, Refusal>,
     known: Result<Known, Refusal>,
     fault: Fault,
 }
 
-/// All that is known of a job that compiles, with the verdicts of the two plan texts.
-struct Known {
+/// A job that compiles: the list of its steps, and how many numbers its cost table has.
+struct Built {
     compiled: Compiled,
     list: Vec<u16>,
+    cells: usize,
+}
+
+/// All that is known of a job that compiles with its class costs, and the verdicts of the two plan texts.
+struct Known {
     table: Vec<u32>,
     least: Option<u64>,
     moves: Result<Verdict, Refusal>,
@@ -35,25 +50,25 @@ struct Known {
 }
 
 impl Expected {
-    pub fn of(job: &[u8], moves: &[u8], steps: &[u8], fault: Fault) -> Expected {
-        let job = read_job(job);
-        let known = match &job {
-            Ok(job) => compile_with(job, fault).map(|compiled| Known::of(job, compiled, moves, steps, fault)),
-            Err(refusal) => Err(*refusal),
-        };
-        Expected { job, known, fault }
+    pub fn of(texts: &Texts, fault: Fault) -> Expected {
+        let job = read_job(texts.job);
+        let built = same(&job).and_then(|job| Built::of(job, fault));
+        let costs = class_costs(texts.costs, fault);
+        let first = if fault == Fault::CostsFirst { costs } else { same(&built).and(costs) };
+        let known = first.and_then(|costs| Ok(Known::of(same(&job)?, same(&built)?, costs, texts, fault)));
+        Expected { job, built, known, fault }
     }
 
     /// The lengths that list and table need, where the job compiles.
     pub fn lengths(&self) -> Option<(usize, usize)> {
-        self.known.as_ref().ok().map(|known| (known.list.len(), known.table.len()))
+        self.built.as_ref().ok().map(|built| (built.list.len(), built.cells))
     }
 
     /// Reads the job text: facts, formulas, moves, effects, program rows.
     pub fn read_job(&self) -> Answer {
         let count =
             |job: &Job| [usize::from(job.facts), job.formulas.len(), job.moves.len(), job.effects(), job.rows.len()];
-        finish(self.job.as_ref().map(|job| count(job).map(|number| number as u64)).map_err(|refusal| *refusal))
+        finish(same(&self.job).map(|job| count(job).map(|number| number as u64)))
     }
 
     /// Compiles the program: positions and steps.
@@ -82,10 +97,11 @@ impl Expected {
     }
 
     fn compiled(&self, list: &mut [u16]) -> Result<[u64; 5], Refusal> {
-        let known = self.known()?;
-        room(list.len(), known.list.len())?;
-        known.fill_list(list);
-        Ok([known.compiled.positions as u64, known.compiled.steps.len() as u64, 0, 0, 0])
+        let built = same(&self.built)?;
+        room(list.len(), built.list.len())?;
+        built.fill_list(list);
+        let [positions, steps] = built.sizes();
+        Ok([positions, steps, 0, 0, 0])
     }
 
     fn checked(
@@ -93,18 +109,18 @@ impl Expected {
         sort: impl Fn(&Known) -> Result<Verdict, Refusal>,
         list: &mut [u16],
     ) -> Result<[u64; 5], Refusal> {
-        let known = self.known()?;
+        let (known, built) = self.known()?;
         let verdict = sort(known)?;
-        room(list.len(), known.list.len())?;
-        known.fill_list(list);
+        room(list.len(), built.list.len())?;
+        built.fill_list(list);
         let [number, value] = numbers(verdict);
         Ok([number, value, 0, 0, 0])
     }
 
     fn searched(&self, list: &mut [u16], table: &mut [u32]) -> Result<[u64; 5], Refusal> {
-        let known = self.known()?;
-        self.both_rooms(known, list.len(), table.len())?;
-        known.fill_list(list);
+        let (known, built) = self.known()?;
+        self.both_rooms(built, list.len(), table.len())?;
+        built.fill_list(list);
         known.fill_table(table);
         Ok(match known.least {
             Some(cost) => [COSTS, cost, 0, 0, 0],
@@ -113,10 +129,10 @@ impl Expected {
     }
 
     fn judged(&self, list: &mut [u16], table: &mut [u32]) -> Result<[u64; 5], Refusal> {
-        let known = self.known()?;
+        let (known, built) = self.known()?;
         let verdict = known.moves?;
-        self.both_rooms(known, list.len(), table.len())?;
-        known.fill_list(list);
+        self.both_rooms(built, list.len(), table.len())?;
+        built.fill_list(list);
         let [number, value] = numbers(verdict);
         let [number, value, least] = match (verdict, known.least) {
             (Verdict::Plan(cost), Some(least)) => {
@@ -125,39 +141,66 @@ impl Expected {
             }
             _ => [number, value, 0],
         };
-        Ok([known.compiled.positions as u64, known.compiled.steps.len() as u64, number, value, least])
+        let [positions, steps] = built.sizes();
+        Ok([positions, steps, number, value, least])
     }
 
-    fn known(&self) -> Result<&Known, Refusal> {
-        self.known.as_ref().map_err(|refusal| *refusal)
+    fn known(&self) -> Result<(&Known, &Built), Refusal> {
+        Ok((same(&self.known)?, same(&self.built)?))
     }
 
-    fn both_rooms(&self, known: &Known, list: usize, table: usize) -> Result<(), Refusal> {
+    fn both_rooms(&self, built: &Built, list: usize, table: usize) -> Result<(), Refusal> {
         if self.fault == Fault::TableFirst {
-            room(table, known.table.len())?;
+            room(table, built.cells)?;
         }
-        room(list, known.list.len())?;
-        room(table, known.table.len())
+        room(list, built.list.len())?;
+        room(table, built.cells)
     }
 }
 
-impl Known {
-    fn of(job: &Job, compiled: Compiled, moves: &[u8], steps: &[u8], fault: Fault) -> Known {
-        let domain = Domain::new(job, fault);
-        let mut runs = Runs::new(&domain, fault);
-        let moves = read_plan(moves, b'm', job.moves.len()).map(|moves| runs.verdict(&moves));
-        let path = Steps::new(&domain, &compiled);
-        let steps = read_plan(steps, b't', compiled.steps.len()).map(|steps| path.verdict(&steps, fault));
-        let table = cost_table(&path);
-        Known { list: compiled.steps.concat(), table, least: runs.least(), moves, steps, compiled }
+impl Built {
+    fn of(job: &Job, fault: Fault) -> Result<Built, Refusal> {
+        let compiled = compile_with(job, fault)?;
+        Ok(Built { list: compiled.steps.concat(), cells: state_count(job) * compiled.positions, compiled })
+    }
+
+    /// Positions and steps.
+    fn sizes(&self) -> [u64; 2] {
+        [self.compiled.positions, self.compiled.steps.len()].map(|number| number as u64)
     }
 
     fn fill_list(&self, list: &mut [u16]) {
         list[..self.list.len()].copy_from_slice(&self.list);
     }
+}
+
+impl Known {
+    fn of(job: &Job, built: &Built, costs: ClassCosts, texts: &Texts, fault: Fault) -> Known {
+        let compiled = &built.compiled;
+        let domain = Domain::new(job, costs, fault);
+        let mut runs = Runs::new(&domain, fault);
+        let moves = read_plan(texts.moves, b'm', job.moves.len()).map(|moves| runs.verdict(&moves));
+        let path = Steps::new(&domain, compiled);
+        let steps = read_plan(texts.steps, b't', compiled.steps.len()).map(|steps| path.verdict(&steps, fault));
+        Known { table: cost_table(&path), least: runs.least(), moves, steps }
+    }
 
     fn fill_table(&self, table: &mut [u32]) {
         table[..self.table.len()].copy_from_slice(&self.table);
+    }
+}
+
+/// What is there, or the same refusal.
+fn same<T>(result: &Result<T, Refusal>) -> Result<&T, Refusal> {
+    result.as_ref().map_err(|refusal| *refusal)
+}
+
+/// The class costs of a costs text, or the house's where none is handed in; refusal 7.
+fn class_costs(text: Option<&[u8]>, fault: Fault) -> Result<ClassCosts, Refusal> {
+    match text {
+        None => Ok(HOUSE_COSTS),
+        Some([]) if fault == Fault::EmptyCosts => Ok(HOUSE_COSTS),
+        Some(text) => read_costs(text),
     }
 }
 

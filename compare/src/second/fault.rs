@@ -18,10 +18,16 @@ pub enum Fault {
     LateSteps,
     /// A table that is too short is looked at before the list.
     TableFirst,
+    /// The least cost is found by the house's class costs, whatever costs text is handed in.
+    HouseLeast,
+    /// An empty costs text is taken for none.
+    EmptyCosts,
+    /// The costs text is looked at before the job text.
+    CostsFirst,
 }
 
 /// The faults by their names on the command line.
-pub const FAULTS: [(&str, Fault); 7] = [
+pub const FAULTS: [(&str, Fault); 10] = [
     ("star", Fault::Star),
     ("effects", Fault::Effects),
     ("clear-last", Fault::ClearLast),
@@ -29,6 +35,9 @@ pub const FAULTS: [(&str, Fault); 7] = [
     ("free-loops", Fault::FreeLoops),
     ("late-steps", Fault::LateSteps),
     ("table-first", Fault::TableFirst),
+    ("house-least", Fault::HouseLeast),
+    ("empty-costs", Fault::EmptyCosts),
+    ("costs-first", Fault::CostsFirst),
 ];
 
 impl Fault {

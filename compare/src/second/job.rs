@@ -1,4 +1,4 @@
-//! Jobs, their limits, and refusals.
+//! Jobs, class costs, their limits, and refusals.
 
 /// The highest number of facts.
 pub const MOST_FACTS: u16 = 12;
@@ -12,8 +12,16 @@ pub const MOST_EFFECTS: u16 = 16;
 pub const MOST_ROWS: u16 = 128;
 /// The number of cost classes.
 pub const CLASSES: u16 = 16;
+/// The highest cost of a class.
+pub const MOST_COST: u16 = 3600;
 /// The highest number of entries of a plan.
 pub const MOST_ENTRIES: u16 = 4000;
+
+/// The cost of each class in tenths of a second.
+pub type ClassCosts = [u16; CLASSES as usize];
+
+/// The costs that hold where no others are handed in.
+pub const HOUSE_COSTS: ClassCosts = [0, 5, 12, 20, 30, 45, 60, 90, 120, 180, 240, 360, 600, 900, 1800, 3600];
 
 /// A move: its precondition, its cost class and its effects `[condition, fact, value]`.
 #[derive(Clone, Debug, PartialEq, Eq)]

@@ -1,4 +1,4 @@
-//! Job texts and plan texts, and the refusals 1, 2, 3 and 5.
+//! Job texts, costs texts and plan texts, and the refusals 1, 2, 3, 7 and 5.
 
 use super::job::*;
 use super::lines::Lines;
@@ -6,6 +6,25 @@ use super::lines::Lines;
 /// Reads a job text; refused by 1 to 3.
 pub fn read_job(text: &[u8]) -> Result<Job, Refusal> {
     JobReader { lines: Lines::new(text) }.job()
+}
+
+/// Reads a costs text, by document 02: `costs=16`, then the cost of each class; refused by 7.
+pub fn read_costs(text: &[u8]) -> Result<ClassCosts, Refusal> {
+    let mut lines = Lines::new(text);
+    let wrong = |place| Refusal { number: 7, place };
+    let [count] = lines.row(b"costs").map_err(wrong)?;
+    if count != CLASSES {
+        return Err(wrong(lines.read()));
+    }
+    let mut costs = ClassCosts::default();
+    for (class, cost) in costs.iter_mut().enumerate() {
+        [*cost] = lines.row(b"c").map_err(wrong)?;
+        if *cost > MOST_COST || (class == 0 && *cost != 0) {
+            return Err(wrong(lines.read()));
+        }
+    }
+    lines.end().map_err(wrong)?;
+    Ok(costs)
 }
 
 /// Reads a plan text whose entries have the key `key` and are below `bound`; refused by 5.

@@ -5,6 +5,7 @@ use std::collections::BinaryHeap;
 
 use super::domain::{state_count, Domain};
 use super::fault::Fault;
+use super::job::HOUSE_COSTS;
 use super::residual::{Label, Residual, Residuals, Transition, NIL};
 use super::verdict::Verdict;
 
@@ -107,7 +108,7 @@ impl<'a> Runs<'a> {
                 continue;
             }
             for (made, to) in self.next(from) {
-                let reached = cost + made.map_or(0, |index| self.domain.cost(index));
+                let reached = cost + made.map_or(0, |index| self.searched_cost(index));
                 if best.lower(to, reached) {
                     open.push(Reverse((reached, to)));
                 } else if self.fault == Fault::FreeLoops && made.is_none() {
@@ -116,6 +117,14 @@ impl<'a> Runs<'a> {
             }
         }
         None
+    }
+
+    /// What a move costs while the least cost is looked for.
+    fn searched_cost(&self, index: u16) -> u64 {
+        if self.fault == Fault::HouseLeast {
+            return self.domain.cost_by(&HOUSE_COSTS, index);
+        }
+        self.domain.cost(index)
     }
 }
 

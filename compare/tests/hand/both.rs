@@ -3,6 +3,7 @@
 use jesmovit_compare::answer::Answer;
 use jesmovit_compare::cases::Case;
 use jesmovit_compare::comparison::operation::{Operation, OPERATIONS};
+use jesmovit_compare::library::COSTS_GIVEN;
 use jesmovit_compare::second::expected::Expected;
 use jesmovit_compare::second::fault::Fault;
 
@@ -34,10 +35,32 @@ fn sevens_behind<T: Copy + From<u8>>(front: &[T], length: usize) -> Vec<T> {
     numbers
 }
 
-/// Asks both with a list and a table of these lengths.
+/// A job text, the text of moves or of steps that an operation takes, and the costs text where one is handed in.
+#[derive(Clone, Copy)]
+pub struct Handed<'a> {
+    pub job: &'a [u8],
+    pub plan: &'a [u8],
+    pub costs: Option<&'a [u8]>,
+}
+
+impl Handed<'_> {
+    /// The case of these texts. Where no costs text is handed in its bytes are bad, and only other bits are set.
+    fn case(&self) -> Case {
+        let [job, plan, costs] = [self.job, self.plan, self.costs.unwrap_or(b"bad")].map(<[u8]>::to_vec);
+        let bits = if self.costs.is_some() { COSTS_GIVEN } else { !COSTS_GIVEN };
+        Case { job, moves: plan.clone(), steps: plan, costs, bits }
+    }
+}
+
+/// Asks both with a list and a table of these lengths, and no costs text.
 pub fn ask(operation: Operation, job: &[u8], plan: &[u8], list: usize, table: usize) -> Asked {
-    let case = Case { job: job.to_vec(), moves: plan.to_vec(), steps: plan.to_vec() };
-    let expected = Expected::of(job, plan, plan, Fault::None);
+    ask_with(operation, Handed { job, plan, costs: None }, list, table)
+}
+
+/// Asks both with a list and a table of these lengths.
+pub fn ask_with(operation: Operation, handed: Handed, list: usize, table: usize) -> Asked {
+    let case = handed.case();
+    let expected = Expected::of(&case.texts(), Fault::None);
     let asked = |call: &dyn Fn(&mut [u16], &mut [u32]) -> Answer| {
         let mut lists = sevens_behind(&[], list + GUARDS);
         let mut tables = sevens_behind(&[], table + GUARDS);
@@ -52,8 +75,13 @@ pub fn ask(operation: Operation, job: &[u8], plan: &[u8], list: usize, table: us
 
 /// Demands a refusal that leaves list and table as they were, whatever their lengths.
 pub fn refused(operation: Operation, job: &[u8], plan: &[u8], number: u32, place: u64) {
+    refused_with(operation, Handed { job, plan, costs: None }, number, place);
+}
+
+/// The same with a costs text.
+pub fn refused_with(operation: Operation, handed: Handed, number: u32, place: u64) {
     for (list, table) in [(0, 0), (7, 11), (7, 12), (8, 11), (8, 12), (9, 13), (4096, 12288)] {
-        let asked = ask(operation, job, plan, list, table);
+        let asked = ask_with(operation, handed, list, table);
         assert_eq!(asked.answer, Answer::refused(number, place), "{operation:?}");
         asked.holds(&[], &[]);
     }

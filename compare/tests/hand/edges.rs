@@ -39,7 +39,7 @@ fn positions() {
     table[0] = 0;
     (1..256).for_each(|made| table[2 * 256 + made] = 20 * made as u32);
     let list = (0..255).flat_map(|from| [3, from, from + 1, 0]).collect();
-    let worked = Worked { job: with_rows(&rows), positions: 256, list, table };
+    let worked = Worked { job: with_rows(&rows), costs: None, positions: 256, list, table };
     worked.compiles();
     worked.checks_moves(&[0; 255], [MISSED, 0]);
     worked.checks_steps(&(0..255).collect::<Vec<u16>>(), [MISSED, 0]);
@@ -57,7 +57,7 @@ fn steps() {
     };
     let mut rows = vec![[2, 0, 0, 0], [4, 0, 0, 0], [4, 1, 1, 0], [4, 2, 2, 0], [4, 3, 3, 0]];
     let list = (0..16).flat_map(|from| (0..64).flat_map(move |index| [3, from, from + 1, index])).collect();
-    let worked = Worked { job: text(&rows), positions: 17, list, table: vec![0; 17] };
+    let worked = Worked { job: text(&rows), costs: None, positions: 17, list, table: vec![0; 17] };
     worked.compiles();
     worked.checks_moves(&[63; 16], [PLAN, 0]);
     worked.checks_steps(&(0..16).map(|round| 64 * round + 63).collect::<Vec<u16>>(), [PLAN, 0]);

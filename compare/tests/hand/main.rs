@@ -1,6 +1,7 @@
-//! Expectations worked out by hand from document 01, of the library and of the second implementation.
+//! Expectations worked out by hand from documents 01 and 02, of the library and of the second implementation.
 
 mod both;
+mod costs;
 mod edges;
 mod lengths;
 mod marked;

@@ -6,7 +6,7 @@ use jesmovit_compare::generator::writer::plan_text;
 use jesmovit_compare::second::compiler::compile_with;
 use jesmovit_compare::second::domain::Domain;
 use jesmovit_compare::second::fault::Fault;
-use jesmovit_compare::second::job::Move;
+use jesmovit_compare::second::job::{Move, HOUSE_COSTS};
 use jesmovit_compare::second::reader::read_job;
 use jesmovit_compare::second::steps::Steps;
 use jesmovit_compare::second::verdict::Verdict;
@@ -99,7 +99,7 @@ fn case_8_with_the_faulty_star() {
     let job = read_job(star_of_while().job.as_bytes()).expect("the job reads");
     let compiled = compile_with(&job, Fault::Star).expect("the job compiles");
     assert_eq!(compiled.positions, 5);
-    let domain = Domain::new(&job, Fault::None);
+    let domain = Domain::new(&job, HOUSE_COSTS, Fault::None);
     // Formula 3 holds, move 0, back to the while, and out through the star.
     assert_eq!(Steps::new(&domain, &compiled).verdict(&[1, 0, 3, 4], Fault::None), Verdict::Missed);
 }

@@ -25,6 +25,7 @@ pub fn sample_with(program: &str) -> String {
 pub fn sample() -> Worked {
     Worked {
         job: sample_text(),
+        costs: None,
         positions: 3,
         list: vec![3, 0, 1, 0, 3, 1, 2, 1],
         table: vec![
@@ -41,6 +42,7 @@ pub fn sample() -> Worked {
 pub fn star_of_or() -> Worked {
     Worked {
         job: sample_with("program=4\np=1,0,0,0\np=1,1,0,0\np=6,0,1,0\np=8,2,0,0\n"),
+        costs: None,
         positions: 8,
         list: [
             [3, 2, 3, 0], [3, 4, 5, 1], [0, 1, 2, 0], [0, 1, 4, 0], [0, 3, 6, 0], [0, 5, 6, 0],
@@ -60,6 +62,7 @@ pub fn star_of_or() -> Worked {
 pub fn star_of_while() -> Worked {
     Worked {
         job: sample_with("program=3\np=1,0,0,0\np=7,3,0,0\np=8,1,0,0\n"),
+        costs: None,
         positions: 6,
         list: [
             [3, 2, 3, 0], [1, 1, 2, 3], [2, 1, 4, 3], [0, 3, 1, 0],
@@ -85,6 +88,7 @@ pub fn one_move(effects: &[[u16; 3]]) -> Worked {
     let action = Move { pre: 0, class: 1, effects: effects.to_vec() };
     Worked {
         job: text_of(1, &[[1, 0, 0], [2, 0, 0]], vec![action], 1, &[[1, 0, 0, 0]]),
+        costs: None,
         positions: 2,
         list: vec![3, 0, 1, 0],
         table: vec![0, X, X, 5],
@@ -95,6 +99,7 @@ pub fn one_move(effects: &[[u16; 3]]) -> Worked {
 pub fn nil_at_goal() -> Worked {
     Worked {
         job: sample_with("program=1\np=0,0,0,0\n").replace("init=0", "init=1"),
+        costs: None,
         positions: 2,
         list: vec![0, 0, 1, 0],
         table: vec![X, X, 0, 0, X, X, X, X],

@@ -3,7 +3,9 @@
 
 use std::thread::Builder;
 
-use jesmovit_compare::library;
+use jesmovit_compare::generator::writer::costs_text;
+use jesmovit_compare::library::{self, Given, COSTS_GIVEN, NONE_GIVEN};
+use jesmovit_compare::second::job::HOUSE_COSTS;
 
 use crate::sample::{sample_text, sample_with};
 
@@ -15,20 +17,24 @@ fn deep() -> String {
     sample_with(&format!("program=128\np=1,0,0,0\n{inner}"))
 }
 
-fn all_operations(job: &[u8]) {
+fn all_operations(job: &[u8], given: Given) {
     let (mut list, mut table) = (vec![0; 4096], vec![0; 1024]);
     library::read_job(job);
     library::compile(job, &mut list);
-    library::check_moves(job, b"plan=1\nm=0\n", &mut list);
-    library::check_steps(job, b"plan=1\nt=0\n", &mut list);
-    library::least_cost(job, &mut list, &mut table);
-    library::judge(job, b"plan=2\nm=0\nm=1\n", &mut list, &mut table);
+    library::check_moves(job, b"plan=1\nm=0\n", given, &mut list);
+    library::check_steps(job, b"plan=1\nt=0\n", given, &mut list);
+    library::least_cost(job, given, &mut list, &mut table);
+    library::judge(job, b"plan=2\nm=0\nm=1\n", given, &mut list, &mut table);
 }
 
 #[test]
 fn each_operation_runs_on_the_stack_that_the_header_names() {
     for job in [sample_text(), deep()] {
-        let thread = Builder::new().stack_size(STACK).spawn(move || all_operations(job.as_bytes()));
+        let thread = Builder::new().stack_size(STACK).spawn(move || {
+            let costs = costs_text(&HOUSE_COSTS);
+            all_operations(job.as_bytes(), NONE_GIVEN);
+            all_operations(job.as_bytes(), Given { costs: &costs, bits: COSTS_GIVEN });
+        });
         thread.expect("a thread starts").join().expect("the operations return");
     }
 }

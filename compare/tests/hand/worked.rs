@@ -4,11 +4,12 @@ use jesmovit_compare::answer::{Answer, DEARER, LEAST};
 use jesmovit_compare::comparison::operation::Operation;
 use jesmovit_compare::generator::writer::plan_text;
 
-use crate::both::ask;
+use crate::both::{ask_with, Handed};
 
-/// A job text, with the positions, the step list and the cost table that it should get.
+/// A job text and a costs text, or none, with the positions, the step list and the cost table that they should get.
 pub struct Worked {
     pub job: String,
+    pub costs: Option<Vec<u8>>,
     pub positions: u64,
     pub list: Vec<u16>,
     pub table: Vec<u32>,
@@ -50,8 +51,9 @@ impl Worked {
     fn answers(&self, operation: Operation, plan: &[u8], values: [u64; 5], filled: bool) {
         let needed = [self.list.len(), if operation.takes_table() { self.table.len() } else { 0 }];
         let [lists, tables] = needed.map(|needed| [0, needed.saturating_sub(1), needed, needed + 1]);
+        let handed = Handed { job: self.job.as_bytes(), plan, costs: self.costs.as_deref() };
         for (list, table) in lists.into_iter().flat_map(|list| tables.map(|table| (list, table))) {
-            let asked = ask(operation, self.job.as_bytes(), plan, list, table);
+            let asked = ask_with(operation, handed, list, table);
             if let Some(place) = first_short([list, table], needed) {
                 assert_eq!(asked.answer, Answer::refused(6, place as u64));
                 asked.holds(&[], &[]);

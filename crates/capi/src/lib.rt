@@ -1,13 +1,16 @@
 // The public operations for C, and for every language that calls C: numbers and slices alone, and
 // no `requires`. include/jesmovit.h says the same in C's words.
+ghost use mathlib.Core.List.{[]};
 ghost use Rattle.load.specs.declared.request.Sort.{Sort};
 ghost use Rattle.jesmovit.specs.JobText.{Reads};
 ghost use Rattle.jesmovit.specs.Compiling.{Compiles};
 ghost use Rattle.jesmovit.specs.Checking.{Checks};
 ghost use Rattle.jesmovit.specs.Judging.{CostsLeast, Judges};
 ghost use Rattle.capi.specs.Numbers.{readNumbers, compileNumbers, checkNumbers, leastNumbers, judgeNumbers};
+ghost use Rattle.capi.specs.Given.{givenOf};
 ghost use Rattle.capi.specs.Calls.{Gives};
 
+mod given;
 mod numbers;
 
 // Reads a job text: its counts.
@@ -35,13 +38,17 @@ pub extern "C" fn jesmovit_compile(text: &[u8], list: &mut [u16], answer: &mut [
 pub extern "C" fn jesmovit_check_moves(
     text: &[u8],
     plan: &[u8],
+    costs: &[u8],
+    given: u32,
     list: &mut [u16],
     answer: &mut [u64; 5],
 ) -> u32
-    ensures { λ r. ⌜ Gives checkNumbers (λ a. Checks Sort.Moves (now (text .entry)) (now (plan .entry)) (now (list .entry)) a (now (list .exit))) r
-        (now (answer .exit)) ⌝ }
+    ensures { λ r. ⌜ Gives checkNumbers (λ a. Checks Sort.Moves
+        (record { job = now (text .entry); plan = now (plan .entry); costs = now (costs .entry); given = givenOf given })
+        (now (list .entry)) a (now (list .exit))) r (now (answer .exit)) ⌝ }
 {
-    let a = jesmovit::check_moves(text, plan, list);
+    let g = given::given_in(given);
+    let a = jesmovit::check_moves(text, plan, costs, g, list);
     let n = numbers::of_check(a);
     numbers::hand_out(n, answer)
 }
@@ -51,13 +58,17 @@ pub extern "C" fn jesmovit_check_moves(
 pub extern "C" fn jesmovit_check_steps(
     text: &[u8],
     plan: &[u8],
+    costs: &[u8],
+    given: u32,
     list: &mut [u16],
     answer: &mut [u64; 5],
 ) -> u32
-    ensures { λ r. ⌜ Gives checkNumbers (λ a. Checks Sort.Steps (now (text .entry)) (now (plan .entry)) (now (list .entry)) a (now (list .exit))) r
-        (now (answer .exit)) ⌝ }
+    ensures { λ r. ⌜ Gives checkNumbers (λ a. Checks Sort.Steps
+        (record { job = now (text .entry); plan = now (plan .entry); costs = now (costs .entry); given = givenOf given })
+        (now (list .entry)) a (now (list .exit))) r (now (answer .exit)) ⌝ }
 {
-    let a = jesmovit::check_steps(text, plan, list);
+    let g = given::given_in(given);
+    let a = jesmovit::check_steps(text, plan, costs, g, list);
     let n = numbers::of_check(a);
     numbers::hand_out(n, answer)
 }
@@ -66,14 +77,18 @@ pub extern "C" fn jesmovit_check_steps(
 #[no_mangle]
 pub extern "C" fn jesmovit_least_cost(
     text: &[u8],
+    costs: &[u8],
+    given: u32,
     list: &mut [u16],
     table: &mut [u32],
     answer: &mut [u64; 5],
 ) -> u32
-    ensures { λ r. ⌜ Gives leastNumbers (λ a. CostsLeast (now (text .entry)) (now (list .entry)) (now (table .entry)) a (now (list .exit))
-        (now (table .exit))) r (now (answer .exit)) ⌝ }
+    ensures { λ r. ⌜ Gives leastNumbers (λ a. CostsLeast (record { job = now (text .entry); plan = []; costs = now (costs .entry); given = givenOf given })
+        (record { list = now (list .entry); table = now (table .entry) }) a (record { list = now (list .exit); table = now (table .exit) }))
+        r (now (answer .exit)) ⌝ }
 {
-    let a = jesmovit::least_cost(text, list, table);
+    let g = given::given_in(given);
+    let a = jesmovit::least_cost(text, costs, g, list, table);
     let n = numbers::of_least(a);
     numbers::hand_out(n, answer)
 }
@@ -83,15 +98,19 @@ pub extern "C" fn jesmovit_least_cost(
 pub extern "C" fn jesmovit_judge(
     text: &[u8],
     plan: &[u8],
+    costs: &[u8],
+    given: u32,
     list: &mut [u16],
     table: &mut [u32],
     answer: &mut [u64; 5],
 ) -> u32
-    ensures { λ r. ⌜ Gives judgeNumbers
-        (λ a. Judges (now (text .entry)) (now (plan .entry)) (now (list .entry)) (now (table .entry)) a (now (list .exit)) (now (table .exit)))
+    ensures { λ r. ⌜ Gives judgeNumbers (λ a. Judges
+        (record { job = now (text .entry); plan = now (plan .entry); costs = now (costs .entry); given = givenOf given })
+        (record { list = now (list .entry); table = now (table .entry) }) a (record { list = now (list .exit); table = now (table .exit) }))
         r (now (answer .exit)) ⌝ }
 {
-    let a = jesmovit::judge(text, plan, list, table);
+    let g = given::given_in(given);
+    let a = jesmovit::judge(text, plan, costs, g, list, table);
     let n = numbers::of_judge(a);
     numbers::hand_out(n, answer)
 }

@@ -8,7 +8,7 @@ fn main() {
     let mut text = io::large_buffer();
     let mut list = [0u16; LIST];
     let mut out = io::large_buffer();
-    let got = console::files::read_argument(1, b"job.txt", &mut text);
+    let got = console::arguments::read_argument(1, b"job.txt", &mut text);
     let n = got.count;
     if got.read {
         let answer = jesmovit::compile(&text[..n], &mut list);

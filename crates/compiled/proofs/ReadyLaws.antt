@@ -6,7 +6,7 @@ use mathlib.Core.Path.{_≡_}
 use mathlib.Core.List.{List}
 use native.Mathlib.Omega.{arith}
 use lib.ListN.{length, getD}
-use Rattle.limits.specs.Limits.{mostSteps, mostPositions}
+use Rattle.limits.specs.Limits.{mostSteps, mostPositions, mostCost}
 use Rattle.job.specs.Job.{Job}
 use Rattle.job.specs.Store.{jobOf}
 use Rattle.job.specs.declared.head.Head.{Head}
@@ -15,8 +15,7 @@ use Rattle.semantics.proofs.Bounds.{Bounded}
 use Rattle.semantics.proofs.Compiled.{compiled}
 use Rattle.semantics.proofs.FlatLaws.{steps-at}
 use Rattle.semantics.proofs.Part.{Range}
-use Rattle.domain.specs.Cost.{mostCost}
-use Rattle.domain.specs.Domain.{domainOf, domainIn}
+use Rattle.domain.specs.Domain.{domainIn}
 use Rattle.domain.proofs.DomainLaws.{stored-bounded}
 use Rattle.compile.specs.Program.{programOf}
 use Rattle.compile.proofs.FitLaws.{few-positions, few-steps}
@@ -46,7 +45,7 @@ module _ {head : Head} {rows list : List ℕ} {positions : ℕ} (r : Ready head 
   list-short = omega (arith, r .whole, few-steps j (r .fit))
 
   step-range : (k : ℕ) → k < length list / 4 → Range 0 (end (programOf j) 0) (startIn list k) (getD list (k * 4 + 2) 0)
-  step-range k h = compiled (domainOf j) (programOf j) 0 .range (rw (r .steps) at (steps-at (length list / 4) list k h))
+  step-range k h = compiled (domainIn head rows) (programOf j) 0 .range (rw (r .steps) at (steps-at (length list / 4) list k h))
 
   pub ready-listed : Listed list
   ready-listed = record {

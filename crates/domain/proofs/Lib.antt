@@ -1,6 +1,5 @@
 pub mod FactLaws
 pub mod ValueLaws
 pub mod EffectLaws
-pub mod CostLaws
 pub mod SuccessorLaws
 pub mod DomainLaws

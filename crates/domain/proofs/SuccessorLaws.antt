@@ -9,11 +9,15 @@ use lib.Dec.{ltb}
 use lib.ListN.{length, getD}
 use borrow.Author.Tests.{lt-ltb, le-ltb}
 use Rattle.job.specs.Job.{Job, Move, moveAt}
+use Rattle.job.specs.Task.{Task}
 use Rattle.domain.specs.State.{values, applied, affected}
 use Rattle.domain.specs.Domain.{effectsOf, holdsIn, successorOf, domainOf, Tells}
 use Rattle.domain.proofs.EffectLaws.{applied-same}
 
-module _ (j : Job) (m w : ℕ) (vs : List Bool) (t : Tells (domainOf j) w vs) (g : m < domainOf j .moves) {x : Move} (e : x ≡ moveAt j m) where
+module _ (a : Task) (m w : ℕ) (vs : List Bool) (t : Tells (domainOf a) w vs) (g : m < domainOf a .moves) {x : Move} (e : x ≡ moveAt (a .job) m) where
+  abbrev j : Job
+  j = a .job
+
   is-move : ltb m (length (j .moves)) ≡ true
   is-move = lt-ltb m (length (j .moves)) g
 
@@ -31,6 +35,6 @@ module _ (j : Job) (m w : ℕ) (vs : List Bool) (t : Tells (domainOf j) w vs) (g
   successor-none p = rw (is-move, ← e, sym (t (x .pre)) ∙ p)
 
 -- past the last move there is none
-pub successor-past : (j : Job) (m w : ℕ) → domainOf j .moves ≤ m → none ≡ domainOf j .successor m w
+pub successor-past : (a : Task) (m w : ℕ) → domainOf a .moves ≤ m → none ≡ domainOf a .successor m w
 unfolding successorOf
-successor-past j m w g = rw (le-ltb m (length (j .moves)) g)
+successor-past a m w g = rw (le-ltb m (length (a .job .moves)) g)

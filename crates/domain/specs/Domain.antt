@@ -1,4 +1,4 @@
--- The domain of a job: a state is a set of facts, as a number (document 01: world).
+-- The domain of a task: a state is a set of facts, as a number (document 01: world).
 use Prim.Native.Nat.{ℕ}
 use mathlib.Core.Path.{_≡_}
 use mathlib.Core.Bool.{Bool, false, cond}
@@ -8,11 +8,11 @@ use lib.Dec.{ltb}
 use lib.ListN.{length, getD, take, drop}
 use Rattle.job.specs.StateCount.{stateCount}
 use Rattle.job.specs.Job.{Job, Move, Effect, moveAt}
-use Rattle.job.specs.Store.{jobOf}
+use Rattle.job.specs.Task.{Task, classCost}
+use Rattle.job.specs.Store.{taskOf}
 use Rattle.job.specs.declared.head.Head.{Head}
 use Rattle.semantics.specs.Domain.{Domain}
 use Rattle.domain.specs.State.{values, affected}
-use Rattle.domain.specs.Cost.{classCost}
 
 -- the lines `e=` of a move
 abbrev pub effectsOf : Job → Move → List Effect
@@ -27,23 +27,24 @@ successorOf j m w =
     let x = moveAt j m in
     cond (ltb m (length (j .moves))) (cond (holdsIn j (x .pre) w) (some (affected (j .formulas) (effectsOf j x) w)) none) none
 
-unfoldable pub costIn : Job → ℕ → ℕ → ℕ
-costIn j m w = classCost (moveAt j m .class)
+-- by the class costs that were loaded
+unfoldable pub costIn : Task → ℕ → ℕ → ℕ
+costIn t m w = classCost (t .costs) (moveAt (t .job) m .class)
 
-abbrev pub domainOf : Job → Domain
-domainOf j = record {
-  states = stateCount (j .scalars .facts);
-  start = j .scalars .init;
-  moves = length (j .moves);
-  successor = successorOf j;
-  holds = holdsIn j;
-  cost = costIn j;
-  goal = holdsIn j (j .scalars .goal);
+abbrev pub domainOf : Task → Domain
+domainOf t = record {
+  states = stateCount (t .job .scalars .facts);
+  start = t .job .scalars .init;
+  moves = length (t .job .moves);
+  successor = successorOf (t .job);
+  holds = holdsIn (t .job);
+  cost = costIn t;
+  goal = holdsIn (t .job) (t .job .scalars .goal);
 }
 
--- the domain of a stored job
+-- the domain of a stored task
 abbrev pub domainIn : Head → List ℕ → Domain
-domainIn head rows = domainOf (jobOf head rows)
+domainIn head rows = domainOf (taskOf head rows)
 
 -- a list of truth values that tells each formula's in a state
 abbrev pub Tells : Domain → ℕ → List Bool → Type 0

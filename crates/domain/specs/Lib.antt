@@ -1,4 +1,3 @@
 pub mod State
-pub mod Cost
 pub mod Domain
 pub mod Successor

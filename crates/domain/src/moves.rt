@@ -2,32 +2,12 @@
 ghost use mathlib.Core.Path.{_≡_};
 ghost use Prim.Native.Nat.{_≤_, _<_};
 ghost use Rattle.job.specs.Stored.{Stored};
-ghost use Rattle.domain.specs.Cost.{mostCost};
+ghost use Rattle.limits.specs.Limits.{mostCost};
 ghost use Rattle.domain.specs.Domain.{domainIn, Tells};
 ghost use Rattle.domain.specs.Successor.{successorIn};
 use crate::Successor;
 use crate::effects::apply_effects;
 use job::head::Head;
-
-// "Cost in tenths of a second, classes 0 to 15".
-const COSTS: [u32; 16] = [
-    0,
-    5,
-    12,
-    20,
-    30,
-    45,
-    60,
-    90,
-    120,
-    180,
-    240,
-    360,
-    600,
-    900,
-    1800,
-    3600,
-];
 
 // How many moves there are.
 pub fn move_count(head: Head, rows: &[u16]) -> u16
@@ -59,6 +39,5 @@ pub fn cost(head: Head, rows: &[u16], values: &[bool], m: u16, state: u16) -> u3
     ensures { λ r. ⌜ (r ≡ domainIn head (now (rows .entry)) .cost m state) × (r ≤ mostCost) ⌝ }
 {
     let made = job::stored::move_at(head, rows, m);
-    let class = made.class as usize;
-    COSTS[class]
+    job::costs::class_cost(rows, made.class) as u32
 }

@@ -8,13 +8,13 @@ use mathlib.Core.List.{List, []}
 use lib.ListN.{length, take}
 use lib.Seq.{sets}
 use Rattle.limits.specs.Limits.{mostEntries}
-use Rattle.job.specs.Store.{jobOf}
+use Rattle.job.specs.Store.{jobOf, taskOf}
 use Rattle.job.specs.Stored.{Stored}
 use Rattle.job.specs.declared.refusal.Refusal.{Refusal}
 use Rattle.semantics.specs.CompilingTable.{flat}
 use Rattle.domain.specs.Domain.{domainIn}
 use Rattle.compile.specs.CompiledJob.{stepsOf, stepCount, fits}
-use Rattle.plans.proofs.PlanTold.{plan-told}
+use Rattle.lists.proofs.ListTold.{plan-told}
 use Rattle.compiled.specs.Ready.{Ready}
 use Rattle.validate.specs.Entries.{EntriesBelow}
 use Rattle.load.specs.Refusals.{Handed, passed, refused, Offer, keyFor, boundFor, textsIn, listNeed, tableNeed, loading}
@@ -23,7 +23,7 @@ use Rattle.load.specs.View.{View, viewOf, viewIn}
 use Rattle.load.specs.declared.loaded.LoadedJob.{LoadedJob}
 use Rattle.load.specs.declared.loaded.Loaded.{Loaded}
 use Rattle.load.proofs.LoadingLaws.{loading-iff, texts-taken}
-use Rattle.load.proofs.PlanLaws.{plan-taken}
+use Rattle.load.proofs.OfferLaws.{plan-taken}
 use Rattle.jesmovit.specs.Answers.{Answers}
 use Rattle.jesmovit.specs.Compiling.{viewSizes}
 use Rattle.jesmovit.proofs.AnswerLaws.{answer-refused}
@@ -40,12 +40,12 @@ module _ {h : Handed} {rows entries : List ℕ} {a : Loaded} (e : Loads h a rows
 
   module _ {l : LoadedJob} (g : a ≡ Loaded.Ready l) where
     abbrev o : Offer
-    o = record { job = jobOf (l .head) rows; entries = take (l .entries) entries }
+    o = record { task = taskOf (l .head) rows; entries = take (l .entries) entries }
 
     passes : passed o ≡ loading h
     passes = ap (λ (x : Loaded). loadedAs x rows entries) (sym g) ∙ e .is
 
-    long : (textsIn h ≡ passed o) × (listNeed (o .job) ≤ h .request .places) × (tableNeed (h .request) (o .job) ≤ h .request .cells)
+    long : (textsIn h ≡ passed o) × (listNeed (o .task .job) ≤ h .request .places) × (tableNeed (h .request) (o .task) ≤ h .request .cells)
     long = loading-iff h o .0 (sym passes)
 
     fitting : Fitting (Loaded.Ready l) rows
@@ -57,7 +57,7 @@ module _ {h : Handed} {rows entries : List ℕ} {a : Loaded} (e : Loads h a rows
     pub load-few : l .entries ≤ mostEntries
     load-few = fitting .1
 
-    pub load-passed : passed (record { job = jobOf (l .head) rows; entries = take (l .entries - 0) entries }) ≡ loading h
+    pub load-passed : passed (record { task = taskOf (l .head) rows; entries = take (l .entries - 0) entries }) ≡ loading h
     load-passed = rw (part-front (l .entries) entries) passes
 
     -- the list has room for the steps
@@ -82,10 +82,10 @@ module _ {h : Handed} {rows entries : List ℕ} {a : Loaded} (e : Loads h a rows
     load-entries f =
         let t = texts-taken h (long .0) in
         let p = plan-taken (h .request) (h .plan) (t .0) o f (t .2) in
-        let r = plan-told (keyFor (h .request .sort)) (boundFor (h .request .sort) (o .job)) (h .plan) (take (l .entries) entries) (p .1) in
-        rw (part-front (l .entries) entries) (record { few = r .0; below = r .1 })
+        let r = plan-told (keyFor (h .request .sort)) (boundFor (h .request .sort) (o .task .job)) (h .plan) (take (l .entries) entries) (p .1) in
+        rw (part-front (l .entries) entries) (record { few = r .few; below = r .each })
 
 -- the sizes of the compiled job are those of its view
 pub sizes-of : {l : LoadedJob} {rows : List ℕ} → Sized l rows
-    → record { positions = l .sizes .positions; steps = l .sizes .steps } ≡ viewSizes (viewOf (record { job = jobOf (l .head) rows; entries = [] }))
+    → record { positions = l .sizes .positions; steps = l .sizes .steps } ≡ viewSizes (viewOf (record { task = taskOf (l .head) rows; entries = [] }))
 sizes-of {l} s = rw (s .positions, s .steps) refl

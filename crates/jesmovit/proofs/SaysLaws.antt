@@ -6,7 +6,7 @@ use mathlib.Core.List.{List}
 use lib.ListN.{length}
 use Rattle.limits.specs.Limits.{mostPositions}
 use Rattle.job.specs.Job.{Job}
-use Rattle.job.specs.Store.{jobOf}
+use Rattle.job.specs.Store.{jobOf, taskOf}
 use Rattle.job.specs.declared.head.Head.{Head}
 use Rattle.semantics.specs.CompilingTable.{end}
 use Rattle.semantics.specs.Verdict.{Verdict}
@@ -36,7 +36,7 @@ module _ (h : Head) (rows plan : List ℕ) where
 
     pub says-moves : {list : List ℕ} {positions : ℕ} → Ready h rows list positions
         → {v : Verdict} → v ≡ verdictBy mostPositions (domainIn h rows) (programOf (jobOf h rows)) plan
-        → Says sort (viewOf (record { job = jobOf h rows; entries = plan })) v
+        → Says sort (viewOf (record { task = taskOf h rows; entries = plan })) v
     says-moves r f = rw (e, f) (verdict-by-judged (domainIn h rows) (programOf j) mostPositions (final-below r) plan)
 
   module _ {sort : Sort} (e : sort ≡ Steps) where
@@ -44,5 +44,5 @@ module _ (h : Head) (rows plan : List ℕ) where
     step-entries x = subst (λ (b : ℕ). EntriesBelow plan b) (ap (λ (s : Sort). boundFor s j) e) x
 
     pub says-steps : {v : Verdict} → v ≡ stepVerdict (domainIn h rows) (stepsOf (jobOf h rows)) (end (programOf (jobOf h rows)) 0) plan
-        → Says sort (viewOf (record { job = jobOf h rows; entries = plan })) v
+        → Says sort (viewOf (record { task = taskOf h rows; entries = plan })) v
     says-steps f = rw (e, f) (step-verdict-judged (domainIn h rows) (stepsOf j) (end (programOf j) 0) plan)

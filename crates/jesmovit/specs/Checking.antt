@@ -9,15 +9,20 @@ use Rattle.load.specs.Refusals.{Handed}
 use Rattle.load.specs.View.{View, viewSteps, finalOf, viewIn}
 use Rattle.load.specs.declared.request.Sort.{Sort}
 use Rattle.load.specs.declared.request.Sort.the-variants.{Moves, Steps}
+use Rattle.jesmovit.specs.Texts.{Texts}
 use Rattle.jesmovit.specs.Outcomes.{checkOutcome}
 use Rattle.jesmovit.specs.Answers.{Answers}
 use Rattle.jesmovit.specs.Compiling.{listAfter}
 use Rattle.jesmovit.specs.declared.checking.CheckAnswer.{CheckAnswer}
 
--- what is handed in: a job text, a plan text, and a list of so many places
-abbrev pub checking : Sort → List ℕ → List ℕ → ℕ → Handed
-checking sort text plan places =
-    record { request = record { plan = true; sort = sort; places = places; table = false; cells = 0 }; job = text; plan = plan }
+-- what is handed in: a job text, a plan text, perhaps a costs text, and a list of so many places
+abbrev pub checking : Sort → Texts → ℕ → Handed
+checking sort t places = record {
+  request = record { given = t .given; plan = true; sort = sort; places = places; table = false; cells = 0 };
+  job = t .job;
+  plan = t .plan;
+  costs = t .costs;
+}
 
 -- a verdict of "Verdicts": on moves by the runs of the program itself, on steps by the paths of the
 -- compiled job
@@ -30,6 +35,5 @@ pub record CheckDone (sort : Sort) (v : View) (w : Verdict) (old new : List ℕ)
   pub says : Says sort v w
   pub list : new ≡ listAfter v old
 
-abbrev pub Checks : Sort → List ℕ → List ℕ → List ℕ → CheckAnswer → List ℕ → Type 0
-Checks sort text plan list answer after =
-    Answers (CheckDone sort) list (viewIn (checking sort text plan (length list))) (checkOutcome answer) after
+abbrev pub Checks : Sort → Texts → List ℕ → CheckAnswer → List ℕ → Type 0
+Checks sort t list answer after = Answers (CheckDone sort) list (viewIn (checking sort t (length list))) (checkOutcome answer) after

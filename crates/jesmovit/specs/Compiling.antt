@@ -10,13 +10,18 @@ use Rattle.compile.specs.declared.sizes.Sizes.{Sizes}
 use Rattle.load.specs.Refusals.{Handed, Checked, passed, refused, next}
 use Rattle.load.specs.View.{View, viewSteps, positionsOf, viewIn}
 use Rattle.load.specs.declared.request.Sort.the-variants.{Moves}
+use Rattle.jesmovit.specs.Texts.{noneGiven}
 use Rattle.jesmovit.specs.Outcomes.{compileOutcome}
 use Rattle.jesmovit.specs.declared.compiling.CompileAnswer.{CompileAnswer}
 
 -- what is handed in: a job text, and a list of so many places
 abbrev pub compiling : List ℕ → ℕ → Handed
-compiling text places =
-    record { request = record { plan = false; sort = Moves; places = places; table = false; cells = 0 }; job = text; plan = [] }
+compiling text places = record {
+  request = record { given = noneGiven; plan = false; sort = Moves; places = places; table = false; cells = 0 };
+  job = text;
+  plan = [];
+  costs = [];
+}
 
 -- "it is filled whenever nothing is refused, and its later entries don't change"
 abbrev pub listAfter : View → List ℕ → List ℕ

@@ -12,6 +12,7 @@ use Rattle.semantics.specs.Judgement.{Judgement, Finds, least, dearer, other}
 use Rattle.load.specs.Refusals.{Handed}
 use Rattle.load.specs.View.{View, viewSteps, positionsOf, viewIn}
 use Rattle.load.specs.declared.request.Sort.the-variants.{Moves}
+use Rattle.jesmovit.specs.Texts.{Texts}
 use Rattle.jesmovit.specs.Outcomes.{leastOutcome, SizedJudgement, judgeOutcome}
 use Rattle.jesmovit.specs.Answers.{Answers}
 use Rattle.jesmovit.specs.Compiling.{listAfter, viewSizes}
@@ -19,15 +20,24 @@ use Rattle.jesmovit.specs.declared.judging.Judgement as Said
 use Rattle.jesmovit.specs.declared.judging.LeastAnswer.{LeastAnswer}
 use Rattle.jesmovit.specs.declared.judging.JudgeAnswer.{JudgeAnswer}
 
--- what is handed in: a job text, a list of so many places and a table of so many cells
-abbrev pub costing : List ℕ → ℕ → ℕ → Handed
-costing text places cells =
-    record { request = record { plan = false; sort = Moves; places = places; table = true; cells = cells }; job = text; plan = [] }
+-- what is handed in: a job text, perhaps a costs text, a list of so many places and a table of so
+-- many cells; there is no plan text
+abbrev pub costing : Texts → ℕ → ℕ → Handed
+costing t places cells = record {
+  request = record { given = t .given; plan = false; sort = Moves; places = places; table = true; cells = cells };
+  job = t .job;
+  plan = [];
+  costs = t .costs;
+}
 
 -- and a list of moves
-abbrev pub judging : List ℕ → List ℕ → ℕ → ℕ → Handed
-judging text plan places cells =
-    record { request = record { plan = true; sort = Moves; places = places; table = true; cells = cells }; job = text; plan = plan }
+abbrev pub judging : Texts → ℕ → ℕ → Handed
+judging t places cells = record {
+  request = record { given = t .given; plan = true; sort = Moves; places = places; table = true; cells = cells };
+  job = t .job;
+  plan = t .plan;
+  costs = t .costs;
+}
 
 -- what is lent: a list and a cost table
 pub record Lent : Type 0 where
@@ -49,10 +59,8 @@ pub record CostDone (v : View) (lowest : Option ℕ) (old new : Lent) : Type 0 w
   pub list : new .list ≡ listAfter v (old .list)
   pub table : TableOf v (old .table) (new .table)
 
-abbrev pub CostsLeast : List ℕ → List ℕ → List ℕ → LeastAnswer → List ℕ → List ℕ → Type 0
-CostsLeast text list table answer steps-after table-after =
-    Answers CostDone (record { list = list; table = table }) (viewIn (costing text (length list) (length table))) (leastOutcome answer)
-    (record { list = steps-after; table = table-after })
+abbrev pub CostsLeast : Texts → Lent → LeastAnswer → Lent → Type 0
+CostsLeast t old answer new = Answers CostDone old (viewIn (costing t (length (old .list)) (length (old .table)))) (leastOutcome answer) new
 
 -- a plan's cost beside the least cost: "least or dearer with both costs"
 abbrev pub compared : ℕ → ℕ → Said.Judgement
@@ -74,7 +82,5 @@ pub record JudgeDone (v : View) (judged : SizedJudgement) (old new : Lent) : Typ
   pub list : new .list ≡ listAfter v (old .list)
   pub found : Found v (judged .judgement) (old .table) (new .table)
 
-abbrev pub Judges : List ℕ → List ℕ → List ℕ → List ℕ → JudgeAnswer → List ℕ → List ℕ → Type 0
-Judges text plan list table answer steps-after table-after =
-    Answers JudgeDone (record { list = list; table = table }) (viewIn (judging text plan (length list) (length table))) (judgeOutcome answer)
-    (record { list = steps-after; table = table-after })
+abbrev pub Judges : Texts → Lent → JudgeAnswer → Lent → Type 0
+Judges t old answer new = Answers JudgeDone old (viewIn (judging t (length (old .list)) (length (old .table)))) (judgeOutcome answer) new

@@ -1,3 +1,4 @@
+pub mod Texts
 pub mod Outcomes
 pub mod Answers
 pub mod JobText

@@ -3,6 +3,7 @@ ghost use Rattle.jesmovit.specs.Compiling.{Compiles};
 use job::refusal::Refusal;
 use job::rows::STORE;
 use load::loaded::Loaded;
+use load::request::Given;
 use load::request::Request;
 use load::request::Sort;
 
@@ -19,14 +20,23 @@ pub fn compile(text: &[u8], list: &mut [u16]) -> CompileAnswer
 {
     let mut rows = [0u16; STORE];
     let mut entries = [0u16; 1];
+    let given = Given { costs: false };
     let request = Request {
+        given: given,
         plan: false,
         sort: Sort::Moves,
         places: list.len(),
         table: false,
         cells: 0,
     };
-    let loaded = load::loading::load(request, text, &text[0..0], &mut rows, &mut entries);
+    let loaded = load::loading::load(
+        request,
+        text,
+        &text[0..0],
+        &text[0..0],
+        &mut rows,
+        &mut entries,
+    );
     let Loaded::Ready(job) = loaded else {
         let r = load::loaded::refusal(loaded);
         return CompileAnswer::Refused(r);

@@ -1,8 +1,10 @@
-// The least cost of a job text, and plan texts judged by it.
+// The least cost of a job text, and plan texts judged by it, by the class costs of a costs text
+// where one is given.
 ghost use mathlib.Core.Path.{_≡_};
+ghost use mathlib.Core.List.{[]};
 ghost use Prim.Native.Nat.{_*_, _≤_};
 ghost use lib.ListN.{length};
-ghost use Rattle.job.specs.Store.{jobOf};
+ghost use Rattle.job.specs.Store.{taskOf};
 ghost use Rattle.domain.specs.Domain.{domainIn};
 ghost use Rattle.compiled.specs.Ready.{Ready};
 ghost use Rattle.validate.specs.Entries.{EntriesBelow};
@@ -14,13 +16,14 @@ use job::refusal::Refusal;
 use job::rows::STORE;
 use limits::ENTRIES;
 use load::loaded::Loaded;
+use load::request::Given;
 use load::request::Request;
 use load::request::Sort;
 use search::Grid;
 use validate::verdict::Verdict;
 
 // The least cost of all plans that the job's program allows, or none where it allows no plan of any
-// length; or why the text, the list or the table is refused.
+// length; or why the texts, the list or the table are refused.
 pub enum LeastAnswer {
     Costs(u32),
     NoPlan,
@@ -42,22 +45,30 @@ pub enum JudgeAnswer {
     Refused(Refusal),
 }
 
-// The least cost. Unless the text, the list or the table is refused, the list's front then holds
+// The least cost. Unless the texts, the list or the table are refused, the list's front then holds
 // the steps of the compiled job, four numbers each, and the table's front the least cost of
 // reaching each state and position.
-pub fn least_cost(text: &[u8], list: &mut [u16], table: &mut [u32]) -> LeastAnswer
-    ensures { λ r. ⌜ CostsLeast (now (text .entry)) (now (list .entry)) (now (table .entry)) r (now (list .exit)) (now (table .exit)) ⌝ }
+pub fn least_cost(
+    text: &[u8],
+    costs: &[u8],
+    given: Given,
+    list: &mut [u16],
+    table: &mut [u32],
+) -> LeastAnswer
+    ensures { λ r. ⌜ CostsLeast (record { job = now (text .entry); plan = []; costs = now (costs .entry); given = given })
+        (record { list = now (list .entry); table = now (table .entry) }) r (record { list = now (list .exit); table = now (table .exit) }) ⌝ }
 {
     let mut rows = [0u16; STORE];
     let mut entries = [0u16; 1];
     let request = Request {
+        given: given,
         plan: false,
         sort: Sort::Moves,
         places: list.len(),
         table: true,
         cells: table.len(),
     };
-    let loaded = load::loading::load(request, text, &text[0..0], &mut rows, &mut entries);
+    let loaded = load::loading::load(request, text, &text[0..0], costs, &mut rows, &mut entries);
     let Loaded::Ready(job) = loaded else {
         let r = load::loaded::refusal(loaded);
         return LeastAnswer::Refused(r);
@@ -89,7 +100,7 @@ fn compare(cost: u32, least: u32) -> Judgement
 // What the entries of a plan are, and the cost table filled if they are a plan. The list holds the
 // compiled job's steps and nothing else.
 fn judge_entries(
-    costs: &mut [u32],
+    table: &mut [u32],
     head: Head,
     rows: &[u16],
     list: &[u16],
@@ -98,34 +109,43 @@ fn judge_entries(
 ) -> Judgement
     requires { ⌜ Ready head (now rows) (now list) (grid .positions) × (grid .states ≡ domainIn head (now rows) .states) ⌝ }
     requires { ⌜ EntriesBelow (now plan) (domainIn head (now rows) .moves) ⌝ }
-    requires { ⌜ domainIn head (now rows) .states * grid .positions ≤ length (now costs) ⌝ }
-    ensures { λ r. ⌜ Found (viewOf (record { job = jobOf head (now (rows .entry)); entries = now (plan .entry) })) (judgementOf r)
-        (now (costs .entry)) (now (costs .exit)) ⌝ }
+    requires { ⌜ domainIn head (now rows) .states * grid .positions ≤ length (now table) ⌝ }
+    ensures { λ r. ⌜ Found (viewOf (record { task = taskOf head (now (rows .entry)); entries = now (plan .entry) })) (judgementOf r)
+        (now (table .entry)) (now (table .exit)) ⌝ }
 {
     let verdict = validate::moves::check_moves(head, rows, list, grid.positions, plan);
     let Verdict::Plan(cost) = verdict else {
         return Judgement::Other(verdict);
     };
-    let least = search::least::least_cost(costs, head, rows, list, grid);
+    let least = search::least::least_cost(table, head, rows, list, grid);
     compare(cost, least)
 }
 
 // Judges a list of moves. Unless the texts, the list or the table are refused, the list's front
 // then holds the steps of the compiled job, four numbers each; for a plan, the table's front then
 // holds the least cost of reaching each state and position.
-pub fn judge(text: &[u8], plan: &[u8], list: &mut [u16], table: &mut [u32]) -> JudgeAnswer
-    ensures { λ r. ⌜ Judges (now (text .entry)) (now (plan .entry)) (now (list .entry)) (now (table .entry)) r (now (list .exit)) (now (table .exit)) ⌝ }
+pub fn judge(
+    text: &[u8],
+    plan: &[u8],
+    costs: &[u8],
+    given: Given,
+    list: &mut [u16],
+    table: &mut [u32],
+) -> JudgeAnswer
+    ensures { λ r. ⌜ Judges (record { job = now (text .entry); plan = now (plan .entry); costs = now (costs .entry); given = given })
+        (record { list = now (list .entry); table = now (table .entry) }) r (record { list = now (list .exit); table = now (table .exit) }) ⌝ }
 {
     let mut rows = [0u16; STORE];
     let mut entries = [0u16; ENTRIES];
     let request = Request {
+        given: given,
         plan: true,
         sort: Sort::Moves,
         places: list.len(),
         table: true,
         cells: table.len(),
     };
-    let loaded = load::loading::load(request, text, plan, &mut rows, &mut entries);
+    let loaded = load::loading::load(request, text, plan, costs, &mut rows, &mut entries);
     let Loaded::Ready(job) = loaded else {
         let r = load::loaded::refusal(loaded);
         return JudgeAnswer::Refused(r);

@@ -3,3 +3,4 @@ pub mod FrontLaws
 pub mod FaultLaws
 pub mod RowLaws
 pub mod StoredLaws
+pub mod CostLaws

@@ -1,5 +1,6 @@
 pub mod StateCount
 pub mod Job
+pub mod Task
 pub mod Line
 pub mod Fields
 pub mod Fault

@@ -1,13 +1,14 @@
--- What the store of a job stands for: a head of numbers, and rows of eight numbers each in one
--- list, every sort from a row of its own on.
+-- What the store of a task stands for: a head of numbers, and in one list the job's rows of eight
+-- numbers each, every sort from a row of its own on, and the class costs behind them.
 use Prim.Native.Nat.{ℕ, zero, suc, _+_, _*_}
 use mathlib.Core.Bool.{cond}
 use mathlib.Core.List.{List, [], _∷_, _++_}
 use mathlib.Core.Option.{Option, none, some}
-use lib.ListN.{getD, take}
-use Rattle.limits.specs.Limits.{mostFormulas, mostMoves, mostEffects, mostProgram}
+use lib.ListN.{getD, take, drop}
+use Rattle.limits.specs.Limits.{mostFormulas, mostMoves, mostEffects, mostProgram, classCount}
 use Rattle.job.specs.Job as J
 use Rattle.job.specs.Job.{Job, formulaOf, moveOf, effectOf, rowOf}
+use Rattle.job.specs.Task.{Task}
 use Rattle.job.specs.Line.{formOf}
 use Rattle.job.specs.declared.head.Head.{Head}
 use Rattle.job.specs.declared.line.Line.{Line}
@@ -28,7 +29,8 @@ effectCount = 2
 abbrev pub firstEffect : ℕ
 firstEffect = 7
 
--- where the rows of each sort begin, how many rows there are in all, and how many numbers they take
+-- where the rows of each sort begin, how many rows there are in all, where the class costs begin,
+-- and how many numbers they all take
 abbrev pub formulasFrom : ℕ
 formulasFrom = 0
 
@@ -44,8 +46,11 @@ programFrom = effectsFrom + mostEffects
 abbrev pub allRows : ℕ
 allRows = programFrom + mostProgram
 
+abbrev pub costsFrom : ℕ
+costsFrom = allRows * width
+
 abbrev pub storeSize : ℕ
-storeSize = allRows * width
+storeSize = costsFrom + classCount
 
 -- row i of a list of rows
 abbrev pub rowAt : List ℕ → ℕ → List ℕ
@@ -70,6 +75,12 @@ jobOf h l = record {
   effects = rowsFrom effectOf l effectsFrom (h .counts .effects);
   program = rowsFrom rowOf l programFrom (h .counts .program);
 }
+
+abbrev pub storedCosts : List ℕ → List ℕ
+storedCosts l = take classCount (drop costsFrom l)
+
+abbrev pub taskOf : Head → List ℕ → Task
+taskOf h l = record { job = jobOf h l; costs = storedCosts l }
 
 -- the rows that the code reads by name
 abbrev pub formulaIn : Formula → J.Formula

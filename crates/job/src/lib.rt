@@ -1,4 +1,5 @@
-// A job: its head of numbers, its rows, and which reason refuses a line of its text.
+// A job: its head of numbers, its rows, which reason refuses a line of its text, and class costs.
+pub mod costs;
 pub mod fault;
 pub mod fields;
 pub mod head;

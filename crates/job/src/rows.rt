@@ -1,6 +1,7 @@
-// The rows of a job in one array, eight numbers a row, every sort from a row of its own on.
+// The rows of a job in one array, eight numbers a row, every sort from a row of its own on; its
+// class costs stand behind them.
 ghost use mathlib.Core.Path.{_≡_};
-ghost use Prim.Native.Nat.{_*_, _<_};
+ghost use Prim.Native.Nat.{_+_, _*_, _≤_, _<_};
 ghost use lib.ListN.{length, getD, set};
 ghost use lib.Seq.{sets};
 ghost use Rattle.job.specs.Store.{allRows, width, storeSize, firstEffect, effectCount, rowAt};
@@ -22,8 +23,11 @@ pub const PROGRAM_FROM: u16 = EFFECTS_FROM + limits::EFFECTS;
 
 const ALL_ROWS: u16 = PROGRAM_FROM + limits::PROGRAM;
 
-// How many numbers the rows take: 11,768, of two bytes each.
-pub const STORE: usize = (ALL_ROWS as usize) * WIDTH;
+// Where the class costs begin: the rows take 11,768 numbers, of two bytes each.
+pub const COSTS_FROM: usize = (ALL_ROWS as usize) * WIDTH;
+
+// How many numbers there are in all.
+pub const STORE: usize = COSTS_FROM + limits::CLASSES;
 
 // How many effects a move has, by the numbers of its line.
 pub fn effect_count(line: [u16; WIDTH]) -> u16
@@ -59,15 +63,22 @@ pub fn row_at(rows: &[u16], i: u16) -> [u16; WIDTH]
     ]
 }
 
+// Numbers written over those from a place on.
+pub(crate) fn put(rows: &mut [u16], at: usize, numbers: &[u16])
+    requires { ⌜ at + length (now numbers) ≤ length (now rows) ⌝ }
+    ensures { λ _. ⌜ now (rows .exit) ≡ sets (now (rows .entry)) at (now (numbers .entry)) ⌝ }
+{
+    let mut k: usize = 0;
+    while k < numbers.len() {
+        rows[at + k] = numbers[k];
+        k += 1;
+    }
+}
+
 // Row i, written anew.
 pub fn put_row(rows: &mut [u16], i: u16, numbers: [u16; WIDTH])
     requires { ⌜ (i < allRows) × (length (now rows) ≡ storeSize) ⌝ }
     ensures { λ _. ⌜ now (rows .exit) ≡ sets (now (rows .entry)) (i * width) numbers ⌝ }
 {
-    let at = (i as usize) * WIDTH;
-    let mut k: usize = 0;
-    while k < WIDTH {
-        rows[at + k] = numbers[k];
-        k += 1;
-    }
+    put(rows, (i as usize) * WIDTH, &numbers)
 }

@@ -1,6 +1,7 @@
-// judge JOB PLAN: the compiled job, and what the list of moves is among the plans that the job's
-// program allows, each text in the file that its argument names (job.txt and plan.txt without one),
-// or the refusal.
+// judge JOB PLAN [COSTS]: the compiled job, and what the list of moves is among the plans that the
+// job's program allows, each text in the file that its argument names (job.txt and plan.txt without
+// one), or the refusal. Without COSTS, or with `-`, the house's class costs hold.
+use load::request::Given;
 
 // How many numbers the list of steps and the cost table hold.
 const LIST: usize = limits::STEPS * 4;
@@ -10,14 +11,26 @@ const TABLE: usize = 12288;
 fn main() {
     let mut text = io::large_buffer();
     let mut plan = io::large_buffer();
+    let mut costs = io::large_buffer();
     let mut list = [0u16; LIST];
     let mut table = [0u32; TABLE];
     let mut out = io::large_buffer();
-    let got = console::files::read_texts(&mut text, &mut plan);
+    let got = console::texts::read_texts(&mut text, &mut plan, &mut costs);
     let n = got.job;
     let m = got.plan;
+    let k = got.costs;
     if got.read {
-        let answer = jesmovit::judge(&text[..n], &plan[..m], &mut list, &mut table);
+        let given = Given {
+            costs: got.costs_given,
+        };
+        let answer = jesmovit::judge(
+            &text[..n],
+            &plan[..m],
+            &costs[..k],
+            given,
+            &mut list,
+            &mut table,
+        );
         let end = report::judge(answer, &list, &mut out);
         console::print::text(&out[..end]);
     }

@@ -1,29 +1,35 @@
-// large_table JOB: what least_cost JOB prints, with a cost table that has room for every job:
-// twelve facts and 256 positions.
+// large_table JOB [COSTS]: what least_cost JOB [COSTS] prints, with a cost table that has room for
+// every job: twelve facts and 256 positions.
+use load::request::Given;
 
 // How many numbers the list of steps and the cost table hold.
 const LIST: usize = limits::STEPS * 4;
 
 const TABLE: usize = limits::STATES * limits::POSITIONS;
 
-fn print_cost(text: &[u8], table: &mut [u32]) {
+fn print_cost(text: &[u8], costs: &[u8], given: Given, table: &mut [u32]) {
     let mut list = [0u16; LIST];
     let mut out = io::buffer();
-    let answer = jesmovit::least_cost(text, &mut list, table);
+    let answer = jesmovit::least_cost(text, costs, given, &mut list, table);
     let end = report::least_cost(answer, &mut out);
     console::print::text(&out[..end]);
 }
 
-fn print_cost_of(text: &[u8]) {
+fn print_cost_of(text: &[u8], costs: &[u8], given: Given) {
     let mut table = [0u32; TABLE];
-    print_cost(text, &mut table);
+    print_cost(text, costs, given, &mut table);
 }
 
 fn main() {
     let mut text = io::large_buffer();
-    let got = console::files::read_argument(1, b"job.txt", &mut text);
-    let n = got.count;
+    let mut costs = io::large_buffer();
+    let got = console::texts::read_job_texts(&mut text, &mut costs);
+    let n = got.job;
+    let k = got.costs;
     if got.read {
-        print_cost_of(&text[..n]);
+        let given = Given {
+            costs: got.costs_given,
+        };
+        print_cost_of(&text[..n], &costs[..k], given);
     }
 }

@@ -1,5 +1,7 @@
-// least_cost JOB: the least cost of all plans that the program of the job allows, or that there is
-// none, for the job in the file that the argument names (job.txt without one), or its refusal.
+// least_cost JOB [COSTS]: the least cost of all plans that the program of the job allows, or that
+// there is none, each text in the file that its argument names (job.txt without one), or the
+// refusal. Without COSTS, or with `-`, the house's class costs hold.
+use load::request::Given;
 
 // How many numbers the list of steps and the cost table hold.
 const LIST: usize = limits::STEPS * 4;
@@ -8,13 +10,18 @@ const TABLE: usize = 12288;
 
 fn main() {
     let mut text = io::large_buffer();
+    let mut costs = io::large_buffer();
     let mut list = [0u16; LIST];
     let mut table = [0u32; TABLE];
     let mut out = io::large_buffer();
-    let got = console::files::read_argument(1, b"job.txt", &mut text);
-    let n = got.count;
+    let got = console::texts::read_job_texts(&mut text, &mut costs);
+    let n = got.job;
+    let k = got.costs;
     if got.read {
-        let answer = jesmovit::least_cost(&text[..n], &mut list, &mut table);
+        let given = Given {
+            costs: got.costs_given,
+        };
+        let answer = jesmovit::least_cost(&text[..n], &costs[..k], given, &mut list, &mut table);
         let end = report::least_cost(answer, &mut out);
         console::print::text(&out[..end]);
     }

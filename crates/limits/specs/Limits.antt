@@ -1,5 +1,5 @@
--- The limits of document 01. `src/lib.rt` has the same numbers.
-use Prim.Native.Nat.{ℕ, _*_, _^_}
+-- The limits of documents 01 and 02. `src/lib.rt` has the same numbers.
+use Prim.Native.Nat.{ℕ, suc, _*_, _^_}
 
 -- "`facts=F`, 0 to 12"
 abbrev pub mostFacts : ℕ
@@ -30,6 +30,13 @@ mostEffects = mostMoves * mostMoveEffects
 -- "`program=P`, 1 to 128"
 abbrev pub mostProgram : ℕ
 mostProgram = 128
+
+-- "The sixteen class costs", "each 0 to 3,600"
+abbrev pub classCount : ℕ
+classCount = suc lastClass
+
+abbrev pub mostCost : ℕ
+mostCost = 3600
 
 -- "At most 256 positions and 1,024 steps."
 abbrev pub mostPositions : ℕ

@@ -1,5 +1,5 @@
-// The limits of a job, of its compiled job and of a plan. `specs/Limits.antt` has the same numbers,
-// each under its sentence.
+// The limits of a job, of its class costs, of its compiled job and of a plan.
+// `specs/Limits.antt` has the same numbers, each under its sentence.
 
 // Numbers of a job text.
 pub const FACTS: u16 = 12;
@@ -15,6 +15,11 @@ pub const EFFECTS: u16 = MOVES * MOVE_EFFECTS;
 pub const LAST_CLASS: u16 = 15;
 
 pub const PROGRAM: u16 = 128;
+
+// Class costs: how many there are, and the greatest.
+pub const CLASSES: usize = (LAST_CLASS as usize) + 1;
+
+pub const COST: u16 = 3600;
 
 // States of a job; positions and steps of its compiled job.
 pub const STATES: usize = 1 << FACTS;

@@ -1,4 +1,5 @@
 pub mod StageLaws
-pub mod LoadLaws
-pub mod PlanLaws
+pub mod JobLaws
+pub mod TaskLaws
+pub mod OfferLaws
 pub mod LoadingLaws

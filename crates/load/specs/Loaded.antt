@@ -6,12 +6,13 @@ use mathlib.Core.List.{List}
 use lib.ListN.{take}
 use Rattle.limits.specs.Limits.{mostEntries}
 use Rattle.job.specs.Job.{Job}
-use Rattle.job.specs.Store.{jobOf}
+use Rattle.job.specs.Task.{Task, houseCosts}
+use Rattle.job.specs.Store.{jobOf, storedCosts, taskOf}
 use Rattle.job.specs.Stored.{Stored}
 use Rattle.job.specs.declared.refusal.Refusal.{Refusal}
 use Rattle.domain.specs.Domain.{domainIn}
 use Rattle.compile.specs.CompiledJob.{positionCount, stepCount, fits}
-use Rattle.plans.specs.declared.plan_text.PlanAnswer.{PlanAnswer}
+use Rattle.lists.specs.declared.counted.ListAnswer.{ListAnswer}
 use Rattle.load.specs.Refusals as C
 use Rattle.load.specs.Refusals.{Handed, Checked, Offer, loading}
 use Rattle.load.specs.declared.request.Request.{Request}
@@ -21,17 +22,22 @@ use Rattle.load.specs.declared.loaded.LoadedJob.{LoadedJob}
 use Rattle.load.specs.declared.loaded.Loaded.{Loaded}
 use Rattle.load.specs.declared.loaded.Loaded.the-variants.{Ready, Refused}
 
--- the job and the plan's entries that are stored, or the refusal's number and place
+-- the task and the plan's entries that are stored, or the refusal's number and place
 abbrev pub loadedAs : Loaded → List ℕ → List ℕ → Checked Offer
-loadedAs (Ready a) rows entries = C.passed (record { job = jobOf (a .head) rows; entries = take (a .entries) entries })
+loadedAs (Ready a) rows entries = C.passed (record { task = taskOf (a .head) rows; entries = take (a .entries) entries })
 loadedAs (Refused r) rows entries = C.refused (r .number) (r .place)
+
+-- the task without entries
+abbrev pub taskAs : Loaded → List ℕ → Checked Task
+taskAs (Ready a) rows = C.passed (taskOf (a .head) rows)
+taskAs (Refused r) rows = C.refused (r .number) (r .place)
 
 -- the job alone
 abbrev pub jobAs : Loaded → List ℕ → Checked Job
 jobAs (Ready a) rows = C.passed (jobOf (a .head) rows)
 jobAs (Refused r) rows = C.refused (r .number) (r .place)
 
--- a stored job whose compiled job is within the limits, and its sizes
+-- a stored task whose compiled job is within the limits, and its sizes
 pub record Sized (a : LoadedJob) (rows : List ℕ) : Type 0 where
   pub stored : Stored (a .head) rows
   pub fit : fits (jobOf (a .head) rows) ≡ true
@@ -48,6 +54,11 @@ Measured (Refused r) rows = Unit {0}
 abbrev pub Fitting : Loaded → List ℕ → Type 0
 Fitting (Ready a) rows = Sized a rows × (a .entries ≤ mostEntries)
 Fitting (Refused r) rows = Unit {0}
+
+-- measured, and no costs text was looked at yet: the costs are the house's
+abbrev pub AtHouse : Loaded → List ℕ → Type 0
+AtHouse (Ready a) rows = Measured (Ready a) rows × (storedCosts rows ≡ houseCosts)
+AtHouse (Refused r) rows = Unit {0}
 
 -- the whole promise of loading
 pub record Loads (h : Handed) (answer : Loaded) (rows entries : List ℕ) : Type 0 where
@@ -68,7 +79,7 @@ abbrev pub loadRefusal : Loaded → Refusal
 loadRefusal (Ready a) = record { number = 0; place = 0 }
 loadRefusal (Refused r) = r
 
--- the same of a plan's reader: 5, at its line
-abbrev pub planRefusal : PlanAnswer → Refusal
-planRefusal (PlanAnswer.Read n) = record { number = 0; place = 0 }
-planRefusal (PlanAnswer.Refused line) = record { number = 5; place = line }
+-- the same of a list's reader, by the number of its text's reason
+abbrev pub listRefusal : ListAnswer → ℕ → Refusal
+listRefusal (ListAnswer.Read n) number = record { number = 0; place = 0 }
+listRefusal (ListAnswer.Refused line) number = record { number = number; place = line }

@@ -1,16 +1,21 @@
 -- The order of refusals: "The first bad line decides; on it, form before 2 before 3. Then 4, 5, 6."
+-- Reason 7 comes "after the job's refusals 1 to 4 and before 5".
 use Prim.Native.Nat.{ℕ, _*_}
 use mathlib.Core.Bool.{cond}
 use mathlib.Core.List.{List, []}
 use lib.Dec.{leb}
 use lib.ListN.{length}
 use Rattle.job.specs.Job.{Job}
+use Rattle.job.specs.Task.{Task, atHouseCosts}
 use Rattle.job.specs.ReadJob as R
 use Rattle.job.specs.ReadJob.{Outcome, readJob}
 use Rattle.domain.specs.Domain.{domainOf}
 use Rattle.compile.specs.CompiledJob.{positionCount, stepCount, fits}
-use Rattle.plans.specs.PlanText as P
-use Rattle.plans.specs.PlanText.{PlanOutcome, readPlan, moveKey, stepKey}
+use Rattle.lists.specs.CountedList as L
+use Rattle.lists.specs.CountedList.{ListOutcome}
+use Rattle.lists.specs.CostsText.{readCosts}
+use Rattle.lists.specs.PlanText.{readPlan, moveKey, stepKey}
+use Rattle.load.specs.declared.request.Given.{Given}
 use Rattle.load.specs.declared.request.Request.{Request}
 use Rattle.load.specs.declared.request.Sort.{Sort}
 use Rattle.load.specs.declared.request.Sort.the-variants.{Moves, Steps}
@@ -20,6 +25,7 @@ pub record Handed : Type 0 where
   pub request : Request
   pub job : List ℕ
   pub plan : List ℕ
+  pub costs : List ℕ
 
 -- what no reason refuses so far, or the refusal's number and place
 pub data Checked (A : Type 0) : Type 0 where
@@ -40,15 +46,28 @@ compilable (R.refused number place) = refused number place
 unfoldable pub jobIn : List ℕ → Checked Job
 jobIn text = compilable (readJob text)
 
--- a job, and the entries of a plan that is offered for it
+-- 7: "A bad cost text is refused as 7 with its line"
+abbrev pub withCosts : Job → ListOutcome → Checked Task
+withCosts j (L.listed costs) = passed (record { job = j; costs = costs })
+withCosts j (L.refused line) = refused 7 line
+
+-- "The house numbers remain for those who hand in none."
+abbrev pub costsIn : Given → List ℕ → Job → Checked Task
+costsIn g costs j = cond (g .costs) (withCosts j (readCosts costs)) (passed (atHouseCosts j))
+
+-- reasons 1 to 4, and 7
+unfoldable pub taskIn : Given → List ℕ → List ℕ → Checked Task
+taskIn g text costs = next (jobIn text) (costsIn g costs)
+
+-- a task, and the entries of a plan that is offered for it
 pub record Offer : Type 0 where
-  pub job : Job
+  pub task : Task
   pub entries : List ℕ
 
 -- 5 "plan text of wrong form, K too large, entry not in job", at the plan's line
-abbrev pub offered : Job → PlanOutcome → Checked Offer
-offered j (P.listed es) = passed (record { job = j; entries = es })
-offered j (P.refused line) = refused 5 line
+abbrev pub offered : Task → ListOutcome → Checked Offer
+offered t (L.listed es) = passed (record { task = t; entries = es })
+offered t (L.refused line) = refused 5 line
 
 -- "`m=move`, or `t=step` for step lists"
 abbrev pub keyFor : Sort → List ℕ
@@ -61,13 +80,13 @@ boundFor Moves j = length (j .moves)
 boundFor Steps j = stepCount j
 
 -- where there is no plan text there are no entries
-abbrev pub planIn : Request → List ℕ → Job → Checked Offer
-planIn r plan j =
-    cond (r .plan) (offered j (readPlan (keyFor (r .sort)) (boundFor (r .sort) j) plan)) (passed (record { job = j; entries = [] }))
+abbrev pub planIn : Request → List ℕ → Task → Checked Offer
+planIn r plan t =
+    cond (r .plan) (offered t (readPlan (keyFor (r .sort)) (boundFor (r .sort) (t .job)) plan)) (passed (record { task = t; entries = [] }))
 
--- reasons 1 to 5
+-- reasons 1 to 4, 7 and 5
 unfoldable pub textsIn : Handed → Checked Offer
-textsIn h = next (jobIn (h .job)) (planIn (h .request) (h .plan))
+textsIn h = next (taskIn (h .request .given) (h .job) (h .costs)) (planIn (h .request) (h .plan))
 
 -- 6 "list or table handed in too short", with the length needed
 abbrev pub longEnough : {A : Type 0} → ℕ → ℕ → A → Checked A
@@ -78,15 +97,15 @@ abbrev pub listNeed : Job → ℕ
 listNeed j = stepCount j * 4
 
 -- "The cost table has one number for each (world w, position q)"
-abbrev pub tableSize : Job → ℕ
-tableSize j = domainOf j .states * positionCount j
+abbrev pub tableSize : Task → ℕ
+tableSize t = domainOf t .states * positionCount (t .job)
 
 -- where there is no table none is needed
-abbrev pub tableNeed : Request → Job → ℕ
-tableNeed r j = cond (r .table) (tableSize j) 0
+abbrev pub tableNeed : Request → Task → ℕ
+tableNeed r t = cond (r .table) (tableSize t) 0
 
 -- all reasons: "Where it and a cost table are both too short, it decides."
 unfoldable pub loading : Handed → Checked Offer
 loading h =
-    next (next (textsIn h) (λ o. longEnough (h .request .places) (listNeed (o .job)) o))
-    (λ o. longEnough (h .request .cells) (tableNeed (h .request) (o .job)) o)
+    next (next (textsIn h) (λ o. longEnough (h .request .places) (listNeed (o .task .job)) o))
+    (λ o. longEnough (h .request .cells) (tableNeed (h .request) (o .task)) o)

@@ -14,7 +14,7 @@ pub record View : Type 0 where
   pub entries : List ℕ
 
 abbrev pub viewOf : Offer → View
-viewOf o = record { domain = domainOf (o .job); program = programOf (o .job); entries = o .entries }
+viewOf o = record { domain = domainOf (o .task); program = programOf (o .task .job); entries = o .entries }
 
 -- "The recipe starts at 0; its end is the final position."
 abbrev pub viewSteps : View → List Step

@@ -1,6 +1,7 @@
 // Texts loaded: every reason to refuse what is handed in, in its order.
 pub mod loaded;
 pub mod loading;
+mod offer;
 pub mod request;
 pub mod room;
-pub mod stages;
+mod task;

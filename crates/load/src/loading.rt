@@ -6,22 +6,25 @@ ghost use Rattle.load.specs.Loaded.{Loads, EntryRoom};
 use crate::loaded::Loaded;
 use crate::request::Request;
 
-// Reasons 1 to 6.
+// Reasons 1 to 7.
 pub fn load(
     request: Request,
     text: &[u8],
     plan: &[u8],
+    costs: &[u8],
     rows: &mut [u16],
     entries: &mut [u16],
 ) -> Loaded
     requires { ⌜ (length (now rows) ≡ storeSize) × EntryRoom request (length (now entries)) ⌝ }
-    ensures { λ r. ⌜ Loads (record { request = request; job = now (text .entry); plan = now (plan .entry) }) r (now (rows .exit)) (now (entries .exit)) ⌝ }
+    ensures { λ r. ⌜ Loads (record { request = request; job = now (text .entry); plan = now (plan .entry); costs = now (costs .entry) }) r
+        (now (rows .exit)) (now (entries .exit)) ⌝ }
 {
-    let read = crate::stages::load_job(text, rows);
-    let Loaded::Ready(job) = read else {
+    let given = request.given;
+    let read = crate::task::load_task(given, text, costs, rows);
+    let Loaded::Ready(task) = read else {
         return read;
     };
-    let offered = crate::stages::load_plan(request, plan, job, rows, entries);
+    let offered = crate::offer::load_plan(request, plan, task, rows, entries);
     let Loaded::Ready(offer) = offered else {
         return offered;
     };

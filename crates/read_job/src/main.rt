@@ -4,7 +4,7 @@
 fn main() {
     let mut text = io::large_buffer();
     let mut out = io::large_buffer();
-    let got = console::files::read_argument(1, b"job.txt", &mut text);
+    let got = console::arguments::read_argument(1, b"job.txt", &mut text);
     let n = got.count;
     if got.read {
         let answer = jesmovit::read_job(&text[..n]);

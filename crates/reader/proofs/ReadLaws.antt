@@ -17,19 +17,16 @@ use Rattle.job.specs.Job.{countsOf}
 use Rattle.job.specs.Line.{lineNumbers}
 use Rattle.job.specs.Fault.{fault}
 use Rattle.job.specs.ReadJob.{Reading, read, refused, isEnd, ended, readFrom, begun, taken, readJob}
-use Rattle.job.specs.Store.{storeSize, jobOf, listOf, numbersOf}
+use Rattle.job.specs.Store.{jobOf, listOf, numbersOf}
 use Rattle.job.specs.WellFormed.{WellFormed}
-use Rattle.job.specs.Stored.{Stored}
-use Rattle.job.specs.declared.head.Head.{Head}
 use Rattle.job.specs.declared.line.Line.{Line}
 use Rattle.job.specs.declared.line.Line.the-variants.{One, Of, End}
 use Rattle.job.specs.declared.line.LineNumbers.{LineNumbers}
 use Rattle.job.proofs.FaultLaws.{right-formed}
 use Rattle.job.proofs.StoreLaws.{counts-of}
-use Rattle.reader.specs.Reading.{readingOf, outcomeOf}
+use Rattle.reader.specs.Reading.{readingOf}
 use Rattle.reader.specs.Room.{Room}
 use Rattle.reader.specs.declared.taking.ReaderState.{ReaderState}
-use Rattle.reader.specs.declared.reading.Answer.the-variants.{Read}
 use Rattle.reader.proofs.RoomLaws.{Right, fault-right}
 use Rattle.reader.proofs.KeptLaws.{Kept, taken-kept, begun-kept, end-well-formed}
 
@@ -120,10 +117,6 @@ read-well-formed text n j e =
     (λ s g f k. subst WellFormed f (end-well-formed s k g))
     (λ k s line r ls d x f h. f (taken-kept s r x h))
     0 begun (lines text) e begun-kept
-
--- a job that is read is stored in its head and rows
-pub read-stored : (text : List ℕ) (n : ℕ) (h : Head) (l : List ℕ) → length l ≡ storeSize → outcomeOf (Read n h) l ≡ readJob text → Stored h l
-read-stored text n h l s e = record { size = s; job = read-well-formed text n (jobOf h l) (sym e) }
 
 -- a text that is read has the lines that its answer counts
 pub read-lines : (text : List ℕ) (n : ℕ) (j : J.Job) → readJob text ≡ read n j → n ≡ length (lines text)

@@ -9,7 +9,7 @@ use native.Mathlib.Decide.{ℕ-discrete}
 use native.Mathlib.Nat.{mul-le-mul-left, mul-le-mul-right}
 use lib.ListN.{length, getD, set, replicate, length-set, getD-replicate}
 use lib.Seq.{getD-set-other}
-use Rattle.limits.specs.Limits.{mostStates}
+use Rattle.limits.specs.Limits.{mostStates, mostCost}
 use Rattle.job.specs.Store.{jobOf}
 use Rattle.job.specs.declared.head.Head.{Head}
 use Rattle.semantics.specs.Domain.{Domain}
@@ -17,7 +17,6 @@ use Rattle.semantics.specs.CostTable.{unreached, Filled}
 use Rattle.semantics.specs.Cells.{cell, Graph, entry, Runs, none, Relaxed}
 use Rattle.semantics.proofs.CellLaws.{edge-within, cell-state, runs-on, cell-below}
 use Rattle.semantics.proofs.CellSound.{runs-fill}
-use Rattle.domain.specs.Cost.{mostCost}
 use Rattle.domain.specs.Domain.{domainIn, Tells}
 use Rattle.domain.proofs.DomainLaws.{states-few}
 use Rattle.compile.specs.CompiledJob.{stepsOf}

@@ -4,6 +4,7 @@ use Prim.Native.Nat.{ℕ, _+_}
 use mathlib.Core.Path.{_≡_}
 use mathlib.Core.List.{List}
 use native.Mathlib.Omega.{arith}
+use Rattle.limits.specs.Limits.{mostCost}
 use Rattle.job.specs.Store.{jobOf}
 use Rattle.job.specs.declared.head.Head.{Head}
 use Rattle.semantics.specs.Program.{Program}
@@ -11,7 +12,6 @@ use Rattle.semantics.specs.Domain.{Domain}
 use Rattle.semantics.specs.CompilingTable.{end, steps}
 use Rattle.semantics.proofs.Bounds.{Bounded, Closed}
 use Rattle.semantics.proofs.Compiled.{compiled}
-use Rattle.domain.specs.Cost.{mostCost}
 use Rattle.domain.specs.Domain.{domainIn}
 use Rattle.compile.specs.Program.{programOf}
 use Rattle.compiled.specs.Ready.{Ready}

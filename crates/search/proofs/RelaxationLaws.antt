@@ -11,7 +11,7 @@ use native.Mathlib.Decide.{decLt, ℕ-discrete}
 use lib.ListN.{length, getD, set, length-set}
 use lib.Seq.{getD-set-same, getD-set-other}
 use Rattle.laws.proofs.Tests.{never}
-use Rattle.limits.specs.Limits.{mostStates, mostPositions}
+use Rattle.limits.specs.Limits.{mostStates, mostPositions, mostCost}
 use Rattle.semantics.specs.Label.{Label}
 use Rattle.semantics.specs.Domain.{Domain}
 use Rattle.semantics.specs.StepVerdict.{arrives}
@@ -21,7 +21,6 @@ use Rattle.semantics.specs.CostTable.{unreached}
 use Rattle.semantics.specs.Cells.{cell, Graph, entry, Edge, none, more, Relaxed}
 use Rattle.semantics.proofs.Bounds.{Closed, does-bounded}
 use Rattle.semantics.proofs.CellLaws.{cell-below, set-le, edge-within, relaxed-store, runs-length, sum-falls}
-use Rattle.domain.specs.Cost.{mostCost}
 use Rattle.domain.proofs.DomainLaws.{stored-bounded}
 use Rattle.compiled.specs.Adjacency.{Indexed}
 use Rattle.compiled.specs.Steps.{labelOf, IsStep}

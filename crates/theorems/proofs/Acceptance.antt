@@ -1,7 +1,7 @@
 -- Demand 1: which texts, lists and tables are not refused, of every operation.
 -- Assumes nothing.
 use Prim.Native.Nat.{ℕ, _^_, _≤_, _*_}
-use mathlib.Core.Path.{_≡_, refl, sym, _∙_, ap}
+use mathlib.Core.Path.{_≡_, refl, sym, _∙_, ap, subst}
 use mathlib.Core.Bool.{Bool, true, false}
 use mathlib.Core.List.{List}
 use mathlib.Core.Logic.{_↔_}
@@ -13,23 +13,29 @@ use Rattle.text.specs.Bytes.{bytes}
 use Rattle.text.specs.Lines.{lines}
 use Rattle.text.proofs.LineText.{plain}
 use Rattle.job.specs.Job.{Job}
+use Rattle.job.specs.Task.{Task, classCost, CostsWithin}
 use Rattle.job.specs.ReadJob.{read, readJob}
 use Rattle.job.specs.WellFormed.{WellFormed}
+use Rattle.job.proofs.CostLaws.{house-within}
 use Rattle.reader.proofs.ReadLaws.{read-well-formed, read-lines}
 use Rattle.compile.proofs.FitLaws.{few-positions, few-steps}
-use Rattle.plans.specs.PlanText.{listed, readPlan}
-use Rattle.load.specs.Refusals.{Handed, Checked, passed, next, compilable, jobIn, Offer, offered, keyFor, boundFor, planIn, textsIn}
+use Rattle.lists.specs.CountedList.{listed}
+use Rattle.lists.specs.PlanText.{readPlan}
+use Rattle.load.specs.Refusals.{Handed, Checked, passed, next, compilable, jobIn, withCosts, costsIn, taskIn}
+use Rattle.load.specs.Refusals.{Offer, offered, keyFor, boundFor, planIn, textsIn}
 use Rattle.load.specs.Refusals.{listNeed, tableSize, loading}
+use Rattle.load.specs.declared.request.Given.{Given}
 use Rattle.load.specs.declared.request.Sort.{Sort}
 use Rattle.load.specs.declared.request.Sort.the-variants.{Moves, Steps}
-use Rattle.load.proofs.LoadLaws.{passed-read, fit}
-use Rattle.load.proofs.PlanLaws.{plan-taken, plan-alone}
+use Rattle.load.proofs.JobLaws.{passed-read, fit}
+use Rattle.load.proofs.TaskLaws.{costs-job, costs-taken, costs-house, task-taken}
+use Rattle.load.proofs.OfferLaws.{plan-taken, plan-alone}
 use Rattle.load.proofs.LoadingLaws.{texts-taken, loading-iff}
 use Rattle.theorems.specs.JobText.{jobLines, jobText}
-use Rattle.theorems.specs.Accepted.{AcceptedJob, AcceptedPlan, AcceptedTexts, Accepted}
+use Rattle.theorems.specs.Accepted.{AcceptedJob, AcceptedTask, AcceptedPlan, AcceptedTexts, Accepted}
 use Rattle.theorems.proofs.TextLaws.{text-read}
 use Rattle.theorems.proofs.ToldLaws.{read-text}
-use Rattle.theorems.proofs.PlanTexts.{plan-text-iff}
+use Rattle.theorems.proofs.ListTexts.{plan-text-iff, costs-text-iff}
 
 -- of reading: a text is read as a job just where the job is well formed and the text is its text
 pub read-iff : (text : List ℕ) (n : ℕ) (j : Job) → (readJob text ≡ read n j) ↔ (WellFormed j × (text ≡ jobText j) × (n ≡ length (lines text)))
@@ -68,43 +74,76 @@ module _ (sort : Sort) (j : Job) (plan entries : List ℕ) where
     bound-small Steps = omega (arith, accepted .steps)
 
     pub plan-iff : (readPlan (keyFor sort) (boundFor sort j) plan ≡ listed entries) ↔ AcceptedPlan sort j plan entries
-    plan-iff =
-        let p = plan-text-iff (keyFor sort) (boundFor sort j) plan entries (key-plain sort) (bound-small sort) in
-        (λ e. let x = p .0 e in record { few = x .0; each = x .1; written = x .2 }, λ a. p .1 (a .few, a .each, a .written))
+    plan-iff = plan-text-iff (keyFor sort) (boundFor sort j) plan entries (key-plain sort) (bound-small sort)
+
+-- of a job text and a costs text: reasons 1 to 4, and 7
+module _ (g : Given) (text costs : List ℕ) (t : Task) where
+  -- without a costs text, and with one
+  costs-pass : (b : Bool) → g .costs ≡ b → AcceptedTask g text costs t → costsIn g costs (t .job) ≡ passed t
+  costs-pass true e a = rw e (ap (withCosts (t .job)) (costs-text-iff costs (t .costs) .1 (a .its-costs e)))
+  costs-pass false e a = rw e (ap (λ (cs : List ℕ). passed (record { job = t .job; costs = cs })) (sym (a .house e)))
+
+  task-passes : AcceptedTask g text costs t → taskIn g text costs ≡ passed t
+  unfolding taskIn
+  task-passes a = ap (λ (c : Checked Job). next c (costsIn g costs)) (job-passes text (t .job) (a .its-job)) ∙ costs-pass (g .costs) refl a
+
+  task-passed : taskIn g text costs ≡ passed t → AcceptedTask g text costs t
+  task-passed e =
+      let (j, f, k) = task-taken g text costs e in
+      record {
+        its-job = job-iff text (t .job) .0 (f ∙ ap passed (sym (costs-job g costs j k)));
+        its-costs = λ c. costs-text-iff costs (t .costs) .0 (costs-taken g costs j k c);
+        house = λ c. costs-house g costs j k c;
+      }
+
+  pub task-iff : (taskIn g text costs ≡ passed t) ↔ AcceptedTask g text costs t
+  task-iff = (task-passed, task-passes)
+
+  -- no class costs more than the greatest cost
+  pub accepted-within : AcceptedTask g text costs t → CostsWithin (t .costs)
+  unfolding classCost
+  accepted-within a = by (g .costs) refl
+    where
+      by : (b : Bool) → g .costs ≡ b → CostsWithin (t .costs)
+      by true e = a .its-costs e .each
+      by false e = subst CostsWithin (sym (a .house e)) house-within
 
 -- of what is handed in
 module _ (h : Handed) (o : Offer) where
-  abbrev planned : Job → Checked Offer
-  planned j = planIn (h .request) (h .plan) j
+  abbrev planned : Task → Checked Offer
+  planned t = planIn (h .request) (h .plan) t
 
   -- what is handed in without a plan text, and with one
-  plan-passes : (b : Bool) → h .request .plan ≡ b → AcceptedTexts h o → planned (o .job) ≡ passed o
+  plan-passes : (b : Bool) → h .request .plan ≡ b → AcceptedTexts h o → planned (o .task) ≡ passed o
   plan-passes true e a =
-      rw e (ap (offered (o .job)) (plan-iff (h .request .sort) (o .job) (h .plan) (o .entries) (h .job) (a .its-job) .1 (a .its-plan e)))
-  plan-passes false e a = rw e (ap (λ (es : List ℕ). passed (record { job = o .job; entries = es })) (sym (a .alone e)))
+      rw e (ap (offered (o .task)) (plan-iff (h .request .sort) (o .task .job) (h .plan) (o .entries) (h .job) (a .its-task .its-job) .1 (a .its-plan e)))
+  plan-passes false e a = rw e (ap (λ (es : List ℕ). passed (record { task = o .task; entries = es })) (sym (a .alone e)))
 
   texts-pass : AcceptedTexts h o → textsIn h ≡ passed o
   unfolding textsIn
-  texts-pass a = ap (λ (c : Checked Job). next c planned) (job-passes (h .job) (o .job) (a .its-job)) ∙ plan-passes (h .request .plan) refl a
+  texts-pass a =
+      ap (λ (c : Checked Task). next c planned) (task-passes (h .request .given) (h .job) (h .costs) (o .task) (a .its-task))
+      ∙ plan-passes (h .request .plan) refl a
 
-  its-job : {j : Job} → planned j ≡ passed o → j ≡ o .job
-  its-job {j} e = by (h .request .plan) refl
+  its-task : {t : Task} → planned t ≡ passed o → t ≡ o .task
+  its-task {t} e = by (h .request .plan) refl
     where
-      by : (b : Bool) → h .request .plan ≡ b → j ≡ o .job
-      by true f = plan-taken (h .request) (h .plan) j o f e .0
-      by false f = ap (λ (x : Offer). x .job) (plan-alone (h .request) (h .plan) j o f e)
+      by : (b : Bool) → h .request .plan ≡ b → t ≡ o .task
+      by true f = plan-taken (h .request) (h .plan) t o f e .0
+      by false f = ap (λ (x : Offer). x .task) (plan-alone (h .request) (h .plan) t o f e)
 
   texts-passed : textsIn h ≡ passed o → AcceptedTexts h o
   texts-passed e =
-      let t = texts-taken h e in
-      let a = job-iff (h .job) (o .job) .0 (t .1 ∙ ap passed (its-job (t .2))) in
+      let (t, f, k) = texts-taken h e in
+      let a = task-iff (h .request .given) (h .job) (h .costs) (o .task) .0 (f ∙ ap passed (its-task k)) in
       record {
-        its-job = a;
-        its-plan = λ f. plan-iff (h .request .sort) (o .job) (h .plan) (o .entries) (h .job) a .0 (plan-taken (h .request) (h .plan) (t .0) o f (t .2) .1);
-        alone = λ f. ap (λ (x : Offer). x .entries) (sym (plan-alone (h .request) (h .plan) (t .0) o f (t .2)));
+        its-task = a;
+        its-plan = λ p. plan-iff (h .request .sort) (o .task .job) (h .plan) (o .entries) (h .job) (a .its-job) .0
+            (plan-taken (h .request) (h .plan) t o p k .1);
+        alone = λ p. ap (λ (x : Offer). x .entries) (sym (plan-alone (h .request) (h .plan) t o p k));
       }
 
-  -- its texts: reasons 1 to 5
+  -- its texts: reasons 1 to 4, 7 and 5
   pub texts-iff : (textsIn h ≡ passed o) ↔ AcceptedTexts h o
   texts-iff = (texts-passed, texts-pass)
 
@@ -116,7 +155,7 @@ module _ (h : Handed) (o : Offer) where
   )
 
 -- as the header says: 4,096 numbers of a list, and 1,048,576 of a table, are enough for every job
-pub needs-within : (text : List ℕ) (j : Job) → AcceptedJob text j → (listNeed j ≤ mostSteps * 4) × (tableSize j ≤ mostStates * mostPositions)
-needs-within text j a =
-    let few : 2 ^ (j .scalars .facts) ≤ mostStates = pow-le-pow-right (omega arith) (a .right .facts) in
+pub needs-within : (text : List ℕ) (t : Task) → AcceptedJob text (t .job) → (listNeed (t .job) ≤ mostSteps * 4) × (tableSize t ≤ mostStates * mostPositions)
+needs-within text t a =
+    let few : 2 ^ (t .job .scalars .facts) ≤ mostStates = pow-le-pow-right (omega arith) (a .right .facts) in
     (omega (arith, a .steps), omega (arith, mul-le-mul few (a .positions)))

@@ -8,6 +8,7 @@ use native.Mathlib.Omega.{arith}
 use lib.ListN.{length}
 use Rattle.laws.proofs.Tests.{never}
 use Rattle.job.specs.Job.{Job}
+use Rattle.job.specs.Task.{Task, atHouseCosts}
 use Rattle.semantics.specs.CompilingTable.{Step, end, stepsIn}
 use Rattle.semantics.specs.Agreement.{Agrees}
 use Rattle.semantics.proofs.Agreement.{agreement}
@@ -23,27 +24,35 @@ use Rattle.jesmovit.proofs.AnswerLaws.{view-of}
 use Rattle.theorems.specs.Accepted.{AcceptedJob}
 use Rattle.theorems.proofs.Acceptance.{accepted-iff}
 
-module _ (text : List ℕ) (j : Job) (accepted : AcceptedJob text j) where
+-- by whatever costs
+module _ (text : List ℕ) (t : Task) (accepted : AcceptedJob text (t .job)) where
+  abbrev j : Job
+  j = t .job
+
   -- "a plan of the compiled job, bookkeeping dropped, is allowed by the program on the original
   -- job, and every allowed plan comes from one"
-  pub accepted-plans-agree : Agrees (domainOf j) (programOf j) (stepsOf j) (end (programOf j) 0)
-  accepted-plans-agree = agreement (domainOf j) (programOf j)
+  pub accepted-plans-agree : Agrees (domainOf t) (programOf (t .job)) (stepsOf (t .job)) (end (programOf (t .job)) 0)
+  accepted-plans-agree = agreement (domainOf t) (programOf j)
 
   -- a list that is long enough, and whatever answer and list meet the promise of compiling
-  module _ (list : List ℕ) (long : listNeed j ≤ length list) (answer : CompileAnswer) (after : List ℕ)
+  module _ (list : List ℕ) (long : listNeed (t .job) ≤ length list) (answer : CompileAnswer) (after : List ℕ)
       (promised : Compiles text list answer after) where
-    compiles : loading (compiling text (length list)) ≡ passed (record { job = j; entries = [] })
-    compiles = accepted-iff (compiling text (length list)) (record { job = j; entries = [] }) .1 (record {
-      texts = record { its-job = accepted; its-plan = λ f. never (cc); alone = λ f. refl };
+    compiles : loading (compiling text (length list)) ≡ passed (record { task = atHouseCosts j; entries = [] })
+    compiles = accepted-iff (compiling text (length list)) (record { task = atHouseCosts j; entries = [] }) .1 (record {
+      texts = record {
+        its-task = record { its-job = accepted; its-costs = λ f. never (cc); house = λ f. refl };
+        its-plan = λ f. never (cc);
+        alone = λ f. refl;
+      };
       list = long;
       table = omega arith;
     })
 
-    pub list-holds : stepsIn (stepCount j) after ≡ stepsOf j
+    pub list-holds : stepsIn (stepCount (t .job)) after ≡ stepsOf (t .job)
     list-holds =
         ap (stepsIn (stepCount j)) (promised .holds ∙ ap (λ (c : Checked View). listIn c list) (view-of (compiling text (length list)) compiles))
         ∙ laid-back (stepsOf j) list long
 
     -- the same of the steps that it holds after compiling
-    pub compiled-plans-agree : Agrees (domainOf j) (programOf j) (stepsIn (stepCount j) after) (end (programOf j) 0)
-    compiled-plans-agree = subst (λ (L : List Step). Agrees (domainOf j) (programOf j) L (end (programOf j) 0)) (sym list-holds) accepted-plans-agree
+    pub compiled-plans-agree : Agrees (domainOf t) (programOf (t .job)) (stepsIn (stepCount (t .job)) after) (end (programOf (t .job)) 0)
+    compiled-plans-agree = subst (λ (L : List Step). Agrees (domainOf t) (programOf j) L (end (programOf j) 0)) (sym list-holds) accepted-plans-agree

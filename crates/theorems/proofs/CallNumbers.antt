@@ -15,18 +15,19 @@ use Rattle.job.specs.ReadJob.{Outcome, readJob}
 use Rattle.load.specs.Refusals.{Handed, Checked, passed, refused, next, Offer, loading}
 use Rattle.load.specs.View.{View}
 use Rattle.load.specs.declared.request.Sort.{Sort}
+use Rattle.jesmovit.specs.Texts.{Texts}
 use Rattle.jesmovit.specs.Outcomes.{checkOutcome, leastOutcome, judgeOutcome}
 use Rattle.jesmovit.specs.Answers.{Answers}
 use Rattle.jesmovit.specs.JobText.{countsIn, Reads}
 use Rattle.jesmovit.specs.Compiling.{compiling, viewSizes, Compiles}
 use Rattle.jesmovit.specs.Checking.{checking, Checks}
-use Rattle.jesmovit.specs.Judging.{costing, CostsLeast, judging, Judges}
+use Rattle.jesmovit.specs.Judging.{costing, CostsLeast, judging, Lent, Judges}
 use Rattle.jesmovit.proofs.AnswerLaws.{viewed, refusal-kept}
 use Rattle.capi.specs.Numbers.{outcomeNumbers, countNumbers, sizeNumbers, costNumbers, readNumbers, compileNumbers, checkNumbers, leastNumbers, judgeNumbers}
 use Rattle.capi.specs.Calls.{Gives}
 use Rattle.capi.specs.declared.numbers.Numbers.{Numbers}
-use Rattle.theorems.specs.RefusalNumbers.{UpTo, WithoutPlan, CallNumber}
-use Rattle.theorems.proofs.RefusalNumbers.{read-number, load-number, job-load-number}
+use Rattle.theorems.specs.RefusalNumbers.{UpTo, of-job, of-costs, of-plan, LoadNumber, of-text, too-short, CallNumber}
+use Rattle.theorems.proofs.RefusalNumbers.{read-number, load-number}
 
 -- the number of a refusal, and 0 for none
 abbrev numberOf : {A : Type 0} → Checked A → ℕ
@@ -60,57 +61,61 @@ answer-number say zero (refused number place) d x = ap (λ (e : Checked _). outc
 up-to-positive : (last number : ℕ) → UpTo last number → 1 ≤ number
 up-to-positive last number x = x .0
 
-without-plan-positive : (number : ℕ) → WithoutPlan number → 1 ≤ number
-without-plan-positive number (inl x) = x .0
-without-plan-positive number (inr e) = omega arith
+load-positive : (h : Handed) (number : ℕ) → LoadNumber h number → 1 ≤ number
+load-positive h number (of-text (of-job x)) = x .0
+load-positive h number (of-text (of-costs f)) = omega arith
+load-positive h number (of-text (of-plan f)) = omega arith
+load-positive h number too-short = omega arith
 
 -- of reading
 pub read-call-number : (text : List ℕ) {number : ℕ} {values : List ℕ} → Gives readNumbers (λ a. Reads text a) number values
     → CallNumber (UpTo 3) ((n : ℕ) × (j : Job) × (readJob text ≡ R.read n j)) number
 read-call-number text g =
-    subst (CallNumber (UpTo 3) _) (sym (g .number-is ∙ ap (λ d. outcomeNumbers countNumbers d .number) (g .holds))) (of-text (readJob text) refl)
+    subst (CallNumber (UpTo 3) _) (sym (g .number-is ∙ ap (λ d. outcomeNumbers countNumbers d .number) (g .holds))) (of-outcome (readJob text) refl)
   where
-    of-text : (o : Outcome) → readJob text ≡ o
+    of-outcome : (o : Outcome) → readJob text ≡ o
         → CallNumber (UpTo 3) ((n : ℕ) × (j : Job) × (readJob text ≡ R.read n j)) (outcomeNumbers countNumbers (countsIn o) .number)
-    of-text (R.read n j) e = either-number (UpTo 3) (up-to-positive 3) 0 (inl ((n, j, e), refl))
-    of-text (R.refused m p) e =
+    of-outcome (R.read n j) e = either-number (UpTo 3) (up-to-positive 3) 0 (inl ((n, j, e), refl))
+    of-outcome (R.refused m p) e =
         either-number (UpTo 3) (up-to-positive 3) m (inr (read-number text m p e, λ x. let y = x .2 in never (cc)))
 
 -- of compiling
 pub compile-call-number : (text list after : List ℕ) {number : ℕ} {values : List ℕ} → Gives compileNumbers (λ a. Compiles text list a after) number values
-    → CallNumber WithoutPlan ((o : Offer) × (loading (compiling text (length list)) ≡ passed o)) number
+    → CallNumber (LoadNumber (compiling text (length list))) ((o : Offer) × (loading (compiling text (length list)) ≡ passed o)) number
 compile-call-number text list after g =
     let h = compiling text (length list) in
-    call-number WithoutPlan without-plan-positive h (job-load-number h refl) g (λ a x. ap (λ d. outcomeNumbers sizeNumbers d .number) (x .outcome) ∙ same
-    (loading h))
+    call-number (LoadNumber h) (load-positive h) h (load-number h) g
+    (λ a x. ap (λ d. outcomeNumbers sizeNumbers d .number) (x .outcome) ∙ same (loading h))
   where
     same : (c : Checked Offer) → outcomeNumbers sizeNumbers (next (viewed c) (λ v. passed (viewSizes v))) .number ≡ numberOf c
     same (passed o) = refl
     same (refused m p) = refl
 
 -- of a check
-pub check-call-number : (sort : Sort) (text plan list after : List ℕ) {number : ℕ} {values : List ℕ}
-    → Gives checkNumbers (λ a. Checks sort text plan list a after) number values
-    → CallNumber (UpTo 6) ((o : Offer) × (loading (checking sort text plan (length list)) ≡ passed o)) number
-check-call-number sort text plan list after g =
-    let h = checking sort text plan (length list) in
-    call-number (UpTo 6) (up-to-positive 6) h (load-number h) g (λ a x. answer-number _ (λ v. refl) (loading h) (checkOutcome a) x)
+pub check-call-number : (sort : Sort) (t : Texts) (list after : List ℕ) {number : ℕ} {values : List ℕ}
+    → Gives checkNumbers (λ a. Checks sort t list a after) number values
+    → CallNumber (LoadNumber (checking sort t (length list))) ((o : Offer) × (loading (checking sort t (length list)) ≡ passed o)) number
+check-call-number sort t list after g =
+    let h = checking sort t (length list) in
+    call-number (LoadNumber h) (load-positive h) h (load-number h) g (λ a x. answer-number _ (λ v. refl) (loading h) (checkOutcome a) x)
 
--- of the least cost
+-- a least cost is no refusal
 cost-zero : (c : Option ℕ) → costNumbers c .number ≡ 0
 cost-zero (some c) = refl
 cost-zero none = refl
 
-pub cost-call-number : (text list table l t : List ℕ) {number : ℕ} {values : List ℕ} → Gives leastNumbers (λ a. CostsLeast text list table a l t) number values
-    → CallNumber WithoutPlan ((o : Offer) × (loading (costing text (length list) (length table)) ≡ passed o)) number
-cost-call-number text list table l t g =
-    let h = costing text (length list) (length table) in
-    call-number WithoutPlan without-plan-positive h (job-load-number h refl) g (λ a x. answer-number _ cost-zero (loading h) (leastOutcome a) x)
+-- of the least cost and the judge
+module _ (t : Texts) (old new : Lent) {number : ℕ} {values : List ℕ} where
+  pub cost-call-number : Gives leastNumbers (λ a. CostsLeast t old a new) number values
+      → CallNumber (LoadNumber (costing t (length (old .list)) (length (old .table))))
+      ((o : Offer) × (loading (costing t (length (old .list)) (length (old .table))) ≡ passed o)) number
+  cost-call-number g =
+      let h = costing t (length (old .list)) (length (old .table)) in
+      call-number (LoadNumber h) (load-positive h) h (load-number h) g (λ a x. answer-number _ cost-zero (loading h) (leastOutcome a) x)
 
--- of the judge
-pub judge-call-number : (text plan list table l t : List ℕ) {number : ℕ} {values : List ℕ}
-    → Gives judgeNumbers (λ a. Judges text plan list table a l t) number values
-    → CallNumber (UpTo 6) ((o : Offer) × (loading (judging text plan (length list) (length table)) ≡ passed o)) number
-judge-call-number text plan list table l t g =
-    let h = judging text plan (length list) (length table) in
-    call-number (UpTo 6) (up-to-positive 6) h (load-number h) g (λ a x. answer-number _ (λ j. refl) (loading h) (judgeOutcome a) x)
+  pub judge-call-number : Gives judgeNumbers (λ a. Judges t old a new) number values
+      → CallNumber (LoadNumber (judging t (length (old .list)) (length (old .table))))
+      ((o : Offer) × (loading (judging t (length (old .list)) (length (old .table))) ≡ passed o)) number
+  judge-call-number g =
+      let h = judging t (length (old .list)) (length (old .table)) in
+      call-number (LoadNumber h) (load-positive h) h (load-number h) g (λ a x. answer-number _ (λ j. refl) (loading h) (judgeOutcome a) x)

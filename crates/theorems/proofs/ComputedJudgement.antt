@@ -11,7 +11,8 @@ use lib.Dec.{ltb}
 use lib.ListN.{getD, replicate}
 use borrow.Author.Tests.{ltb-true, ltb-false}
 use Rattle.laws.proofs.Tests.{never, cond-some}
-use Rattle.job.specs.Job.{Job}
+use Rattle.limits.specs.Limits.{mostCost}
+use Rattle.job.specs.Task.{Task, CostsWithin}
 use Rattle.semantics.specs.Domain.{Domain}
 use Rattle.semantics.specs.CompilingTable.{end}
 use Rattle.semantics.specs.Verdict.{Verdict, plan, blocked, unfinished, missed, Judged, byRuns}
@@ -19,7 +20,6 @@ use Rattle.semantics.specs.CostTable.{unreached, Filled, LeastOr}
 use Rattle.semantics.specs.Cells.{cell, Graph}
 use Rattle.semantics.proofs.CellLaws.{cellCount}
 use Rattle.semantics.specs.Judgement.{Judgement, other, Finds, is-other}
-use Rattle.domain.specs.Cost.{mostCost}
 use Rattle.domain.specs.Domain.{domainOf}
 use Rattle.domain.proofs.DomainLaws.{domain-bounded}
 use Rattle.compile.specs.Program.{programOf}
@@ -57,48 +57,48 @@ unfolding lowestBelow
 lowest-below D positions T e zero = lowest-none
 lowest-below D positions T e (suc n) = rw (← add-one n) (lowest-more n (lowest-below D positions T e n) (lesser-lower (D .goal n) _ _))
 
-abbrev graphOf : Job → Graph
-graphOf j = record { domain = domainOf j; steps = stepsOf j; positions = positionCount j }
+abbrev graphOf : Task → Graph
+graphOf t = record { domain = domainOf t; steps = stepsOf (t .job); positions = positionCount (t .job) }
 
 -- ten rounds are enough for the marked cases
-abbrev tableOf : Job → List ℕ
-tableOf j = computedTable (graphOf j) 10
+abbrev tableOf : Task → List ℕ
+tableOf t = computedTable (graphOf t) 10
 
-abbrev leastOf : Job → ℕ
-leastOf j = lowestBelow (domainOf j) (positionCount j) (tableOf j) (end (programOf j) 0) (domainOf j .states)
+abbrev leastOf : Task → ℕ
+leastOf t = lowestBelow (domainOf t) (positionCount (t .job)) (tableOf t) (end (programOf (t .job)) 0) (domainOf t .states)
 
 -- a list of moves of this verdict; none where more rounds are needed
-unfoldable pub computedJudgement : Job → Verdict → Option Judgement
-computedJudgement j (plan c) = cond (relaxedBelow (graphOf j) (tableOf j) (domainOf j .states)) (some (judgementOf (compared c (leastOf j)))) none
-computedJudgement j (blocked i) = some (other (blocked i))
-computedJudgement j unfinished = some (other unfinished)
-computedJudgement j missed = some (other missed)
+unfoldable pub computedJudgement : Task → Verdict → Option Judgement
+computedJudgement t (plan c) = cond (relaxedBelow (graphOf t) (tableOf t) (domainOf t .states)) (some (judgementOf (compared c (leastOf t)))) none
+computedJudgement t (blocked i) = some (other (blocked i))
+computedJudgement t unfinished = some (other unfinished)
+computedJudgement t missed = some (other missed)
 
-module _ (text : List ℕ) (j : Job) (accepted : AcceptedJob text j) where
-  table-filled : relaxedBelow (graphOf j) (tableOf j) (domainOf j .states) ≡ true
-      → Filled (domainOf j) (stepsOf j) (positionCount j) (replicate (cellCount (graphOf j)) unreached) (tableOf j)
+module _ (text : List ℕ) (t : Task) (accepted : AcceptedJob text (t .job)) (within : CostsWithin (t .costs)) where
+  table-filled : relaxedBelow (graphOf t) (tableOf t) (domainOf t .states) ≡ true
+      → Filled (domainOf t) (stepsOf (t .job)) (positionCount (t .job)) (replicate (cellCount (graphOf t)) unreached) (tableOf t)
   table-filled ok =
-      let fits : cellCount (graphOf j) * mostCost < unreached = omega (arith, needs-within text j accepted .1) in
-      computed-filled (graphOf j) (compiled-closed (domainOf j) (programOf j) (domain-bounded j (accepted .right)) refl) (omega arith) fits 10 ok
+      let fits : cellCount (graphOf t) * mostCost < unreached = omega (arith, needs-within text t accepted .1) in
+      computed-filled (graphOf t) (compiled-closed (domainOf t) (programOf (t .job)) (domain-bounded t (accepted .right) within) refl) (omega arith) fits 10 ok
 
-  least-or : relaxedBelow (graphOf j) (tableOf j) (domainOf j .states) ≡ true → LeastOr (domainOf j) (programOf j) (leastOf j)
-  least-or ok = lowest-least (domainOf j) (programOf j) (domain-bounded j (accepted .right)) refl (table-filled ok) (lowest-below _ _ _ _ _)
+  least-or : relaxedBelow (graphOf t) (tableOf t) (domainOf t .states) ≡ true → LeastOr (domainOf t) (programOf (t .job)) (leastOf t)
+  least-or ok = lowest-least (domainOf t) (programOf (t .job)) (domain-bounded t (accepted .right) within) refl (table-filled ok) (lowest-below _ _ _ _ _)
 
   module _ (ms : List ℕ) where
     abbrev Gets : Verdict → Type 0
-    Gets v = Judged (domainOf j) (byRuns (domainOf j) (programOf j)) ms v
+    Gets v = Judged (domainOf t) (byRuns (domainOf t) (programOf (t .job))) ms v
 
     other-finds : (v : Verdict) (g : Judgement) → Gets v → ((c : ℕ) → v ≡ plan c → ⊥)
-        → _≡_ {A = Option Judgement} (some (other v)) (some g) → Finds (domainOf j) (programOf j) ms g
+        → _≡_ {A = Option Judgement} (some (other v)) (some g) → Finds (domainOf t) (programOf (t .job)) ms g
     other-finds v g x f e = let k : other v ≡ g = cc in rw k at (is-other x f)
 
-    pub computed-finds : (v : Verdict) (g : Judgement) → Judged (domainOf j) (byRuns (domainOf j) (programOf j)) ms v
-        → computedJudgement j v ≡ some g → Finds (domainOf j) (programOf j) ms g
+    pub computed-finds : (v : Verdict) (g : Judgement) → Judged (domainOf t) (byRuns (domainOf t) (programOf (t .job))) ms v
+        → computedJudgement t v ≡ some g → Finds (domainOf t) (programOf (t .job)) ms g
     unfolding computedJudgement
     computed-finds (plan c) g x e =
-        let v = cond-some (relaxedBelow (graphOf j) (tableOf j) (domainOf j .states)) e in
-        let k : judgementOf (compared c (leastOf j)) ≡ g = cc (v .1) in
-        rw k at (judged-plan (viewOf (record { job = j; entries = ms })) _ (Plan c) x refl refl (table-filled (v .0), least-or (v .0)) refl .finds)
+        let v = cond-some (relaxedBelow (graphOf t) (tableOf t) (domainOf t .states)) e in
+        let k : judgementOf (compared c (leastOf t)) ≡ g = cc (v .1) in
+        rw k at (judged-plan (viewOf (record { task = t; entries = ms })) _ (Plan c) x refl refl (table-filled (v .0), least-or (v .0)) refl .finds)
     computed-finds (blocked i) g x e = other-finds (blocked i) g x (λ c h. never (cc)) e
     computed-finds unfinished g x e = other-finds unfinished g x (λ c h. never (cc)) e
     computed-finds missed g x e = other-finds missed g x (λ c h. never (cc)) e

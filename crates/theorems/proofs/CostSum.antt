@@ -1,17 +1,18 @@
--- Of a list of moves that a run makes, the cost is the plain sum of the moves' class costs.
+-- Of a list of moves that a run makes, the cost is the plain sum of the moves' class costs, by the
+-- costs that were loaded.
 -- Assumes nothing.
 use Prim.Native.Nat.{ℕ, _+_}
 use mathlib.Core.Path.{_≡_, refl}
 use mathlib.Core.List.{List, _++_}
 use native.Mathlib.Omega.{arith}
-use Rattle.job.specs.Job.{Job, moveAt}
+use Rattle.job.specs.Job.{moveAt}
+use Rattle.job.specs.Task.{Task, classCost}
 use Rattle.semantics.specs.Program.{Program}
 use Rattle.semantics.specs.Domain.{Domain}
 use Rattle.semantics.specs.Transition as T
 use Rattle.semantics.specs.Transition.{Transition, Run}
 use Rattle.semantics.specs.Plan.{cost, Allowed}
 use Rattle.semantics.proofs.CostLaws.{cost-first}
-use Rattle.domain.specs.Cost.{classCost}
 use Rattle.domain.specs.Domain.{costIn, domainOf}
 use Rattle.compile.specs.Program.{programOf}
 use Rattle.theorems.specs.CostSum.{sumOf, classSum}
@@ -40,6 +41,6 @@ module _ (D : Domain) (f : ℕ → ℕ) (by-move : (m s : ℕ) → D .cost m s �
   run-sum T.stop = refl
   run-sum (T.step {ms} x r) = transition-sum ms x (run-sum r)
 
-pub cost-is-sum : (j : Job) (ms : List ℕ) → Allowed (domainOf j) (programOf j) ms → cost (domainOf j) (domainOf j .start) ms ≡ classSum j ms
+pub cost-is-sum : (t : Task) (ms : List ℕ) → Allowed (domainOf t) (programOf (t .job)) ms → cost (domainOf t) (domainOf t .start) ms ≡ classSum t ms
 unfolding costIn
-cost-is-sum j ms a = run-sum (domainOf j) (λ m. classCost (moveAt j m .class)) (λ m s. refl) (a .run)
+cost-is-sum t ms a = run-sum (domainOf t) (λ m. classCost (t .costs) (moveAt (t .job) m .class)) (λ m s. refl) (a .run)

@@ -1,5 +1,5 @@
--- Demand 3, as written: for accepted texts, a list and a table long enough, whatever they held, and
--- every offered list of moves that the program allows.
+-- Demand 3, as written: for accepted texts, costs given or the house's, a list and a table long
+-- enough, whatever they held, and every offered list of moves that the program allows.
 -- Assumes nothing.
 use Prim.Native.Nat.{ℕ}
 use mathlib.Core.Path.{_≡_, refl, sym, _∙_, ap, subst}
@@ -14,14 +14,15 @@ use Rattle.semantics.specs.Plan.{cost, Allowed}
 use Rattle.semantics.specs.Verdict.{Verdict, plan, Judged, is-plan, byRuns}
 use Rattle.semantics.specs.Judgement.{Judgement, other, Finds, is-least, is-dearer, is-other}
 use Rattle.semantics.proofs.VerdictLaws.{one-move-verdict}
-use Rattle.load.specs.Refusals.{Checked, passed, Offer}
+use Rattle.load.specs.Refusals.{Handed, Checked, passed, Offer}
 use Rattle.load.specs.View.{View, viewOf, viewIn}
 use Rattle.load.specs.declared.request.Sort.the-variants.{Moves}
+use Rattle.jesmovit.specs.Texts.{Texts}
 use Rattle.jesmovit.specs.Outcomes.{SizedJudgement, judgeOutcome}
 use Rattle.jesmovit.specs.Answers.{Answers}
 use Rattle.jesmovit.specs.Compiling.{viewSizes}
 use Rattle.jesmovit.specs.Checking.{checking, CheckDone}
-use Rattle.jesmovit.specs.Judging.{judging, JudgeDone, Judges}
+use Rattle.jesmovit.specs.Judging.{judging, Lent, JudgeDone, Judges}
 use Rattle.jesmovit.specs.declared.judging.JudgeAnswer.{JudgeAnswer}
 use Rattle.jesmovit.proofs.AnswerLaws.{Answered, answered, view-of}
 use Rattle.theorems.specs.Accepted.{Accepted}
@@ -78,12 +79,13 @@ module _ (v : View) where
   repeated none (is-other x f) = refl
 
 -- whatever answer, list and table meet the judge's promise
-module _ (text plan list table : List ℕ) (o : Offer) (accepted : Accepted (judging text plan (length list) (length table)) o)
-    (answer : JudgeAnswer) (list-after table-after : List ℕ) (promised : Judges text plan list table answer list-after table-after) where
-  judged : Answered JudgeDone (viewOf o) (record { list = list; table = table }) (judgeOutcome answer) (record { list = list-after; table = table-after })
-  judged =
-      answered promised
-      (view-of (judging text plan (length list) (length table)) (accepted-iff (judging text plan (length list) (length table)) o .1 accepted))
+module _ (t : Texts) (old : Lent) (o : Offer) (accepted : Accepted (judging t (length (old .list)) (length (old .table))) o)
+    (answer : JudgeAnswer) (new : Lent) (promised : Judges t old answer new) where
+  abbrev h : Handed
+  h = judging t (length (old .list)) (length (old .table))
+
+  judged : Answered JudgeDone (viewOf o) old (judgeOutcome answer) new
+  judged = answered promised (view-of h (accepted-iff h o .1 accepted))
 
   outcome-is : judgeOutcome answer ≡ judgedAs (viewOf o) (judged .value .judgement)
   outcome-is = judged .is ∙ ap (λ s. passed (record { sizes = s; judgement = judged .value .judgement })) (judged .done .sized)
@@ -94,11 +96,9 @@ module _ (text plan list table : List ℕ) (o : Offer) (accepted : Accepted (jud
   -- "for others it repeats the check's verdict"
   pub judge-repeats : (Allowed (viewOf o .domain) (viewOf o .program) (o .entries) → ⊥)
       → (w : Verdict) × (judgeOutcome answer ≡ judgedAs (viewOf o) (other w))
-      × Answers (CheckDone Moves) list (viewIn (checking Moves text plan (length list))) (passed w) list-after
+      × Answers (CheckDone Moves) (old .list) (viewIn (checking Moves t (length (old .list)))) (passed w) (new .list)
   judge-repeats none = (
     verdictIn (judged .value .judgement),
     outcome-is ∙ ap (judgedAs (viewOf o)) (repeated (viewOf o) none (judged .done .found .finds)),
-    judged-is-checked text plan list table (subst (λ (d : Checked SizedJudgement).
-        Answers JudgeDone (record { list = list; table = table }) (viewIn (judging text plan (length list) (length table))) d
-        (record { list = list-after; table = table-after })) (judged .is) promised),
+    judged-is-checked t old new (subst (λ (d : Checked SizedJudgement). Answers JudgeDone old (viewIn h) d new) (judged .is) promised),
   )

@@ -13,14 +13,15 @@ use Rattle.semantics.specs.Program.{Program}
 use Rattle.semantics.specs.Domain.{Domain}
 use Rattle.semantics.specs.Verdict.{Judged, byRuns}
 use Rattle.semantics.specs.Judgement.{Judgement, Finds, is-least, is-dearer, is-other}
-use Rattle.load.specs.Refusals.{passed, Offer, textsIn, loading}
+use Rattle.load.specs.Refusals.{Handed, passed, Offer, textsIn, loading}
 use Rattle.load.specs.View.{View, viewOf, viewIn}
 use Rattle.load.specs.declared.request.Sort.the-variants.{Moves}
 use Rattle.load.proofs.LoadingLaws.{loading-iff}
+use Rattle.jesmovit.specs.Texts.{Texts}
 use Rattle.jesmovit.specs.Outcomes.{SizedJudgement}
 use Rattle.jesmovit.specs.Answers.{Answers}
 use Rattle.jesmovit.specs.Checking.{checking, CheckDone}
-use Rattle.jesmovit.specs.Judging.{costing, judging, TableOf, TableFor, CostDone, LeastIs, costs, no-plan, JudgeDone}
+use Rattle.jesmovit.specs.Judging.{costing, judging, Lent, TableOf, TableFor, CostDone, LeastIs, costs, no-plan, JudgeDone}
 use Rattle.jesmovit.proofs.AnswerLaws.{answer-done, spoken, offer-of}
 use Rattle.theorems.specs.Decided.{verdictIn, leastIn}
 use Rattle.theorems.proofs.Acceptance.{accepted-iff}
@@ -37,57 +38,53 @@ named-least v (is-least {c} x l) t e = (subst (λ (k : Option ℕ). LeastIs v k)
 named-least v (is-dearer {c} {b} x l h) t e = (subst (λ (k : Option ℕ). LeastIs v k) e (costs l), t)
 named-least v (is-other x f) t e = never (cc)
 
-module _ (text plan list table : List ℕ) {g : SizedJudgement} {l t : List ℕ}
-    (x : Answers JudgeDone (record { list = list; table = table }) (viewIn (judging text plan (length list) (length table))) (passed g)
-    (record { list = l; table = t })) where
+module _ (t : Texts) (old new : Lent) {g : SizedJudgement}
+    (x : Answers JudgeDone old (viewIn (judging t (length (old .list)) (length (old .table)))) (passed g) new) where
+  abbrev h : Handed
+  h = judging t (length (old .list)) (length (old .table))
+
   -- the offer that is judged
   record Offered : Type 0 where
     offer : Offer
-    passes : loading (judging text plan (length list) (length table)) ≡ passed offer
-    done : JudgeDone (viewOf offer) g (record { list = list; table = table }) (record { list = l; table = t })
+    passes : loading (judging t (length (old .list)) (length (old .table))) ≡ passed offer
+    done : JudgeDone (viewOf offer) g old new
 
   offered : Offered
   offered =
       let (v, p, d) = spoken x refl in
-      let (o, f, q) = offer-of (judging text plan (length list) (length table)) p in
-      record {
-        offer = o;
-        passes = f;
-        done = subst (λ (w : View). JudgeDone w g (record { list = list; table = table }) (record { list = l; table = t }))
-            (sym q) d;
-      }
+      let (o, f, q) = offer-of h p in
+      record { offer = o; passes = f; done = subst (λ (w : View). JudgeDone w g old new) (sym q) d }
 
   -- the check's answer
-  checked : loading (checking Moves text plan (length list)) ≡ passed (offered .offer)
+  checked : loading (checking Moves t (length (old .list))) ≡ passed (offered .offer)
   unfolding textsIn
   checked =
-      let y = loading-iff (judging text plan (length list) (length table)) (offered .offer) .0 (offered .passes) in
-      loading-iff (checking Moves text plan (length list)) (offered .offer) .1 (y .0, y .1, omega arith)
+      let y = loading-iff h (offered .offer) .0 (offered .passes) in
+      loading-iff (checking Moves t (length (old .list))) (offered .offer) .1 (y .0, y .1, omega arith)
 
   pub judged-is-checked :
-      Answers (CheckDone Moves) list (viewIn (checking Moves text plan (length list))) (passed (verdictIn (g .judgement))) l
+      Answers (CheckDone Moves) (old .list) (viewIn (checking Moves t (length (old .list)))) (passed (verdictIn (g .judgement))) (new .list)
   judged-is-checked =
-      answer-done (checking Moves text plan (length list)) (sym checked)
+      answer-done (checking Moves t (length (old .list))) (sym checked)
       (record { says = found-verdict (offered .done .found .finds); list = offered .done .list })
 
   -- the least cost's answer
-  costed : loading (costing text (length list) (length table)) ≡ passed (record { job = offered .offer .job; entries = [] })
+  costed : loading (costing t (length (old .list)) (length (old .table))) ≡ passed (record { task = offered .offer .task; entries = [] })
   costed =
-      let a = accepted-iff (judging text plan (length list) (length table)) (offered .offer) .0 (offered .passes) in
-      accepted-iff (costing text (length list) (length table)) (record { job = offered .offer .job; entries = [] }) .1 (record {
-        texts = record { its-job = a .texts .its-job; its-plan = λ f. never (cc); alone = λ f. refl };
+      let a = accepted-iff h (offered .offer) .0 (offered .passes) in
+      accepted-iff (costing t (length (old .list)) (length (old .table))) (record { task = offered .offer .task; entries = [] }) .1 (record {
+        texts = record { its-task = a .texts .its-task; its-plan = λ f. never (cc); alone = λ f. refl };
         list = a .list;
         table = a .table;
       })
 
   pub judged-is-costed : {b : ℕ} → leastIn (g .judgement) ≡ some b
-      → Answers CostDone (record { list = list; table = table }) (viewIn (costing text (length list) (length table))) (passed (some b))
-      (record { list = l; table = t })
+      → Answers CostDone old (viewIn (costing t (length (old .list)) (length (old .table)))) (passed (some b)) new
   judged-is-costed f =
       let n = named-least (viewOf (offered .offer)) (offered .done .found .finds) (offered .done .found .table) f in
-      answer-done (costing text (length list) (length table)) (sym costed) (record { is = again (n .0); list = offered .done .list; table = n .1 })
+      answer-done (costing t (length (old .list)) (length (old .table))) (sym costed) (record { is = again (n .0); list = offered .done .list; table = n .1 })
     where
       -- the entries are not looked at
-      again : {k : Option ℕ} → LeastIs (viewOf (offered .offer)) k → LeastIs (viewOf (record { job = offered .offer .job; entries = [] })) k
+      again : {k : Option ℕ} → LeastIs (viewOf (offered .offer)) k → LeastIs (viewOf (record { task = offered .offer .task; entries = [] })) k
       again (costs y) = costs y
       again (no-plan y) = no-plan y

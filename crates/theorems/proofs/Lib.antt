@@ -1,11 +1,12 @@
 pub mod TextLaws
 pub mod ToldLaws
-pub mod PlanTexts
+pub mod ListTexts
 pub mod Acceptance
+pub mod HouseCosts
 pub mod RefusalNumbers
 pub mod Fronts
 pub mod LongTexts
-pub mod LongPlans
+pub mod LongLists
 pub mod Agreement
 pub mod StepPlans
 pub mod CostSum

@@ -1,9 +1,10 @@
--- The ten marked cases, from the bytes of their texts, by position sets and computed cost tables.
+-- The ten marked cases, and three by other costs, from the bytes of their texts, by position sets
+-- and computed cost tables.
 -- Assumes nothing.
 use Prim.Native.Nat.{ℕ, _*_}
 use mathlib.Core.Path.{_≡_, refl, ap}
 use mathlib.Core.Option.{Option, some}
-use mathlib.Core.List.{List, _∷_, map, List·Memᴰ, List·Memᴰ·head, List·Memᴰ·tail}
+use mathlib.Core.List.{List, [], _∷_, _++_, map, List·Memᴰ, List·Memᴰ·head, List·Memᴰ·tail}
 use native.Mathlib.Omega.{arith}
 use Rattle.limits.specs.Limits.{mostSteps}
 use Rattle.laws.proofs.Tests.{never}
@@ -20,21 +21,21 @@ use Rattle.semantics.specs.PositionSets.{spread, close, silentIn, isMove, anyMa
 use Rattle.semantics.specs.StepVerdict.{arrives}
 use Rattle.semantics.proofs.CheckLaws.{verdict-by-judged}
 use Rattle.domain.specs.State.{fact, putFact, value, values, afterEffect, applied, affected}
-use Rattle.domain.specs.Cost.{classCost}
+use Rattle.job.specs.Task.{classCost}
 use Rattle.domain.specs.Domain.{holdsIn, successorOf, costIn, domainOf}
 use Rattle.compile.specs.Program.{build, programs, programOf}
 use Rattle.compile.specs.CompiledJob.{positionCount, stepCount, fits}
-use Rattle.plans.specs.PlanText.{entryIn, readEntries, readLines, readPlan}
-use Rattle.load.specs.Refusals.{Checked, passed, refused, Offer, next, jobIn, textsIn, loading}
+use Rattle.lists.specs.CountedList.{entryIn, countIn, readEntries, readLines, readList}
+use Rattle.load.specs.Refusals.{Checked, passed, refused, Offer, next, jobIn, taskIn, textsIn, loading}
 use Rattle.jesmovit.specs.Judging.{judging}
-use Rattle.theorems.specs.MarkedCases.{Case, marked, Right}
-use Rattle.theorems.proofs.Acceptance.{accepted-iff}
+use Rattle.theorems.specs.MarkedCases.{Case, marked, pricedCases, Right}
+use Rattle.theorems.proofs.Acceptance.{accepted-within, accepted-iff}
 use Rattle.theorems.proofs.ComputedTable.{follow, followAll, sweep, sweeps, computedTable, keeps, every, relaxedBelow}
 use Rattle.theorems.proofs.ComputedJudgement.{lowestBelow, computedJudgement, computed-finds}
 
 -- the judgement by position sets and a computed cost table
 abbrev judgement : Offer → Option Judgement
-judgement o = computedJudgement (o .job) (verdictBy (positionCount (o .job)) (domainOf (o .job)) (programOf (o .job)) (o .entries))
+judgement o = computedJudgement (o .task) (verdictBy (positionCount (o .task .job)) (domainOf (o .task)) (programOf (o .task .job)) (o .entries))
 
 -- the sizes and the judgement
 record Computed : Type 0 where
@@ -43,41 +44,42 @@ record Computed : Type 0 where
   says : Option Judgement
 
 abbrev computedOf : Offer → Computed
-computedOf o = record { positions = positionCount (o .job); steps = stepCount (o .job); says = judgement o }
+computedOf o = record { positions = positionCount (o .task .job); steps = stepCount (o .task .job); says = judgement o }
 
 -- the same from the texts, or the refusal
 unfoldable judged : Case → Checked Computed
-judged c = next (loading (judging (c .job) (c .plan) (mostSteps * 4) 12288)) (λ o. passed (computedOf o))
+judged c = next (loading (judging (c .texts) (mostSteps * 4) 12288)) (λ o. passed (computedOf o))
 
 abbrev said : Case → Checked Computed
 said c = passed (record { positions = c .positions; steps = c .steps; says = some (c .says) })
 
-computed : map judged marked ≡ map said marked
+computed : map judged (marked ++ pricedCases) ≡ map said (marked ++ pricedCases)
 unfolding bytes lines hasKey valueOf byteRead numbers
     lineNumbers fault taken ended readFrom readJob
     end steps branchSteps whileSteps starSteps build programs fits
     fact putFact value values afterEffect applied affected classCost holdsIn successorOf costIn
     spread close silentIn isMove anyMark firstSet nextSet onward finished verdictFrom moveOn verdictBy
-    entryIn readEntries readLines readPlan jobIn textsIn loading
+    entryIn countIn readEntries readLines readList jobIn taskIn textsIn loading
     arrives follow followAll sweep sweeps computedTable keeps every relaxedBelow lowestBelow computedJudgement
-    marked judged
+    marked pricedCases judged
 computed = refl
 
 judged-right : (c : Case) → judged c ≡ said c → Right c
 unfolding judged
-judged-right c e = by (loading (judging (c .job) (c .plan) (mostSteps * 4) 12288)) refl e
+judged-right c e = by (loading (judging (c .texts) (mostSteps * 4) 12288)) refl e
   where
-    by : (k : Checked Offer) → loading (judging (c .job) (c .plan) (mostSteps * 4) 12288) ≡ k → next k (λ o. passed (computedOf o)) ≡ said c → Right c
+    by : (k : Checked Offer) → loading (judging (c .texts) (mostSteps * 4) 12288) ≡ k → next k (λ o. passed (computedOf o)) ≡ said c → Right c
     by (passed o) f g =
         let z : computedOf o ≡ record { positions = c .positions; steps = c .steps; says = some (c .says) } = cc in
-        let accepted = accepted-iff (judging (c .job) (c .plan) (mostSteps * 4) 12288) o .0 f .texts .its-job in
-        let j = verdict-by-judged (domainOf (o .job)) (programOf (o .job)) (positionCount (o .job)) (omega arith) (o .entries) in
+        let accepted = accepted-iff (judging (c .texts) (mostSteps * 4) 12288) o .0 f .texts .its-task in
+        let j = verdict-by-judged (domainOf (o .task)) (programOf (o .task .job)) (positionCount (o .task .job)) (omega arith) (o .entries) in
         record {
           offer = o;
           passes = f;
           positions = ap (λ (x : Computed). x .positions) z;
           steps = ap (λ (x : Computed). x .steps) z;
-          finds = computed-finds (c .job) (o .job) accepted (o .entries) _ (c .says) j (ap (λ (x : Computed). x .says) z);
+          finds = computed-finds (c .texts .job) (o .task) (accepted .its-job) (accepted-within _ _ _ (o .task) accepted) (o .entries) _ (c .says) j
+              (ap (λ (x : Computed). x .says) z);
         }
     by (refused number place) f g = never (cc)
 
@@ -85,6 +87,19 @@ each-right : (cs : List Case) → map judged cs ≡ map said cs → (c : Case) �
 each-right (d ∷ cs) e c (List·Memᴰ·head h) = rw h (judged-right d (cc))
 each-right (d ∷ cs) e c (List·Memᴰ·tail m) = each-right cs (cc) c m
 
+-- a case of one table is one of both
+in-first : {c : Case} (xs ys : List Case) → List·Memᴰ c xs → List·Memᴰ c (xs ++ ys)
+in-first (d ∷ xs) ys (List·Memᴰ·head h) = List·Memᴰ·head h
+in-first (d ∷ xs) ys (List·Memᴰ·tail m) = List·Memᴰ·tail (in-first xs ys m)
+
+in-second : {c : Case} (xs ys : List Case) → List·Memᴰ c ys → List·Memᴰ c (xs ++ ys)
+in-second [] ys m = m
+in-second (d ∷ xs) ys m = List·Memᴰ·tail (in-second xs ys m)
+
 -- every case of the table
 pub marked-cases : (c : Case) → List·Memᴰ c marked → Right c
-marked-cases = each-right marked computed
+marked-cases c m = each-right (marked ++ pricedCases) computed c (in-first marked pricedCases m)
+
+-- and of the table by other costs
+pub priced-cases : (c : Case) → List·Memᴰ c pricedCases → Right c
+priced-cases c m = each-right (marked ++ pricedCases) computed c (in-second marked pricedCases m)

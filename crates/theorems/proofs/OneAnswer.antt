@@ -19,6 +19,7 @@ use Rattle.load.specs.Refusals.{Handed, Checked, refused}
 use Rattle.load.specs.View.{View, viewIn, viewSteps, finalOf, positionsOf}
 use Rattle.load.specs.declared.request.Sort.{Sort}
 use Rattle.load.specs.declared.request.Sort.the-variants.{Moves, Steps}
+use Rattle.jesmovit.specs.Texts.{Texts}
 use Rattle.jesmovit.specs.Outcomes.{readOutcome, compileOutcome, checkOutcome, leastOutcome, judgementOf, SizedJudgement, judgeOutcome}
 use Rattle.jesmovit.specs.Answers.{Answers}
 use Rattle.jesmovit.specs.JobText.{Reads}
@@ -129,7 +130,8 @@ judge-injective (G.the-variants.Judged p n g) (G.the-variants.Refused r) e = nev
 judge-injective (G.the-variants.Refused r) (G.the-variants.Judged p n g) e = never (cc)
 judge-injective (G.the-variants.Refused r) (G.the-variants.Refused q) e = ap G.the-variants.Refused (refusal-same r q e)
 
--- only the view counts: calls that are handed other things, with the same view, have the same outcome
+-- only the view counts: calls that are handed other things, with the same view, have the same
+-- outcome
 pub same-view : {B C : Type 0} {Does : View → B → C → C → Type 0} {old : C} → OneWay Does old → (h k : Handed) → viewIn h ≡ viewIn k
     → {d e : Checked B} {x y : C} → Answers Does old (viewIn h) d x → Answers Does old (viewIn k) e y → (d ≡ e) × (x ≡ y)
 same-view {Does = Does} {old} one h k same {d} {x = x} p q = one-outcome one (subst (λ (c : Checked View). Answers Does old c d x) same p) q
@@ -142,19 +144,15 @@ one-read-answer text a b x y = read-injective a b (x ∙ sym y)
 pub one-compile-answer : (text list : List ℕ) (a b : C.CompileAnswer) (l m : List ℕ) → Compiles text list a l → Compiles text list b m → (a ≡ b) × (l ≡ m)
 one-compile-answer text list a b l m x y = (compile-injective a b (x .outcome ∙ sym (y .outcome)), x .holds ∙ sym (y .holds))
 
--- of a check
-pub one-answer : (sort : Sort) (text plan list : List ℕ) (a b : K.CheckAnswer) (l m : List ℕ)
-    → Checks sort text plan list a l → Checks sort text plan list b m → (a ≡ b) × (l ≡ m)
-one-answer sort text plan list a b l m x y = let z = one-outcome one-checked x y in (check-injective a b (z .0), z .1)
+module _ (t : Texts) where
+  -- of a check
+  pub one-answer : (sort : Sort) (list : List ℕ) (a b : K.CheckAnswer) (l m : List ℕ) → Checks sort t list a l → Checks sort t list b m → (a ≡ b) × (l ≡ m)
+  one-answer sort list a b l m x y = let z = one-outcome one-checked x y in (check-injective a b (z .0), z .1)
 
--- of the least cost
-pub one-cost-answer : (text list table : List ℕ) (a b : L.LeastAnswer) (l m t u : List ℕ)
-    → CostsLeast text list table a l t → CostsLeast text list table b m u → (a ≡ b) × (l ≡ m) × (t ≡ u)
-one-cost-answer text list table a b l m t u x y =
-    let z = one-outcome one-costed x y in (least-injective a b (z .0), ap (λ (k : Lent). k .list) (z .1), ap (λ (k : Lent). k .table) (z .1))
+  -- of the least cost
+  pub one-cost-answer : (old : Lent) (a b : L.LeastAnswer) (x y : Lent) → CostsLeast t old a x → CostsLeast t old b y → (a ≡ b) × (x ≡ y)
+  one-cost-answer old a b x y p q = let z = one-outcome one-costed p q in (least-injective a b (z .0), z .1)
 
--- of the judge
-pub one-judge-answer : (text plan list table : List ℕ) (a b : G.JudgeAnswer) (l m t u : List ℕ)
-    → Judges text plan list table a l t → Judges text plan list table b m u → (a ≡ b) × (l ≡ m) × (t ≡ u)
-one-judge-answer text plan list table a b l m t u x y =
-    let z = one-outcome one-judged x y in (judge-injective a b (z .0), ap (λ (k : Lent). k .list) (z .1), ap (λ (k : Lent). k .table) (z .1))
+  -- of the judge
+  pub one-judge-answer : (old : Lent) (a b : G.JudgeAnswer) (x y : Lent) → Judges t old a x → Judges t old b y → (a ≡ b) × (x ≡ y)
+  one-judge-answer old a b x y p q = let z = one-outcome one-judged p q in (judge-injective a b (z .0), z .1)

@@ -7,6 +7,7 @@ use mathlib.Core.List.{List}
 use Rattle.load.specs.Refusals.{Checked}
 use Rattle.load.specs.View.{View}
 use Rattle.load.specs.declared.request.Sort.{Sort}
+use Rattle.jesmovit.specs.Texts.{Texts}
 use Rattle.jesmovit.specs.Answers.{Answers}
 use Rattle.jesmovit.specs.JobText.{Reads}
 use Rattle.jesmovit.specs.Compiling.{Compiles}
@@ -42,21 +43,18 @@ one-compile-call text list n m v w l k g h =
     let e = gives-once (λ a b x y. ap (outcomeNumbers sizeNumbers) (x .outcome ∙ sym (y .outcome))) g h in
     (e .0, e .1, g .holds .holds ∙ sym (h .holds .holds))
 
--- of a check
-pub one-check-call : (sort : Sort) (text plan list : List ℕ) (n m : ℕ) (v w l k : List ℕ) → Gives checkNumbers (λ a. Checks sort text plan list a l) n v
-    → Gives checkNumbers (λ a. Checks sort text plan list a k) m w → (n ≡ m) × (v ≡ w) × (l ≡ k)
-one-check-call sort text plan list n m v w l k g h = one-call checkOutcome (λ v. codeNumbers (verdictCode v)) one-checked g h
+module _ (t : Texts) (n m : ℕ) (v w : List ℕ) where
+  -- of a check
+  pub one-check-call : (sort : Sort) (list l k : List ℕ) → Gives checkNumbers (λ a. Checks sort t list a l) n v
+      → Gives checkNumbers (λ a. Checks sort t list a k) m w → (n ≡ m) × (v ≡ w) × (l ≡ k)
+  one-check-call sort list l k g h = one-call checkOutcome (λ v. codeNumbers (verdictCode v)) one-checked g h
 
--- of the least cost
-pub one-cost-call : (text list table : List ℕ) (n m : ℕ) (v w l k t u : List ℕ) → Gives leastNumbers (λ a. CostsLeast text list table a l t) n v
-    → Gives leastNumbers (λ a. CostsLeast text list table a k u) m w → (n ≡ m) × (v ≡ w) × (l ≡ k) × (t ≡ u)
-one-cost-call text list table n m v w l k t u g h =
-    let e = one-call leastOutcome costNumbers one-costed g h in
-    (e .0, e .1, ap (λ (x : Lent). x .list) (e .2), ap (λ (x : Lent). x .table) (e .2))
+  -- of the least cost
+  pub one-cost-call : (old x y : Lent) → Gives leastNumbers (λ a. CostsLeast t old a x) n v → Gives leastNumbers (λ a. CostsLeast t old a y) m w
+      → (n ≡ m) × (v ≡ w) × (x ≡ y)
+  one-cost-call old x y g h = one-call leastOutcome costNumbers one-costed g h
 
--- of the judge
-pub one-judge-call : (text plan list table : List ℕ) (n m : ℕ) (v w l k t u : List ℕ) → Gives judgeNumbers (λ a. Judges text plan list table a l t) n v
-    → Gives judgeNumbers (λ a. Judges text plan list table a k u) m w → (n ≡ m) × (v ≡ w) × (l ≡ k) × (t ≡ u)
-one-judge-call text plan list table n m v w l k t u g h =
-    let e = one-call judgeOutcome (λ g. judgedNumbers (g .sizes) (judgementCode (g .judgement))) one-judged g h in
-    (e .0, e .1, ap (λ (x : Lent). x .list) (e .2), ap (λ (x : Lent). x .table) (e .2))
+  -- of the judge
+  pub one-judge-call : (old x y : Lent) → Gives judgeNumbers (λ a. Judges t old a x) n v → Gives judgeNumbers (λ a. Judges t old a y) m w
+      → (n ≡ m) × (v ≡ w) × (x ≡ y)
+  one-judge-call old x y g h = one-call judgeOutcome (λ g. judgedNumbers (g .sizes) (judgementCode (g .judgement))) one-judged g h

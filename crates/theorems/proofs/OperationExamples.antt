@@ -1,4 +1,4 @@
--- Small texts, compiled by the definition: the sample, and examples of refusals 4, 5 and 6.
+-- Small texts, compiled by the definition: the sample, and examples of refusals 4, 7, 5 and 6.
 -- Assumes nothing.
 use mathlib.Core.Path.{_≡_, refl}
 use mathlib.Core.List.{List, [], _∷_, _++_}
@@ -13,10 +13,11 @@ use Rattle.job.specs.ReadJob.{taken, ended, readFrom, readJob}
 use Rattle.semantics.specs.CompilingTable.{end, steps, flat}
 use Rattle.compile.specs.Program.{build, programs}
 use Rattle.compile.specs.CompiledJob.{fits}
-use Rattle.plans.specs.PlanText.{entryIn, readEntries, readLines, readPlan}
-use Rattle.load.specs.Refusals.{passed, refused, next, jobIn, textsIn, loading}
+use Rattle.lists.specs.CountedList.{entryIn, countIn, readEntries, readLines, readList}
+use Rattle.load.specs.Refusals.{passed, refused, next, jobIn, taskIn, textsIn, loading}
 use Rattle.load.specs.View.{viewIn}
 use Rattle.load.specs.declared.request.Sort.the-variants.{Moves}
+use Rattle.jesmovit.specs.Texts.{withoutCosts, withCostsText}
 use Rattle.jesmovit.specs.Checking.{checking}
 use Rattle.jesmovit.specs.Judging.{costing, judging}
 use Rattle.theorems.specs.MarkedCases.{sample}
@@ -24,18 +25,19 @@ use Rattle.jesmovit.specs.Compiling.{compiling, listAfter, viewSizes}
 
 -- "`positions=3` `steps=2` `s=3,0,1,0` `s=3,1,2,1`"
 compiles-sample : next (viewIn (compiling sample 9)) (λ v. passed (viewSizes v)) ≡ passed (record { positions = 3; steps = 2 })
-unfolding bytes lines hasKey valueOf byteRead numbers lineNumbers fault taken ended readFrom readJob end steps build programs fits jobIn textsIn loading
+unfolding bytes lines hasKey valueOf byteRead numbers lineNumbers fault taken ended readFrom readJob end steps build programs fits jobIn taskIn textsIn loading
 compiles-sample = refl
 
 -- with a later entry, which does not change
 fills-list : next (viewIn (compiling sample 9)) (λ v. passed (listAfter v (7 ∷ 7 ∷ 7 ∷ 7 ∷ 7 ∷ 7 ∷ 7 ∷ 7 ∷ 7 ∷ [])))
     ≡ passed (3 ∷ 0 ∷ 1 ∷ 0 ∷ 3 ∷ 1 ∷ 2 ∷ 1 ∷ 7 ∷ [])
-unfolding bytes lines hasKey valueOf byteRead numbers lineNumbers fault taken ended readFrom readJob end steps flat build programs fits jobIn textsIn loading
+unfolding bytes lines hasKey valueOf byteRead numbers lineNumbers fault taken ended readFrom readJob end steps flat build programs fits
+    jobIn taskIn textsIn loading
 fills-list = refl
 
 -- a list that is one place too short
 refuses-list : loading (compiling sample 7) ≡ refused 6 8
-unfolding bytes lines hasKey valueOf byteRead numbers lineNumbers fault taken ended readFrom readJob end steps build programs fits jobIn textsIn loading
+unfolding bytes lines hasKey valueOf byteRead numbers lineNumbers fault taken ended readFrom readJob end steps build programs fits jobIn taskIn textsIn loading
 refuses-list = refl
 
 -- "`p=1,0,0,0`, then `p=4,k,k,0` for k from 0 to 7: 257 positions"
@@ -49,31 +51,60 @@ unfolding bytes lines hasKey valueOf byteRead numbers lineNumbers fault taken en
 refuses-positions = refl
 
 -- "`plan=1`, `m=2` on the sample: line 2"
-refuses-entry : loading (checking Moves sample (bytes "plan=1\nm=2\n") (mostSteps * 4)) ≡ refused 5 2
+refuses-entry : loading (checking Moves (withoutCosts sample (bytes "plan=1\nm=2\n")) (mostSteps * 4)) ≡ refused 5 2
 unfolding bytes lines hasKey valueOf byteRead numbers lineNumbers fault taken ended readFrom readJob end steps build programs fits
-    entryIn readEntries readLines readPlan jobIn textsIn loading
+    entryIn countIn readEntries readLines readList jobIn taskIn textsIn loading
 refuses-entry = refl
 
 -- "An entry of the other sort is of wrong form."
-refuses-step : loading (checking Moves sample (bytes "plan=1\nt=0\n") (mostSteps * 4)) ≡ refused 5 2
+refuses-step : loading (checking Moves (withoutCosts sample (bytes "plan=1\nt=0\n")) (mostSteps * 4)) ≡ refused 5 2
 unfolding bytes lines hasKey valueOf byteRead numbers lineNumbers fault taken ended readFrom readJob end steps build programs fits
-    entryIn readEntries readLines readPlan jobIn textsIn loading
+    entryIn countIn readEntries readLines readList jobIn taskIn textsIn loading
 refuses-step = refl
 
 -- "so 6 doesn't look at the plan": a plan that would be blocked, with a list that is one place too
 -- short
-refuses-before-verdict : loading (checking Moves sample (bytes "plan=1\nm=1\n") 7) ≡ refused 6 8
+refuses-before-verdict : loading (checking Moves (withoutCosts sample (bytes "plan=1\nm=1\n")) 7) ≡ refused 6 8
 unfolding bytes lines hasKey valueOf byteRead numbers lineNumbers fault taken ended readFrom readJob end steps build programs fits
-    entryIn readEntries readLines readPlan jobIn textsIn loading
+    entryIn countIn readEntries readLines readList jobIn taskIn textsIn loading
 refuses-before-verdict = refl
 
 -- "11 numbers for the sample's cost table: 12"
-refuses-table : loading (costing sample 8 11) ≡ refused 6 12
-unfolding bytes lines hasKey valueOf byteRead numbers lineNumbers fault taken ended readFrom readJob end steps build programs fits jobIn textsIn loading
+refuses-table : loading (costing (withoutCosts sample []) 8 11) ≡ refused 6 12
+unfolding bytes lines hasKey valueOf byteRead numbers lineNumbers fault taken ended readFrom readJob end steps build programs fits jobIn taskIn textsIn loading
 refuses-table = refl
 
 -- "Where it and a cost table are both too short, it decides."
-refuses-list-first : loading (judging sample (bytes "plan=0\n") 7 11) ≡ refused 6 8
+refuses-list-first : loading (judging (withoutCosts sample (bytes "plan=0\n")) 7 11) ≡ refused 6 8
 unfolding bytes lines hasKey valueOf byteRead numbers lineNumbers fault taken ended readFrom readJob end steps build programs fits
-    entryIn readEntries readLines readPlan jobIn textsIn loading
+    entryIn countIn readEntries readLines readList jobIn taskIn textsIn loading
 refuses-list-first = refl
+
+-- "an empty one is bad"
+refuses-empty-costs : loading (costing (withCostsText sample [] []) 8 12) ≡ refused 7 1
+unfolding bytes lines hasKey valueOf byteRead numbers lineNumbers fault taken ended readFrom readJob end steps build programs fits
+    entryIn countIn readEntries readLines readList jobIn taskIn textsIn loading
+refuses-empty-costs = refl
+
+-- a missing line
+refuses-missing-cost : loading (costing (withCostsText sample [] (bytes "costs=16\n")) 8 12) ≡ refused 7 2
+unfolding bytes lines hasKey valueOf byteRead numbers lineNumbers fault taken ended readFrom readJob end steps build programs fits
+    entryIn countIn readEntries readLines readList jobIn taskIn textsIn loading
+refuses-missing-cost = refl
+
+-- "Class 0 must cost 0."
+refuses-class-zero : loading (costing (withCostsText sample [] (bytes "costs=16\nc=1\n")) 8 12) ≡ refused 7 2
+unfolding bytes lines hasKey valueOf byteRead numbers lineNumbers fault taken ended readFrom readJob end steps build programs fits
+    entryIn countIn readEntries readLines readList jobIn taskIn textsIn loading
+refuses-class-zero = refl
+
+-- "after the job's refusals 1 to 4 and before 5": with a bad plan text, and with a bad job text
+refuses-costs-first : loading (checking Moves (withCostsText sample (bytes "plan=1\nm=2\n") (bytes "costs=15\n")) 7) ≡ refused 7 1
+unfolding bytes lines hasKey valueOf byteRead numbers lineNumbers fault taken ended readFrom readJob end steps build programs fits
+    entryIn countIn readEntries readLines readList jobIn taskIn textsIn loading
+refuses-costs-first = refl
+
+refuses-job-first : loading (checking Moves (withCostsText doubled (bytes "plan=0\n") []) 7) ≡ refused 4 18
+unfolding bytes lines hasKey valueOf byteRead numbers lineNumbers fault taken ended readFrom readJob end steps build programs fits
+    entryIn countIn readEntries readLines readList jobIn taskIn textsIn loading
+refuses-job-first = refl

@@ -10,6 +10,7 @@ use Rattle.text.specs.Bytes.{bytes}
 use Rattle.text.specs.Lines.{lines, hasKey, valueOf}
 use Rattle.text.specs.Numbers.{byteRead, numbers}
 use Rattle.job.specs.Job.{Job}
+use Rattle.job.specs.Task.{atHouseCosts, classCost}
 use Rattle.job.specs.Line.{lineNumbers}
 use Rattle.job.specs.Fault.{fault}
 use Rattle.job.specs.ReadJob.{read, taken, ended, readFrom, readJob}
@@ -24,7 +25,6 @@ use Rattle.semantics.specs.Machine.{onward, finished, verdictFrom}
 use Rattle.semantics.specs.PositionSets.{spread, close, silentIn, isMove, anyMark, firstSet, nextSet, moveOn, verdictBy}
 use Rattle.semantics.proofs.CheckLaws.{verdict-by-judged}
 use Rattle.domain.specs.State.{fact, putFact, value, values, afterEffect, applied, affected}
-use Rattle.domain.specs.Cost.{classCost}
 use Rattle.domain.specs.Domain.{holdsIn, successorOf, costIn, domainOf}
 use Rattle.compile.specs.Program.{build, programs, programOf}
 use Rattle.theorems.specs.MarkedCases.{starOfWhile}
@@ -44,7 +44,7 @@ unfolding bytes lines hasKey valueOf byteRead numbers lineNumbers fault taken en
 case-read = refl
 
 abbrev D : Domain
-D = domainOf caseEight
+D = domainOf (atHouseCosts caseEight)
 
 -- the star's body
 abbrev body : Program

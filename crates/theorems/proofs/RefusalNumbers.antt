@@ -1,10 +1,9 @@
 -- The numbers by which each operation refuses.
 -- Assumes nothing.
 use Prim.Native.Nat.{ℕ, _+_, _≤_}
-use mathlib.Core.Path.{_≡_, refl, sym, subst}
-use mathlib.Core.Bool.{Bool, false, cond}
+use mathlib.Core.Path.{_≡_, refl, subst}
+use mathlib.Core.Bool.{true, cond}
 use mathlib.Core.List.{List, [], _∷_}
-use mathlib.Core.Logic.{inl, inr}
 use mathlib.Core.Option.{Option, none, some}
 use native.Mathlib.Omega.{arith}
 use lib.Dec.{eqb, leb}
@@ -12,6 +11,7 @@ use lib.ListN.{getD}
 use borrow.Author.Tests.{eqb-false}
 use Rattle.laws.proofs.Tests.{never, cond-has}
 use Rattle.job.specs.Job.{Job, countsOf}
+use Rattle.job.specs.Task.{Task, atHouseCosts}
 use Rattle.job.specs.Line.{lineNumbers}
 use Rattle.job.specs.Fault.{rangeOf, isIn, criteria, reasonOf, fault}
 use Rattle.job.specs.ReadJob as R
@@ -21,12 +21,15 @@ use Rattle.job.specs.declared.line.Line.{Line}
 use Rattle.job.specs.declared.line.Line.the-variants.{One, Of, End}
 use Rattle.job.proofs.FaultLaws.{range-reason}
 use Rattle.text.specs.Lines.{lines}
-use Rattle.plans.specs.PlanText as P
-use Rattle.plans.specs.PlanText.{PlanOutcome, readPlan}
+use Rattle.lists.specs.CountedList as L
+use Rattle.lists.specs.CountedList.{ListOutcome}
+use Rattle.lists.specs.CostsText.{readCosts}
+use Rattle.lists.specs.PlanText.{readPlan}
 use Rattle.compile.specs.CompiledJob.{fits}
-use Rattle.load.specs.Refusals.{Handed, Checked, passed, refused, next, compilable, jobIn, offered, keyFor, boundFor, planIn, textsIn}
+use Rattle.load.specs.Refusals.{Handed, Checked, passed, refused, next, compilable, jobIn, withCosts, costsIn, taskIn}
+use Rattle.load.specs.Refusals.{offered, keyFor, boundFor, planIn, textsIn}
 use Rattle.load.specs.Refusals.{listNeed, tableNeed, loading}
-use Rattle.theorems.specs.RefusalNumbers.{UpTo, WithoutPlan}
+use Rattle.theorems.specs.RefusalNumbers.{UpTo, TextNumber, of-job, of-costs, of-plan, LoadNumber, of-text, too-short}
 
 -- whatever refusal it is, its number meets P
 abbrev RefusedBy : {A : Type 0} → (ℕ → Type 0) → Checked A → Type 0
@@ -87,46 +90,40 @@ pub job-number : (text : List ℕ) (number place : ℕ) → jobIn text ≡ refus
 unfolding jobIn
 job-number text = compilable-refuses (readJob text) (read-number text)
 
-offered-refuses : (j : Job) (p : PlanOutcome) → RefusedBy (UpTo 5) (offered j p)
-offered-refuses j (P.listed es) = λ a b e. never (cc)
-offered-refuses j (P.refused line) = λ a b e. let y : a ≡ 5 = cc in (omega arith, omega arith)
-
--- of what is handed in, with or without a plan text
+-- of what is handed in, with or without costs and plan texts
 module _ (h : Handed) where
-  plan-refuses : (j : Job) → RefusedBy (UpTo 5) (planIn (h .request) (h .plan) j)
-  plan-refuses j =
-      cond-has (RefusedBy (UpTo 5)) (h .request .plan) _ (passed (record { job = j; entries = [] }))
-      (λ z. offered-refuses j (readPlan (keyFor (h .request .sort)) (boundFor (h .request .sort) j) (h .plan))) (λ z number place e. never (cc))
+  abbrev ByText : {A : Type 0} → Checked A → Type 0
+  ByText = RefusedBy (TextNumber h)
 
-  alone-refuses : h .request .plan ≡ false → (j : Job) → RefusedBy WithoutPlan (planIn (h .request) (h .plan) j)
-  alone-refuses f j =
-      subst (λ (b : Bool). RefusedBy WithoutPlan
-      (cond b (offered j (readPlan (keyFor (h .request .sort)) (boundFor (h .request .sort) j) (h .plan))) (passed (record { job = j; entries = [] }))))
-      (sym f) (λ number place e. never (cc))
+  costed-refuses : (j : Job) → h .request .given .costs ≡ true → (o : ListOutcome) → ByText (withCosts j o)
+  costed-refuses j f (L.listed cs) = λ a b e. never (cc)
+  costed-refuses j f (L.refused line) = λ a b e. let y : 7 ≡ a = cc in subst (TextNumber h) y (of-costs f)
 
-  -- reason 6 after both texts
-  lengths-refuse : (P : ℕ → Type 0) → P 6 → RefusedBy P (textsIn h) → RefusedBy P (loading h)
-  unfolding loading
-  lengths-refuse P six x =
-      next-refuses P _ _
-      (next-refuses P (textsIn h) _ x (λ o. length-refuses P o (listNeed (o .job)) (h .request .places) six))
-      (λ o. length-refuses P o (tableNeed (h .request) (o .job)) (h .request .cells) six)
+  costs-refuse : (j : Job) → ByText (costsIn (h .request .given) (h .costs) j)
+  costs-refuse j =
+      cond-has ByText (h .request .given .costs) _ (passed (atHouseCosts j)) (λ z. costed-refuses j z (readCosts (h .costs))) (λ z a b e. never (cc))
+
+  offered-refuses : (t : Task) → h .request .plan ≡ true → (o : ListOutcome) → ByText (offered t o)
+  offered-refuses t f (L.listed es) = λ a b e. never (cc)
+  offered-refuses t f (L.refused line) = λ a b e. let y : 5 ≡ a = cc in subst (TextNumber h) y (of-plan f)
+
+  plan-refuses : (t : Task) → ByText (planIn (h .request) (h .plan) t)
+  plan-refuses t =
+      cond-has ByText (h .request .plan) _ (passed (record { task = t; entries = [] }))
+      (λ z. offered-refuses t z (readPlan (keyFor (h .request .sort)) (boundFor (h .request .sort) (t .job)) (h .plan))) (λ z a b e. never (cc))
 
   -- of the texts alone
-  pub texts-number : (number place : ℕ) → textsIn h ≡ refused number place → UpTo 5 number
-  unfolding textsIn
+  pub texts-number : (number place : ℕ) → textsIn h ≡ refused number place → TextNumber h number
+  unfolding textsIn taskIn
   texts-number =
-      next-refuses (UpTo 5) (jobIn (h .job)) _ (λ a b e. let x = job-number (h .job) a b e in (x .0, omega (arith, x .1))) plan-refuses
+      next-refuses (TextNumber h) (taskIn (h .request .given) (h .job) (h .costs)) _
+      (next-refuses (TextNumber h) (jobIn (h .job)) _ (λ a b e. of-job (job-number (h .job) a b e)) costs-refuse) plan-refuses
 
-  job-text-number : h .request .plan ≡ false → RefusedBy WithoutPlan (textsIn h)
-  unfolding textsIn
-  job-text-number f = next-refuses WithoutPlan (jobIn (h .job)) _ (λ a b e. inl (job-number (h .job) a b e)) (alone-refuses f)
-
-  -- of every operation that takes texts
-  pub load-number : (number place : ℕ) → loading h ≡ refused number place → UpTo 6 number
+  -- of every operation but reading
+  pub load-number : (number place : ℕ) → loading h ≡ refused number place → LoadNumber h number
+  unfolding loading
   load-number =
-      lengths-refuse (UpTo 6) (omega arith, omega arith) (λ a b e. let x = texts-number a b e in (x .0, omega (arith, x .1)))
-
-  -- and where it takes no plan text
-  pub job-load-number : h .request .plan ≡ false → (number place : ℕ) → loading h ≡ refused number place → WithoutPlan number
-  job-load-number f = lengths-refuse WithoutPlan (inr refl) (job-text-number f)
+      next-refuses (LoadNumber h) _ _
+      (next-refuses (LoadNumber h) (textsIn h) _ (λ a b e. of-text (texts-number a b e))
+      (λ o. length-refuses (LoadNumber h) o (listNeed (o .task .job)) (h .request .places) too-short))
+      (λ o. length-refuses (LoadNumber h) o (tableNeed (h .request) (o .task)) (h .request .cells) too-short)

@@ -1,5 +1,6 @@
 pub mod JobText
 pub mod Accepted
+pub mod HouseCosts
 pub mod RefusalNumbers
 pub mod Decided
 pub mod CostSum

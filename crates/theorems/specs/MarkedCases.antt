@@ -11,19 +11,33 @@ use Rattle.domain.specs.Domain.{domainOf}
 use Rattle.compile.specs.Program.{programOf}
 use Rattle.compile.specs.CompiledJob.{positionCount, stepCount}
 use Rattle.load.specs.Refusals.{passed, Offer, loading}
+use Rattle.jesmovit.specs.Texts.{Texts, withoutCosts, withCostsText}
 use Rattle.jesmovit.specs.Judging.{judging}
 
--- the bytes of a job text and of a plan text, the positions and steps of the compiled job, and what
--- the judge finds
+-- the bytes of the texts, the positions and steps of the compiled job, and what the judge finds
 pub record Case : Type 0 where
-  pub job : List ℕ
-  pub plan : List ℕ
+  pub texts : Texts
   pub positions : ℕ
   pub steps : ℕ
   pub says : Judgement
 
+-- a job text and a plan text, by the house's costs
 abbrev marks : List ℕ → ℕ → ℕ → String → Judgement → Case
-marks job positions steps plan says = record { job = job; plan = bytes plan; positions = positions; steps = steps; says = says }
+marks job positions steps plan says = record {
+  texts = withoutCosts job (bytes plan);
+  positions = positions;
+  steps = steps;
+  says = says;
+}
+
+-- the same with a costs text
+abbrev priced : Case → List ℕ → Case
+priced c costs = record {
+  texts = withCostsText (c .texts .job) (c .texts .plan) costs;
+  positions = c .positions;
+  steps = c .steps;
+  says = c .says;
+}
 
 -- "The sample", with this init, this goal and this program
 abbrev pub sampleWith : String → String → String → List ℕ
@@ -66,12 +80,28 @@ marked =
     ∷ marks nilProgram 2 1 "plan=0\n" (least 0)  -- "(10) … empty plan least at 0"
     ∷ []
 
+-- class 1 costs 7, class 3 costs 100, the others as the house's
+abbrev ownCosts : List ℕ
+ownCosts = bytes "costs=16\nc=0\nc=7\nc=12\nc=100\nc=30\nc=45\nc=60\nc=90\nc=120\nc=180\nc=240\nc=360\nc=600\nc=900\nc=1800\nc=3600\n"
+
+abbrev freeCosts : List ℕ
+freeCosts = bytes "costs=16\nc=0\nc=0\nc=0\nc=0\nc=0\nc=0\nc=0\nc=0\nc=0\nc=0\nc=0\nc=0\nc=0\nc=0\nc=0\nc=0\n"
+
+-- "The judge's verdict is now about the costs that were loaded": cases (1) and (6) by other costs,
+-- where crossing twice costs 100 more than once, or nothing
+unfoldable pub pricedCases : List Case
+pricedCases =
+    priced (marks sample 3 2 "plan=2\nm=0\nm=1\n" (least 107)) ownCosts
+    ∷ priced (marks starOfChoice 8 9 "plan=3\nm=0\nm=0\nm=1\n" (dearer 207 107)) ownCosts
+    ∷ priced (marks starOfChoice 8 9 "plan=3\nm=0\nm=0\nm=1\n" (least 0)) freeCosts
+    ∷ []
+
 -- nothing is refused, with a list of 4,096 and a cost table of 12,288 places, the compiled job has
 -- these sizes, and this is what the judge finds: by the program's own runs, and by all allowed
 -- plans of whatever length
 pub record Right (c : Case) : Type 0 where
   pub offer : Offer
-  pub passes : loading (judging (c .job) (c .plan) (mostSteps * 4) 12288) ≡ passed offer
-  pub positions : positionCount (offer .job) ≡ c .positions
-  pub steps : stepCount (offer .job) ≡ c .steps
-  pub finds : Finds (domainOf (offer .job)) (programOf (offer .job)) (offer .entries) (c .says)
+  pub passes : loading (judging (c .texts) (mostSteps * 4) 12288) ≡ passed offer
+  pub positions : positionCount (offer .task .job) ≡ c .positions
+  pub steps : stepCount (offer .task .job) ≡ c .steps
+  pub finds : Finds (domainOf (offer .task)) (programOf (offer .task .job)) (offer .entries) (c .says)

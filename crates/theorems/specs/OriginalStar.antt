@@ -4,8 +4,10 @@ use Prim.Native.Nat.{ℕ, suc}
 use mathlib.Core.Path.{_≡_}
 use mathlib.Core.List.{List, [], _∷_, _++_}
 use Rattle.job.specs.Job.{Job}
+use Rattle.job.specs.Task.{atHouseCosts}
 use Rattle.job.specs.ReadJob.{read, readJob}
 use Rattle.semantics.specs.Label.{noop}
+use Rattle.semantics.specs.Domain.{Domain}
 use Rattle.semantics.specs.Program.{Program, nil, star}
 use Rattle.semantics.specs.Transition.{Run}
 use Rattle.semantics.specs.CompilingTable.{Step, arc, end, steps}
@@ -21,6 +23,9 @@ originalEnd a n = suc (end a n)
 abbrev pub originalSteps : ℕ → Program → ℕ → List Step
 originalSteps M a n = steps M a n ++ (arc noop n (originalEnd a n) ∷ arc noop (end a n) n ∷ [])
 
+abbrev houseDomain : Job → Domain
+houseDomain j = domainOf (atHouseCosts j)
+
 -- a job text whose program is a star, of which these steps allow a list of moves that the program
 -- does not complete
 pub record StarFails (text moves : List ℕ) : Type 0 where
@@ -32,6 +37,6 @@ pub record StarFails (text moves : List ℕ) : Type 0 where
   -- some path with these moves reaches the final position
   pub numbers : List ℕ
   pub last : ℕ
-  pub path : Path (domainOf job) (originalSteps (domainOf job .moves) body 0) (domainOf job .start) 0 numbers moves last (originalEnd body 0)
+  pub path : Path (houseDomain job) (originalSteps (houseDomain job .moves) body 0) (houseDomain job .start) 0 numbers moves last (originalEnd body 0)
   -- no run of the program that makes them leaves nil
-  pub no-run : (t : ℕ) → Run (domainOf job) (domainOf job .start) (programOf job) moves t nil → ⊥
+  pub no-run : (t : ℕ) → Run (houseDomain job) (houseDomain job .start) (programOf job) moves t nil → ⊥

@@ -1,15 +1,24 @@
--- The numbers by which operations refuse, as document 01's table of reasons numbers them.
+-- The numbers by which operations refuse, as documents 01 and 02 have them.
 use Prim.Native.Nat.{ℕ, _≤_}
 use mathlib.Core.Path.{_≡_}
+use mathlib.Core.Bool.{true}
 use mathlib.Core.Logic.{_↔_, _⊎_}
+use Rattle.load.specs.Refusals.{Handed}
 
 -- one of the numbers from 1 to the last
 abbrev pub UpTo : ℕ → ℕ → Type 0
 UpTo last number = (1 ≤ number) × (number ≤ last)
 
--- 1 to 4, or 6: where there is no plan text
-abbrev pub WithoutPlan : ℕ → Type 0
-WithoutPlan number = UpTo 4 number ⊎ (number ≡ 6)
+-- the texts: 1 to 4; 7 where a costs text is given; 5 where there is a plan text
+pub data TextNumber (h : Handed) : ℕ → Type 0 where
+  of-job : {number : ℕ} → UpTo 4 number → TextNumber h number
+  of-costs : h .request .given .costs ≡ true → TextNumber h 7
+  of-plan : h .request .plan ≡ true → TextNumber h 5
+
+-- and 6, of a list or a table
+pub data LoadNumber (h : Handed) : ℕ → Type 0 where
+  of-text : {number : ℕ} → TextNumber h number → LoadNumber h number
+  too-short : LoadNumber h 6
 
 -- the number that a call from outside gives back: 0 just where nothing is refused, and otherwise
 -- one of these numbers

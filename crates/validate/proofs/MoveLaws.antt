@@ -7,7 +7,7 @@ use mathlib.Core.Option.{none, some}
 use mathlib.Core.List.{List}
 use native.Mathlib.Omega.{arith}
 use lib.ListN.{length, getD, set, replicate}
-use Rattle.limits.specs.Limits.{mostPositions, mostFormulas}
+use Rattle.limits.specs.Limits.{mostPositions, mostFormulas, mostCost}
 use Rattle.job.specs.Job.{Job}
 use Rattle.job.specs.Store.{jobOf}
 use Rattle.job.specs.declared.head.Head.{Head}
@@ -18,7 +18,6 @@ use Rattle.semantics.specs.Machine.{Machine, onward, finished, verdictFrom}
 use Rattle.semantics.specs.PositionSets.{closure, spread, isMove, silentIn, anyMark, firstSet, nextSet, Configurations, moveOn, setMachine, verdictBy}
 use Rattle.semantics.proofs.Marks.{count-zero, count-some}
 use Rattle.semantics.proofs.SetVerdict.{not-applicable, moves-nowhere, moves-somewhere}
-use Rattle.domain.specs.Cost.{mostCost}
 use Rattle.domain.specs.Domain.{domainIn, Tells}
 use Rattle.domain.specs.Successor.{successorIn}
 use Rattle.domain.specs.declared.Successor.{Successor}

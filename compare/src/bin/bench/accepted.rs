@@ -1,7 +1,7 @@
-//! The library's operations on texts that it accepts.
+//! The library's operations on texts that it accepts, with no costs text.
 
 use jesmovit_compare::answer::Answer;
-use jesmovit_compare::library;
+use jesmovit_compare::library::{self, NONE_GIVEN};
 
 /// The answer's numbers; ends the program where the library refuses the text.
 fn accepted(answer: Answer) -> [u64; 5] {
@@ -18,9 +18,9 @@ pub fn compile(job: &[u8], list: &mut [u16]) -> [u64; 5] {
 }
 
 pub fn check_moves(job: &[u8], plan: &[u8], list: &mut [u16]) -> [u64; 5] {
-    accepted(library::check_moves(job, plan, list))
+    accepted(library::check_moves(job, plan, NONE_GIVEN, list))
 }
 
 pub fn least_cost(job: &[u8], list: &mut [u16], table: &mut [u32]) -> [u64; 5] {
-    accepted(library::least_cost(job, list, table))
+    accepted(library::least_cost(job, NONE_GIVEN, list, table))
 }

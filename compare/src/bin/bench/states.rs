@@ -1,8 +1,7 @@
 //! What the baselines know of a job's states: formula values, successors and costs, prepared for speed.
 
 use jesmovit_compare::second::costs::UNREACHED;
-use jesmovit_compare::second::domain::CLASS_COSTS;
-use jesmovit_compare::second::job::Job;
+use jesmovit_compare::second::job::{Job, HOUSE_COSTS};
 
 /// The values of all formulas in a state, a bit each.
 #[derive(Clone, Copy, Default)]
@@ -48,7 +47,7 @@ impl States {
         };
         let actions = job.moves.iter().map(|m| Action {
             pre: m.pre,
-            cost: CLASS_COSTS[usize::from(m.class)] as u32,
+            cost: HOUSE_COSTS[usize::from(m.class)].into(),
             effects: m.effects.iter().map(effect).collect(),
         });
         States {

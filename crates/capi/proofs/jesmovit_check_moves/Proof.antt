@@ -6,9 +6,12 @@ use Rattle.capi.proofs.jesmovit_check_moves.Tie as tie
 returns : tie.Need-returns
 returns c =
     let at5 = c .before .before .before .before .before in
-    given-by (at5 .check-moves .result) (at5 .check-moves .ensures) (c .before .before .of-check .ensures) (c .hand-out .ensures)
+    let at7 = at5 .before .before in
+    given-by (at5 .check-moves .result) (rw (at7 .given-in .ensures) at (at5 .check-moves .ensures))
+    (c .before .before .of-check .ensures) (c .hand-out .ensures)
 
 pub jesmovit-check-moves-spec : {M : Type 1} → statement M
 jesmovit-check-moves-spec =
     tie.close
-    (tie.spec (λ c κs. search needs) (λ c κs. search needs) (λ c κs. search needs) (λ c. search needs) returns)
+    (tie.spec
+    (λ c κs. search needs) (λ c κs. search needs) (λ c κs. search needs) (λ c κs. search needs) (λ c. search needs) returns)

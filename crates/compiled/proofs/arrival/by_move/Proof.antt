@@ -1,4 +1,5 @@
 use native.Mathlib.Omega.{arith}
+use Rattle.job.specs.Store.{taskOf}
 use Rattle.domain.proofs.SuccessorLaws.{successor-past}
 use Rattle.compiled.proofs.ArrivalLaws.{arrives-after, arrives-nowhere}
 use borrow.Author.Needs.{needs}
@@ -13,7 +14,8 @@ returns c =
     let at5 = c .before .before .before .before .before in
     let a = at5 .args in
     record {
-      leads = arrives-nowhere _ _ _ _ (successor-past _ (a .step .arg) (a .state) (omega (arith, c .if1 .taken, c .before .move-count .ensures)));
+      leads = arrives-nowhere _ _ _ _
+          (successor-past (taskOf (a .head) (a .rows .now)) (a .step .arg) (a .state) (omega (arith, c .if1 .taken, c .before .move-count .ensures)));
       cached = at5 .pre .successors;
     }
 

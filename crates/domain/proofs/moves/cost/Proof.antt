@@ -1,10 +1,12 @@
-use mathlib.Core.Path.{ap}
+use Prim.Native.Nat.{ℕ, _≤_}
+use mathlib.Core.Path.{sym, _∙_, ap, subst}
 use native.Mathlib.Omega.{arith}
+use Rattle.limits.specs.Limits.{mostCost}
 use Rattle.job.specs.Job.{Move}
+use Rattle.job.specs.Task.{classCost}
+use Rattle.job.specs.Store.{storedCosts}
 use Rattle.job.proofs.StoredLaws.{move-count, move-class}
-use Rattle.domain.specs.Cost.{classCost}
 use Rattle.domain.specs.Domain.{costIn}
-use Rattle.domain.proofs.CostLaws.{cost-within}
 use borrow.Author.Needs.{needs}
 use Rattle.domain.proofs.moves.cost.Statement.{statement}
 use Rattle.domain.proofs.moves.cost.Tie as tie
@@ -15,23 +17,30 @@ move-at-requires c κs =
     let p = c .before .before .pre in
     (p .0 .0, omega (arith, p .1, move-count (a .head) (a .rows .now)))
 
-array-read-result : tie.Need-array-read-result
-array-read-result c =
-    let at4 = c .before .before .before .before in
-    let a = at4 .args in
-    let p = at4 .pre in
-    omega (
-      arith,
-      ap (λ (x : Move). x .class) (c .before .move-at .ensures),
-      move-class (p .0 .0) (a .m) (omega (arith, p .1, move-count (a .head) (a .rows .now))),
+class-cost-requires : tie.Need-class-cost-requires
+class-cost-requires c κs =
+    let b = c .before .before .before in
+    let a = b .args in
+    let p = b .pre in (
+      omega (
+        arith,
+        ap (λ (x : Move). x .class) (c .move-at .ensures),
+        move-class (p .0 .0) (a .m) (omega (arith, p .1, move-count (a .head) (a .rows .now))),
+      ),
+      p .0 .0 .size,
     )
 
 returns : tie.Need-returns
-unfolding costIn classCost
-returns c = (rw (← c .before .move-at .ensures), cost-within (c .before .move-at .result .class))
+unfolding costIn
+returns c =
+    let b = c .before .before .before .before in
+    let costs = storedCosts (b .args .rows .now) in (
+      c .class-cost .ensures ∙ ap (λ (x : Move). classCost costs (x .class)) (c .before .move-at .ensures),
+      subst (λ (n : ℕ). n ≤ mostCost) (sym (c .class-cost .ensures)) (b .pre .0 .0 .costs (c .before .move-at .result .class)),
+    )
 
 pub cost-spec : {M : Type 1} → statement M
 cost-spec =
     tie.close
     (tie.spec
-    move-at-requires (λ c. search needs) (λ c. search needs) array-read-result returns)
+    move-at-requires class-cost-requires (λ c. search needs) returns)

@@ -2,7 +2,7 @@ use mathlib.Core.Path.{_∙_, sym, ap}
 use Prim.Native.Nat.{_+_}
 use native.Mathlib.Omega.{arith}
 use Rattle.job.specs.Job.{Move}
-use Rattle.job.specs.Store.{jobOf}
+use Rattle.job.specs.Store.{jobOf, taskOf}
 use Rattle.job.proofs.StoredLaws.{move-count, move-effects}
 use Rattle.domain.proofs.EffectLaws.{applied-below}
 use Rattle.domain.proofs.SuccessorLaws.{successor-some, successor-none}
@@ -42,14 +42,14 @@ returns c =
     let at7 = at4 .before .before .before in
     let a = at7 .args in
     let p = at7 .pre in
-    successor-some (jobOf (a .head) (a .rows .now)) (a .m) (a .state) (a .values .now) (p .0 .1) (p .1 .0) (at4 .move-at .ensures) _ _
+    successor-some (taskOf (a .head) (a .rows .now)) (a .m) (a .state) (a .values .now) (p .0 .1) (p .1 .0) (at4 .move-at .ensures) _ _
     (sym (c .before .before .before .value-at .ensures) ∙ c .before .before .if1 .taken) (c .before .apply-effects .ensures) (c .apply-effects2 .ensures)
 
 returns-2 : tie.Need-returns-2
 returns-2 c =
     let a = c .before .before .before .before .before .args in
     let p = c .before .before .before .before .before .pre in
-    successor-none (jobOf (a .head) (a .rows .now)) (a .m) (a .state) (a .values .now) (p .0 .1) (p .1 .0) (c .before .before .move-at .ensures)
+    successor-none (taskOf (a .head) (a .rows .now)) (a .m) (a .state) (a .values .now) (p .0 .1) (p .1 .0) (c .before .before .move-at .ensures)
     (sym (c .before .value-at .ensures) ∙ c .if1 .left)
 
 pub successor-spec : {M : Type 1} → statement M

@@ -19,18 +19,18 @@ compile-requires c κs =
 
 part-verdict-end : tie.Need-part-verdict-end
 part-verdict-end c =
-    let at4 = c .before .before .before .before in
-    let at7 = at4 .before .before .before in
-    let at10 = at7 .before .before .before in
-    let at14 = at10 .before .before .before .before in
-    let at20 = at14 .before .before .before .before .before .before in
-    omega (arith, load-front (at14 .load .ensures) (at10 .loaded .given .1) (at20 .args .list .now) refl (at7 .list-need .ensures), at4 .compile .kept .1 .1 .0)
-
-part-verdict-end-2 : tie.Need-part-verdict-end-2
-part-verdict-end-2 c =
-    let at12 = c .before .before .before .before .before .before .before .before .before .before .before .before in
+    let at6 = c .before .before .before .before .before .before in
+    let at9 = at6 .before .before .before in
+    let at12 = at9 .before .before .before in
     let at16 = at12 .before .before .before .before in
-    omega (arith, load-few (at16 .load .ensures) (at12 .loaded .given .1), at16 .load .kept .1 .1 .1 .1 .0)
+    let at23 = at16 .before .before .before .before .before .before .before in
+    omega (arith, load-front (at16 .load .ensures) (at12 .loaded .given .1) (at23 .args .list .now) refl (at9 .list-need .ensures), at6 .compile .kept .1 .1 .0)
+
+part-offered-end : tie.Need-part-offered-end
+part-offered-end c =
+    let at9 = c .before .before .before .before .before .before .before .before .before in
+    let at13 = at9 .before .before .before .before in
+    omega (arith, load-few (at13 .load .ensures) (at9 .loaded .given .1), at13 .load .kept .1 .1 .1 .1 .1 .0)
 
 verdict-requires : tie.Need-verdict-requires
 verdict-requires c κs =
@@ -38,8 +38,8 @@ verdict-requires c κs =
     let at10 = at7 .before .before .before in
     let at13 = at10 .before .before .before in
     let at17 = at13 .before .before .before .before in
-    let at23 = at17 .before .before .before .before .before .before in (
-      load-ready (at17 .load .ensures) (at13 .loaded .given .1) (at23 .args .list .now) refl (at10 .list-need .ensures) (at7 .compile .ensures),
+    let at24 = at17 .before .before .before .before .before .before .before in (
+      load-ready (at17 .load .ensures) (at13 .loaded .given .1) (at24 .args .list .now) refl (at10 .list-need .ensures) (at7 .compile .ensures),
       load-entries (at17 .load .ensures) (at13 .loaded .given .1) refl,
     )
 
@@ -56,5 +56,5 @@ check-spec =
     tie.close
     (tie.spec
     (λ c. search needs) (λ c. search needs) (λ c κs. search needs) (λ c. search needs) (λ c. search needs) (λ c κs. search needs) returns
-    (λ c κs. search needs) (λ c. search needs) compile-requires (λ c. search needs) (λ c. search needs) (λ c. search needs) part-verdict-end
-    (λ c. search needs) (λ c. search needs) part-verdict-end-2 verdict-requires (λ c. search needs) returns-2)
+    (λ c κs. search needs) (λ c. search needs) compile-requires (λ c. search needs) (λ c. search needs) part-offered-end (λ c. search needs)
+    (λ c. search needs) (λ c. search needs) part-verdict-end verdict-requires (λ c. search needs) returns-2)

@@ -9,7 +9,9 @@ load-requires : tie.Need-load-requires
 load-requires c κs = (search needs, λ e. never (cc))
 
 returns : tie.Need-returns
-returns c = compile-refused _ _ (load-refusal (c .before .before .before .before .before .load .ensures) (c .before .enum-told .given .1) (c .refusal .ensures))
+returns c =
+    let at5 = c .before .before .before .before .before in
+    compile-refused _ _ (load-refusal (at5 .load .ensures) (c .before .enum-told .given .1) (c .refusal .ensures))
 
 compile-requires : tie.Need-compile-requires
 compile-requires c κs =
@@ -19,15 +21,18 @@ compile-requires c κs =
 
 returns-2 : tie.Need-returns-2
 returns-2 c =
-    compile-done _ _ (load-passed (c .before .before .before .before .before .before .before .before .before .before .before .load .ensures)
-    (c .before .before .before .before .before .before .before .loaded .given .1))
-    (sizes-of (load-sized (c .before .before .before .before .before .before .before .before .before .before .before .load .ensures)
-    (c .before .before .before .before .before .before .before .loaded .given .1)))
+    let at7 = c .before .before .before .before .before .before .before in
+    let at11 = at7 .before .before .before .before in
+    compile-done _ _ (load-passed (at11 .load .ensures)
+    (at7 .loaded .given .1))
+    (sizes-of (load-sized (at11 .load .ensures)
+    (at7 .loaded .given .1)))
     (c .before .before .compile .ensures)
 
 pub compile-spec : {M : Type 1} → statement M
 compile-spec =
     tie.close
     (tie.spec
-    (λ c. search needs) (λ c. search needs) (λ c. search needs) (λ c. search needs) (λ c. search needs) load-requires (λ c. search needs)
-    (λ c. search needs) (λ c κs. search needs) returns (λ c. search needs) compile-requires (λ c. search needs) returns-2)
+    (λ c. search needs) (λ c. search needs) (λ c. search needs) (λ c. search needs) (λ c. search needs) (λ c. search needs) (λ c. search needs)
+    (λ c. search needs) load-requires (λ c. search needs) (λ c. search needs) (λ c κs. search needs) returns (λ c. search needs) compile-requires
+    (λ c. search needs) returns-2)

@@ -24,14 +24,14 @@ part-judge-entries-end c =
     let at8 = at5 .before .before .before in
     let at11 = at8 .before .before .before in
     let at15 = at11 .before .before .before .before in
-    let at22 = at15 .before .before .before .before .before .before .before in
-    omega (arith, load-front (at15 .load .ensures) (at11 .loaded .given .1) (at22 .args .list .now) refl (at8 .list-need .ensures), at5 .compile .kept .1 .1 .0)
+    let at23 = at15 .before .before .before .before .before .before .before .before in
+    omega (arith, load-front (at15 .load .ensures) (at11 .loaded .given .1) (at23 .args .list .now) refl (at8 .list-need .ensures), at5 .compile .kept .1 .1 .0)
 
 part-judge-entries-end-2 : tie.Need-part-judge-entries-end-2
 part-judge-entries-end-2 c =
     let at13 = c .before .before .before .before .before .before .before .before .before .before .before .before .before in
     let at17 = at13 .before .before .before .before in
-    omega (arith, load-few (at17 .load .ensures) (at13 .loaded .given .1), at17 .load .kept .1 .1 .1 .1 .0)
+    omega (arith, load-few (at17 .load .ensures) (at13 .loaded .given .1), at17 .load .kept .1 .1 .1 .1 .1 .0)
 
 judge-entries-requires : tie.Need-judge-entries-requires
 judge-entries-requires c κs =
@@ -39,9 +39,9 @@ judge-entries-requires c κs =
     let at11 = at8 .before .before .before in
     let at14 = at11 .before .before .before in
     let at18 = at14 .before .before .before .before in
-    let at25 = at18 .before .before .before .before .before .before .before in (
+    let at26 = at18 .before .before .before .before .before .before .before .before in (
       (
-        load-ready (at18 .load .ensures) (at14 .loaded .given .1) (at25 .args .list .now) refl (at11 .list-need .ensures) (at8 .compile .ensures),
+        load-ready (at18 .load .ensures) (at14 .loaded .given .1) (at26 .args .list .now) refl (at11 .list-need .ensures) (at8 .compile .ensures),
         load-sized (at18 .load .ensures) (at14 .loaded .given .1) .states,
       ),
       (load-entries (at18 .load .ensures) (at14 .loaded .given .1) refl, load-cells (at18 .load .ensures) (at14 .loaded .given .1) refl),

@@ -8,7 +8,7 @@ use Rattle.jesmovit.proofs.judging.judge_entries.Tie as tie
 returns : tie.Need-returns
 returns c =
     let at6 = c .before .before .before .before .before .before in
-    judged-other _ (at6 .args .costs .now) (c .before .check-moves .result)
+    judged-other _ (at6 .args .table .now) (c .before .check-moves .result)
     (says-moves (at6 .args .head) (at6 .args .rows .now) (at6 .args .plan .now) refl (at6 .pre .0 .0) (c .before .check-moves .ensures)) (c .match .keys2)
 
 returns-2 : tie.Need-returns-2
@@ -16,7 +16,7 @@ returns-2 c =
     let at6 = c .before .before .before .before .before .before in
     let at8 = at6 .before .before in
     let at13 = at8 .before .before .before .before .before in
-    judged-plan _ (at13 .args .costs .now) (at8 .check-moves .result)
+    judged-plan _ (at13 .args .table .now) (at8 .check-moves .result)
     (says-moves (at13 .args .head) (at13 .args .rows .now) (at13 .args .plan .now) refl (at13 .pre .0 .0) (at8 .check-moves .ensures))
     (at6 .verdict .given .1) (at13 .pre .0 .0 .positions) (c .before .before .before .least-cost .ensures) (c .compare .ensures)
 

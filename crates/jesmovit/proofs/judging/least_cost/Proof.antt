@@ -28,8 +28,8 @@ part-least-cost-end c =
     let at8 = at5 .before .before .before in
     let at11 = at8 .before .before .before in
     let at15 = at11 .before .before .before .before in
-    let at22 = at15 .before .before .before .before .before .before .before in
-    omega (arith, load-front (at15 .load .ensures) (at11 .loaded .given .1) (at22 .args .list .now) refl (at8 .list-need .ensures), at5 .compile .kept .1 .1 .0)
+    let at23 = at15 .before .before .before .before .before .before .before .before in
+    omega (arith, load-front (at15 .load .ensures) (at11 .loaded .given .1) (at23 .args .list .now) refl (at8 .list-need .ensures), at5 .compile .kept .1 .1 .0)
 
 least-cost-requires : tie.Need-least-cost-requires
 least-cost-requires c κs =
@@ -37,9 +37,9 @@ least-cost-requires c κs =
     let at9 = at6 .before .before .before in
     let at12 = at9 .before .before .before in
     let at16 = at12 .before .before .before .before in
-    let at23 = at16 .before .before .before .before .before .before .before in (
+    let at24 = at16 .before .before .before .before .before .before .before .before in (
       (
-        load-ready (at16 .load .ensures) (at12 .loaded .given .1) (at23 .args .list .now) refl (at9 .list-need .ensures) (at6 .compile .ensures),
+        load-ready (at16 .load .ensures) (at12 .loaded .given .1) (at24 .args .list .now) refl (at9 .list-need .ensures) (at6 .compile .ensures),
         load-sized (at16 .load .ensures) (at12 .loaded .given .1) .states,
       ),
       load-cells (at16 .load .ensures) (at12 .loaded .given .1) refl,

@@ -1,0 +1,4 @@
+pub mod CountedList
+pub mod PlanText
+pub mod CostsText
+pub mod Listed

@@ -1,2 +1,0 @@
-// Plan texts: lists of moves or of steps.
-pub mod plan_text;
