@@ -5,7 +5,7 @@
 #include <stdlib.h>
 
 static uint16_t list[4096];
-static uint32_t table[1048576];
+static uint64_t table[1048576];
 
 /* The bytes of a file; a longer one is refused just as its first 65,536 bytes are. */
 static size_t read_file(const char *path, uint8_t text[65536])

@@ -16,7 +16,7 @@ extern "C" {
         given: u32,
         list: *mut u16,
         list_length: usize,
-        table: *mut u32,
+        table: *mut u64,
         table_length: usize,
         answer: *mut [u64; 5],
     ) -> u32;
@@ -28,7 +28,7 @@ struct Refusal(u32, u64);
 /// What a plan is for a job: positions, steps, and the outcome with its numbers.
 fn judge(job: &[u8], plan: &[u8], costs: Option<&[u8]>) -> Result<[u64; 5], Refusal> {
     let mut list = [0u16; 4096];
-    let mut table = vec![0u32; 1 << 20];
+    let mut table = vec![0u64; 1 << 20];
     let mut answer = [0u64; 5];
     let given = if costs.is_some() { COSTS_GIVEN } else { 0 };
     let costs = costs.unwrap_or_default();

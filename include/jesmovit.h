@@ -4,9 +4,9 @@
  * of 0; each points to as many numbers as its length says, aligned as C aligns them; and what a call may write (list, table, answer) overlaps nothing else
  * that it is handed. These rules are the caller's, and nothing tests them. No other is: any bytes and any lengths get their answer.
  *
- * A costs text, the line `costs=16` and a line `c=cost` for each class from 0 to 15, says what the moves of a class cost, in tenths of a second. It may be
- * left out: where `given` has the bit JESMOVIT_COSTS_GIVEN it is handed in, and then an empty one is refused; otherwise the house numbers hold, and the bytes
- * of `costs` are not looked at (any pointer that is not null will do, beside a length of 0). No other bit of `given` is looked at.
+ * A costs text, the line `costs=16` and a line `c=cost` for each class from 0 to 15, says what the moves of a class cost: 0 to 65,535 tenths of a second.
+ * It may be left out: where `given` has the bit JESMOVIT_COSTS_GIVEN it is handed in, and then an empty one is refused; otherwise the house numbers hold, and
+ * the bytes of `costs` are not looked at (any pointer that is not null will do, beside a length of 0). No other bit of `given` is looked at.
  *
  * Each function gives back 0, or the number of the refusal. Refusals are looked for in this order; of 1 to 3 the first bad line decides:
  *
@@ -14,7 +14,7 @@
  *   2  a count, or init, is outside its range                          the line
  *   3  a kind, reference, class, value or unused field is wrong        the line
  *   4  the compiled job has too many positions or steps                the last job line
- *   7  a line of the costs text is of wrong form, missing or extra, or has a cost above 3,600, or one above 0 for class 0    its line
+ *   7  a line of the costs text is of wrong form, missing or extra, or has a cost above 65,535, or one above 0 for class 0    its line
  *   5  the plan text is of wrong form, too long, or has an entry that the job lacks    the line of the plan text
  *   6  the list or the table is too short                              the length needed; where both are, the list's
  *
@@ -24,7 +24,10 @@
  * The list, where there is one, is filled whenever nothing is refused: four numbers for each step of the compiled job, its kind (0 no-op, 1 formula arg
  * holds, 2 formula arg doesn't hold, 3 move arg), the positions that it leads from and to, and its arg. 4,096 numbers are enough for every job. The cost
  * table is filled by jesmovit_least_cost, and by jesmovit_judge for a plan: at state * positions + position the least cost of reaching it, in tenths of a
- * second, or JESMOVIT_UNREACHED. 1,048,576 numbers are enough for every job. Numbers behind the filled ones keep what they held.
+ * second, or JESMOVIT_UNREACHED. 1,048,576 numbers of 64 bits, 8 MB, are enough for every job. Numbers behind the filled ones keep what they held.
+ *
+ * Tables once had numbers of 32 bits, under the same names of functions. A caller of then compiles anew with this header, and one that has declarations of its
+ * own, in C or another language, changes them: the numbers of a table take twice the bytes, and nothing notices an old declaration.
  *
  * The functions keep nothing between calls, use no heap, and may be called from several threads. Each wants at most 96 KB of stack, of which the
  * rows of the job take 24.
@@ -42,8 +45,8 @@ extern "C" {
 /* In `given`: a costs text is handed in. */
 #define JESMOVIT_COSTS_GIVEN 1u
 
-/* An entry of the cost table for a state and position that can't be reached. */
-#define JESMOVIT_UNREACHED 4294967295u
+/* An entry of the cost table for a state and position that can't be reached: 18,446,744,073,709,551,615. */
+#define JESMOVIT_UNREACHED UINT64_MAX
 
 /* What is said of a plan, and of a job's least cost. */
 enum {
@@ -75,12 +78,12 @@ uint32_t jesmovit_check_steps(const uint8_t *job, size_t job_length, const uint8
 /* Finds the least cost of all plans that a job's program allows. answer: JESMOVIT_COSTS and the cost, or JESMOVIT_NONE; then zeros. Refused by 1 to 4, by
  * 7, and by 6. */
 uint32_t jesmovit_least_cost(const uint8_t *job, size_t job_length, const uint8_t *costs, size_t costs_length, uint32_t given, uint16_t *list,
-                             size_t list_length, uint32_t *table, size_t table_length, uint64_t answer[5]);
+                             size_t list_length, uint64_t *table, size_t table_length, uint64_t answer[5]);
 
 /* Judges a list of moves. answer: positions, steps, and then JESMOVIT_LEAST or JESMOVIT_DEARER with the plan's cost and the least cost; or, for what is no
  * plan, JESMOVIT_BLOCKED, i and 0, JESMOVIT_UNFINISHED and zeros, or JESMOVIT_MISSED and zeros. The table is filled for a plan alone. Refused by 1 to 7. */
 uint32_t jesmovit_judge(const uint8_t *job, size_t job_length, const uint8_t *plan, size_t plan_length, const uint8_t *costs, size_t costs_length,
-                        uint32_t given, uint16_t *list, size_t list_length, uint32_t *table, size_t table_length, uint64_t answer[5]);
+                        uint32_t given, uint16_t *list, size_t list_length, uint64_t *table, size_t table_length, uint64_t answer[5]);
 
 #ifdef __cplusplus
 }

@@ -51,7 +51,7 @@ extern "C" {
         given: u32,
         list: *mut u16,
         list_length: usize,
-        table: *mut u32,
+        table: *mut u64,
         table_length: usize,
         answer: *mut u64,
     ) -> u32;
@@ -65,7 +65,7 @@ extern "C" {
         given: u32,
         list: *mut u16,
         list_length: usize,
-        table: *mut u32,
+        table: *mut u64,
         table_length: usize,
         answer: *mut u64,
     ) -> u32;
@@ -126,7 +126,7 @@ pub fn check_steps(job: &[u8], plan: &[u8], given: Given, list: &mut [u16]) -> A
     })
 }
 
-pub fn least_cost(job: &[u8], given: Given, list: &mut [u16], table: &mut [u32]) -> Answer {
+pub fn least_cost(job: &[u8], given: Given, list: &mut [u16], table: &mut [u64]) -> Answer {
     answered(|answer| unsafe {
         jesmovit_least_cost(
             job.as_ptr(),
@@ -143,7 +143,7 @@ pub fn least_cost(job: &[u8], given: Given, list: &mut [u16], table: &mut [u32])
     })
 }
 
-pub fn judge(job: &[u8], plan: &[u8], given: Given, list: &mut [u16], table: &mut [u32]) -> Answer {
+pub fn judge(job: &[u8], plan: &[u8], given: Given, list: &mut [u16], table: &mut [u64]) -> Answer {
     answered(|answer| unsafe {
         jesmovit_judge(
             job.as_ptr(),

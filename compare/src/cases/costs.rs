@@ -5,6 +5,13 @@ use crate::generator::writer::costs_text;
 use crate::library::COSTS_GIVEN;
 use crate::second::job::{ClassCosts, CLASSES, HOUSE_COSTS, MOST_COST};
 
+/// The greatest costs of all classes.
+pub const GREATEST_COSTS: ClassCosts = {
+    let mut costs = [MOST_COST; CLASSES as usize];
+    costs[0] = 0;
+    costs
+};
+
 /// How class costs are drawn.
 #[derive(Clone, Copy)]
 enum CostStyle {
@@ -12,6 +19,7 @@ enum CostStyle {
     Small,
     Zero,
     Greatest,
+    Edge,
     House,
 }
 
@@ -21,10 +29,11 @@ pub fn random_costs(random: &mut Random) -> Vec<u8> {
         return Vec::new();
     }
     let style = random.weighted(&[
-        (450, CostStyle::Random),
+        (400, CostStyle::Random),
         (300, CostStyle::Small),
         (80, CostStyle::Zero),
         (80, CostStyle::Greatest),
+        (50, CostStyle::Edge),
         (90, CostStyle::House),
     ]);
     costs_text(&class_costs(random, style))
@@ -35,10 +44,11 @@ fn class_costs(random: &mut Random, style: CostStyle) -> ClassCosts {
     let mut costs = HOUSE_COSTS;
     for class in 1..usize::from(CLASSES) {
         costs[class] = match style {
-            CostStyle::Random => random.below_u16(MOST_COST + 1),
+            CostStyle::Random => random.between(0, MOST_COST.into()) as u16,
             CostStyle::Small => random.below_u16(4),
             CostStyle::Zero => 0,
-            CostStyle::Greatest => MOST_COST,
+            CostStyle::Greatest => GREATEST_COSTS[class],
+            CostStyle::Edge => random.pick(&[3599, 3600, 3601, MOST_COST - 1, MOST_COST]),
             CostStyle::House => HOUSE_COSTS[class],
         };
     }

@@ -1,6 +1,7 @@
 //! Which limits of documents 01 and 02 a case meets, or passes by one; which costs texts it has, and which bad texts
 //! beside each other.
 
+use super::costs::GREATEST_COSTS;
 use super::Case;
 use crate::second::compiler::{program_size, Size, MOST_POSITIONS, MOST_STEPS};
 use crate::second::job::*;
@@ -10,7 +11,7 @@ use crate::second::reader::{read_costs, read_job, read_plan};
 type Edge = (&'static str, fn(&Look) -> bool);
 
 /// The limits, in the order in which they are printed.
-pub const EDGES: [Edge; 44] = [
+pub const EDGES: [Edge; 47] = [
     ("0 facts", |look| look.job(|job| job.facts == 0)),
     ("12 facts", |look| look.job(|job| job.facts == MOST_FACTS)),
     ("13 facts", |look| look.refused_line == Some(b"facts=13")),
@@ -46,13 +47,16 @@ pub const EDGES: [Edge; 44] = [
     ("no costs", |look| look.compiles() && look.costs.is_none()),
     ("no costs, bad bytes", |look| look.compiles() && look.costs.is_none() && read_costs(&look.case.costs).is_err()),
     ("costs of 0", |look| look.costs(|costs| costs.iter().all(|cost| *cost == 0))),
-    ("costs of 3600", |look| look.costs(|costs| costs[1..].iter().all(|cost| *cost == MOST_COST))),
+    ("costs of 65535", |look| look.costs(|costs| *costs == GREATEST_COSTS)),
+    ("cost of 3601", |look| look.costs(|costs| costs.contains(&3601))),
+    ("cost of 65534", |look| look.costs(|costs| costs.contains(&(MOST_COST - 1)))),
     ("house costs", |look| look.costs(|costs| *costs == HOUSE_COSTS)),
     ("empty costs", |look| look.bad_costs(|place, line| place == 1 && line.is_none())),
     ("costs=15", |look| look.bad_costs(|_, line| line == Some(b"costs=15"))),
     ("costs=17", |look| look.bad_costs(|_, line| line == Some(b"costs=17"))),
-    ("cost of 3601", |look| look.bad_costs(|_, line| line == Some(b"c=3601"))),
-    ("class 0 above 0", |look| look.bad_costs(|place, line| place == 2 && line == Some(b"c=1"))),
+    ("cost of 65536", |look| look.bad_costs(|_, line| line == Some(b"c=65536"))),
+    ("class 0 at 1", |look| look.bad_costs(|place, line| place == 2 && line == Some(b"c=1"))),
+    ("class 0 at 65535", |look| look.bad_costs(|place, line| place == 2 && line == Some(b"c=65535"))),
     ("cost of wrong form", |look| look.bad_costs(|place, line| place > 1 && line.is_some_and(|line| !is_cost(line)))),
     ("cost missing", |look| look.bad_costs(|place, line| place > 1 && line.is_none())),
     ("cost extra", |look| look.bad_costs(|place, line| place == 18 && line.is_some_and(is_cost))),

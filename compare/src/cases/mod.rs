@@ -2,8 +2,8 @@
 //!
 //! The mix: jobs come from the generator; 7 of 10 goals are replaced by ones that some complete run reaches. Plans are
 //! walks, walks that are cut, continued or changed, and random lists (`plans`, `walks`). In 6 of 10 cases a costs text
-//! is handed in (`costs`). Of each sort of text 23 in 100 are damaged (`damage`, `fields`); a damaged text may still be
-//! a right one. `edges` says which limits a case meets.
+//! is handed in (`costs`). In a few the least cost is above 2^32. Of each sort of text 23 in 100 are then damaged
+//! (`damage`, `fields`); a damaged text may still be a right one. `edges` says which limits a case meets.
 
 mod costs;
 mod damage;
@@ -13,12 +13,13 @@ mod plans;
 mod walks;
 
 use crate::generator::random::Random;
-use crate::generator::random_jobs::random_job;
-use crate::generator::writer::{job_text, plan_text};
+use crate::generator::random_jobs::{long_counter, random_job};
+use crate::generator::writer::{costs_text, job_text, plan_text};
 use crate::library::{Given, COSTS_GIVEN};
 use crate::second::compiler::compile;
 use crate::second::expected::Texts;
-use costs::{random_bits, random_costs};
+use crate::second::job::Job;
+use costs::{random_bits, random_costs, GREATEST_COSTS};
 use damage::damage;
 use plans::{random_plans, Plans};
 
@@ -54,9 +55,17 @@ impl Case {
         Texts { job: &self.job, moves: &self.moves, steps: &self.steps, costs }
     }
 
-    /// The plans are empty where the job doesn't compile.
     fn undamaged(random: &mut Random) -> Case {
-        let mut job = random_job(random);
+        if random.below(10_000) < 5 {
+            let job = long_counter(random);
+            return Case { costs: costs_text(&GREATEST_COSTS), bits: COSTS_GIVEN, ..Case::of(random, job) };
+        }
+        let job = random_job(random);
+        Case::of(random, job)
+    }
+
+    /// A case of this job, perhaps with another goal. The plans are empty where the job doesn't compile.
+    fn of(random: &mut Random, mut job: Job) -> Case {
         let plans = match compile(&job) {
             Ok(compiled) => random_plans(random, &job, &compiled),
             Err(_) => Plans { goal: job.goal, moves: Vec::new(), steps: Vec::new() },

@@ -27,7 +27,7 @@ pub struct Mismatch {
     pub library: Answer,
     pub second: Answer,
     pub list: Option<(usize, u16, u16)>,
-    pub table: Option<(usize, u32, u32)>,
+    pub table: Option<(usize, u64, u64)>,
 }
 
 /// A case, what it should be answered, and what lists and tables hold before a call.
@@ -35,14 +35,14 @@ pub struct Trial<'a> {
     case: &'a Case,
     expected: Expected,
     list: Vec<u16>,
-    table: Vec<u32>,
+    table: Vec<u64>,
 }
 
 impl<'a> Trial<'a> {
     pub fn new(random: &mut Random, case: &'a Case, expected: Expected) -> Trial<'a> {
         let (list, table) = expected.lengths().unwrap_or((40, 40));
         let list = (0..list + 2 * GUARDS).map(|_| random.bits() as u16).collect();
-        let table = (0..table + 2 * GUARDS).map(|_| random.bits() as u32).collect();
+        let table = (0..table + 2 * GUARDS).map(|_| random.bits()).collect();
         Trial { case, expected, list, table }
     }
 

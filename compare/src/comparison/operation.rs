@@ -53,7 +53,7 @@ impl Operation {
     }
 
     /// What the library answers.
-    pub fn ask_library(self, case: &Case, list: &mut [u16], table: &mut [u32]) -> Answer {
+    pub fn ask_library(self, case: &Case, list: &mut [u16], table: &mut [u64]) -> Answer {
         match self {
             ReadJob => library::read_job(&case.job),
             Compile => library::compile(&case.job, list),
@@ -65,7 +65,7 @@ impl Operation {
     }
 
     /// What the second implementation answers.
-    pub fn ask_second(self, expected: &Expected, list: &mut [u16], table: &mut [u32]) -> Answer {
+    pub fn ask_second(self, expected: &Expected, list: &mut [u16], table: &mut [u64]) -> Answer {
         match self {
             ReadJob => expected.read_job(),
             Compile => expected.compile(list),

@@ -9,6 +9,7 @@ use crate::cases::edges::EDGES;
 /// What is counted apart: refusals by number, otherwise what is said.
 const REFUSALS: [&str; 7] = ["refused 1", "refused 2", "refused 3", "refused 4", "refused 5", "refused 6", "refused 7"];
 const SAYINGS: [&str; 8] = ["plan", "blocked", "unfinished", "missed", "least", "dearer", "costs", "none"];
+const DEAR: &str = "costs >2^32";
 const DONE: &str = "done";
 
 pub struct Tally {
@@ -76,6 +77,7 @@ fn outcome(operation: Operation, answer: Answer) -> &'static str {
     let said = match operation {
         Operation::ReadJob | Operation::Compile => return refusal(answer).unwrap_or(DONE),
         Operation::Judge => answer.values[2],
+        Operation::LeastCost if answer.values[1] > 1 << 32 => return DEAR,
         _ => answer.values[0],
     };
     refusal(answer).unwrap_or_else(|| SAYINGS[said as usize])
@@ -96,7 +98,7 @@ fn outcomes(operation: Operation) -> Vec<&'static str> {
         Operation::CheckMoves | Operation::CheckSteps => {
             vec![plan, blocked, unfinished, missed, one, two, three, four, seven, five, six]
         }
-        Operation::LeastCost => vec![costs, none, one, two, three, four, seven, six],
+        Operation::LeastCost => vec![costs, DEAR, none, one, two, three, four, seven, six],
         Operation::Judge => vec![least, dearer, blocked, unfinished, missed, one, two, three, four, seven, five, six],
     }
 }

@@ -2,7 +2,7 @@
 
 use super::formulas::Formulas;
 use super::moves::{self, unconditional};
-use super::program::{any, branch, either, nil, star, Program, Row};
+use super::program::{any, branch, either, make, nil, repeat_while, star, then, Program, Row};
 use super::random::Random;
 use super::shapes;
 use crate::second::compiler::Size;
@@ -116,6 +116,46 @@ pub fn medium_star() -> Job {
     let mut moves = moves::flips(formulas.facts, 0, 15, &mut Random::new(3));
     moves.truncate(16);
     job_of(formulas.facts, moves, program.rows)
+}
+
+/// The number that the facts write is counted up to the greatest and then cleared, so many times in sequence. Each move
+/// is of class 1 and forced; a round has one for each state, and four positions.
+pub fn rounds(facts: u16, count: usize) -> Job {
+    let formulas = Formulas { facts };
+    let full = formulas.all(facts - 1);
+    let mut moves = moves::increments(facts, || 1);
+    let clearing: Vec<(u16, u16)> = (0..facts).map(|i| (i, 0)).collect();
+    moves.push(unconditional(full, 1, &clearing));
+    let mut job = job_of(facts, moves, Vec::new());
+    let not_full = job.formulas.len() as u16;
+    job.formulas.push([3, full, 0]);
+    job.goal = 0;
+    let mut program = Program::new(job.moves.len());
+    let one = program.add(any());
+    let up = program.add(repeat_while(not_full, one));
+    let clear = program.add(make(facts));
+    let round = program.add(then(up, clear));
+    program.sequence(round, count);
+    job.rows = program.rows;
+    job
+}
+
+/// So many rounds over eleven facts, and behind them the number counted up once more, cleared, and fact 11 set: from
+/// then on moves that set the other facts, at classes 2 to 12, may come in any order.
+pub fn late_choices(count: usize) -> Job {
+    let mut job = rounds(11, count);
+    job.facts = 12;
+    job.goal = Formulas { facts: 11 }.all(10);
+    let late = job.formulas.len() as u16;
+    job.formulas.push([2, 11, 0]);
+    let switch = job.moves.len() as u16;
+    let effects: Vec<(u16, u16)> = (0..12).map(|fact| (fact, fact / 11)).collect();
+    job.moves.push(unconditional(job.goal, 1, &effects));
+    job.moves.extend((0..11).map(|fact| unconditional(late, fact + 2, &[(fact, 1)])));
+    // Of the rounds row 0 is any, row 1 its while, the last one all of them.
+    let end = job.rows.len() as u16;
+    job.rows.extend([then(end - 1, 1), make(switch), then(end, end + 1), star(0), then(end + 2, end + 3)]);
+    job
 }
 
 /// Two counters, of the lower and of the upper facts, and other moves up to the number: two moves reach all states.

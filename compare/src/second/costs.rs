@@ -4,16 +4,18 @@ use std::cmp::Reverse;
 use std::collections::BinaryHeap;
 
 use super::domain::state_count;
+use super::fault::Fault;
 use super::steps::Steps;
 
 /// An entry that can't be reached.
-pub const UNREACHED: u32 = u32::MAX;
+pub const UNREACHED: u64 = u64::MAX;
 
 /// The cost table, at state × positions + position.
-pub fn cost_table(steps: &Steps) -> Vec<u32> {
+pub fn cost_table(steps: &Steps, fault: Fault) -> Vec<u64> {
     let positions = steps.compiled.positions;
     let index = |state: u16, position: u16| usize::from(state) * positions + usize::from(position);
-    let mut table = vec![UNREACHED; state_count(steps.domain.job) * positions];
+    let unreached = if fault == Fault::OldUnreached { u32::MAX.into() } else { UNREACHED };
+    let mut table = vec![unreached; state_count(steps.domain.job) * positions];
     let start = (steps.domain.job.init, 0);
     table[index(start.0, start.1)] = 0;
     let mut open = BinaryHeap::from([Reverse((0, start))]);
@@ -25,7 +27,8 @@ pub fn cost_table(steps: &Steps) -> Vec<u32> {
             let Some(after) = steps.after(state, step) else {
                 continue;
             };
-            let reached = cost + steps.cost(step) as u32;
+            let sum = cost + steps.cost(step);
+            let reached = if fault == Fault::LowSums { sum & u64::from(u32::MAX) } else { sum };
             let entry = &mut table[index(after, step[2])];
             if reached < *entry {
                 *entry = reached;

@@ -43,7 +43,7 @@ struct Built {
 
 /// All that is known of a job that compiles with its class costs, and the verdicts of the two plan texts.
 struct Known {
-    table: Vec<u32>,
+    table: Vec<u64>,
     least: Option<u64>,
     moves: Result<Verdict, Refusal>,
     steps: Result<Verdict, Refusal>,
@@ -87,12 +87,12 @@ impl Expected {
     }
 
     /// Finds the least cost.
-    pub fn least_cost(&self, list: &mut [u16], table: &mut [u32]) -> Answer {
+    pub fn least_cost(&self, list: &mut [u16], table: &mut [u64]) -> Answer {
         finish(self.searched(list, table))
     }
 
     /// Judges the list of moves.
-    pub fn judge(&self, list: &mut [u16], table: &mut [u32]) -> Answer {
+    pub fn judge(&self, list: &mut [u16], table: &mut [u64]) -> Answer {
         finish(self.judged(list, table))
     }
 
@@ -117,18 +117,18 @@ impl Expected {
         Ok([number, value, 0, 0, 0])
     }
 
-    fn searched(&self, list: &mut [u16], table: &mut [u32]) -> Result<[u64; 5], Refusal> {
+    fn searched(&self, list: &mut [u16], table: &mut [u64]) -> Result<[u64; 5], Refusal> {
         let (known, built) = self.known()?;
         self.both_rooms(built, list.len(), table.len())?;
         built.fill_list(list);
-        known.fill_table(table);
+        known.fill_table(table, self.fault);
         Ok(match known.least {
             Some(cost) => [COSTS, cost, 0, 0, 0],
             None => [NONE, 0, 0, 0, 0],
         })
     }
 
-    fn judged(&self, list: &mut [u16], table: &mut [u32]) -> Result<[u64; 5], Refusal> {
+    fn judged(&self, list: &mut [u16], table: &mut [u64]) -> Result<[u64; 5], Refusal> {
         let (known, built) = self.known()?;
         let verdict = known.moves?;
         self.both_rooms(built, list.len(), table.len())?;
@@ -136,7 +136,7 @@ impl Expected {
         let [number, value] = numbers(verdict);
         let [number, value, least] = match (verdict, known.least) {
             (Verdict::Plan(cost), Some(least)) => {
-                known.fill_table(table);
+                known.fill_table(table, self.fault);
                 [if cost == least { LEAST } else { DEARER }, cost, least]
             }
             _ => [number, value, 0],
@@ -182,11 +182,16 @@ impl Known {
         let moves = read_plan(texts.moves, b'm', job.moves.len()).map(|moves| runs.verdict(&moves));
         let path = Steps::new(&domain, compiled);
         let steps = read_plan(texts.steps, b't', compiled.steps.len()).map(|steps| path.verdict(&steps, fault));
-        Known { table: cost_table(&path), least: runs.least(), moves, steps }
+        Known { table: cost_table(&path, fault), least: runs.least(), moves, steps }
     }
 
-    fn fill_table(&self, table: &mut [u32]) {
-        table[..self.table.len()].copy_from_slice(&self.table);
+    fn fill_table(&self, table: &mut [u64], fault: Fault) {
+        for (entry, cost) in table.iter_mut().zip(&self.table) {
+            *entry = match fault {
+                Fault::LowHalves => *entry >> 32 << 32 | cost & u64::from(u32::MAX),
+                _ => *cost,
+            };
+        }
     }
 }
 
@@ -200,7 +205,13 @@ fn class_costs(text: Option<&[u8]>, fault: Fault) -> Result<ClassCosts, Refusal>
     match text {
         None => Ok(HOUSE_COSTS),
         Some([]) if fault == Fault::EmptyCosts => Ok(HOUSE_COSTS),
-        Some(text) => read_costs(text),
+        Some(text) => {
+            let costs = read_costs(text)?;
+            match costs.iter().position(|cost| *cost > 3600) {
+                Some(class) if fault == Fault::OldCosts => Err(Refusal { number: 7, place: class + 2 }),
+                _ => Ok(costs),
+            }
+        }
     }
 }
 

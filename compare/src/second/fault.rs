@@ -24,10 +24,18 @@ pub enum Fault {
     EmptyCosts,
     /// The costs text is looked at before the job text.
     CostsFirst,
+    /// A class cost above 3,600 is refused.
+    OldCosts,
+    /// An entry of the cost table that can't be reached is 4,294,967,295.
+    OldUnreached,
+    /// Of an entry of the cost table the lower 32 bits are written, and the others left.
+    LowHalves,
+    /// Sums in the cost table are cut to 32 bits.
+    LowSums,
 }
 
 /// The faults by their names on the command line.
-pub const FAULTS: [(&str, Fault); 10] = [
+pub const FAULTS: [(&str, Fault); 14] = [
     ("star", Fault::Star),
     ("effects", Fault::Effects),
     ("clear-last", Fault::ClearLast),
@@ -38,6 +46,10 @@ pub const FAULTS: [(&str, Fault); 10] = [
     ("house-least", Fault::HouseLeast),
     ("empty-costs", Fault::EmptyCosts),
     ("costs-first", Fault::CostsFirst),
+    ("old-costs", Fault::OldCosts),
+    ("old-unreached", Fault::OldUnreached),
+    ("low-halves", Fault::LowHalves),
+    ("low-sums", Fault::LowSums),
 ];
 
 impl Fault {

@@ -12,8 +12,8 @@ pub const MOST_EFFECTS: u16 = 16;
 pub const MOST_ROWS: u16 = 128;
 /// The number of cost classes.
 pub const CLASSES: u16 = 16;
-/// The highest cost of a class.
-pub const MOST_COST: u16 = 3600;
+/// The highest cost of a class; no number of a line is higher.
+pub const MOST_COST: u16 = 65535;
 /// The highest number of entries of a plan.
 pub const MOST_ENTRIES: u16 = 4000;
 

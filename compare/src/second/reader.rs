@@ -8,7 +8,8 @@ pub fn read_job(text: &[u8]) -> Result<Job, Refusal> {
     JobReader { lines: Lines::new(text) }.job()
 }
 
-/// Reads a costs text, by document 02: `costs=16`, then the cost of each class; refused by 7.
+/// Reads a costs text, by document 02: `costs=16`, then the cost of each class, which is any number that a line may
+/// have, and 0 for class 0; refused by 7.
 pub fn read_costs(text: &[u8]) -> Result<ClassCosts, Refusal> {
     let mut lines = Lines::new(text);
     let wrong = |place| Refusal { number: 7, place };
@@ -19,7 +20,7 @@ pub fn read_costs(text: &[u8]) -> Result<ClassCosts, Refusal> {
     let mut costs = ClassCosts::default();
     for (class, cost) in costs.iter_mut().enumerate() {
         [*cost] = lines.row(b"c").map_err(wrong)?;
-        if *cost > MOST_COST || (class == 0 && *cost != 0) {
+        if class == 0 && *cost != 0 {
             return Err(wrong(lines.read()));
         }
     }

@@ -4,14 +4,11 @@
 use jesmovit_compare::answer::{Answer, BLOCKED, COSTS, DEARER, LEAST, PLAN};
 use jesmovit_compare::comparison::operation::Operation::{self, *};
 use jesmovit_compare::generator::writer::costs_text;
-use jesmovit_compare::second::costs::UNREACHED;
 use jesmovit_compare::second::job::HOUSE_COSTS;
 
 use crate::both::{ask_with, refused_with, Handed};
-use crate::sample::{sample, sample_text, sample_with, star_of_or};
+use crate::sample::{sample, sample_text, sample_with, star_of_or, X};
 use crate::worked::Worked;
-
-const X: u32 = UNREACHED;
 
 /// The operations that take costs, each with a plan text that the sample takes.
 const TAKERS: [(Operation, &[u8]); 4] = [
@@ -22,7 +19,7 @@ const TAKERS: [(Operation, &[u8]); 4] = [
 ];
 
 /// The house's costs with others for some classes.
-fn house_with(others: &[(usize, u16)]) -> Vec<u8> {
+pub fn house_with(others: &[(usize, u16)]) -> Vec<u8> {
     let mut costs = HOUSE_COSTS;
     for (class, cost) in others {
         costs[*class] = *cost;
@@ -32,7 +29,7 @@ fn house_with(others: &[(usize, u16)]) -> Vec<u8> {
 
 /// The sample, whose moves 0 and 1 are of classes 3 and 1, with these costs of the two moves.
 #[rustfmt::skip]
-fn sample_at(costs: Vec<u8>, [first, second]: [u32; 2]) -> Worked {
+pub fn sample_at(costs: Vec<u8>, [first, second]: [u64; 2]) -> Worked {
     Worked {
         costs: Some(costs),
         table: vec![
@@ -46,7 +43,7 @@ fn sample_at(costs: Vec<u8>, [first, second]: [u32; 2]) -> Worked {
 }
 
 /// Moves 0 and 1 are the sample's one plan.
-fn is_least(worked: &Worked, cost: u64) {
+pub fn is_least(worked: &Worked, cost: u64) {
     worked.checks_moves(&[0, 1], [PLAN, cost]);
     worked.checks_steps(&[0, 1], [PLAN, cost]);
     worked.judges(&[0, 1], [LEAST, cost, cost]);
@@ -98,7 +95,7 @@ fn a_dearer_plan_may_become_least() {
 }
 
 /// Each operation that takes costs refuses this text by 7, whatever the lengths of list and table.
-fn bad(costs: &[u8], place: u64) {
+pub fn bad(costs: &[u8], place: u64) {
     for (operation, plan) in TAKERS {
         refused_with(operation, Handed { job: sample_text().as_bytes(), plan, costs: Some(costs) }, 7, place);
     }
@@ -141,14 +138,14 @@ fn costs_and_forms() {
     changed("c=0", "c=", 2);
     changed("c=5", "m=5", 3);
     changed("c=5", "c=5,0", 3);
-    changed("c=5", "c=3601", 3);
     changed("c=5", "c=65536", 3);
+    changed("c=5", "c=100000", 3);
     changed("c=5", " c=5", 3);
     changed("c=5", "c=5\r", 3);
-    changed("c=3600", "c=3601", 17);
+    changed("c=3600", "c=65536", 17);
     // The first bad line decides.
-    changed("c=0\nc=5", "c=1\nc=3601", 2);
-    changed("c=5\nc=12", "c=3601\nc=", 3);
+    changed("c=0\nc=5", "c=1\nc=65536", 2);
+    changed("c=5\nc=12", "c=65536\nc=", 3);
 }
 
 #[test]

@@ -2,11 +2,10 @@
 
 use jesmovit_compare::answer::{Answer, COSTS, LEAST, MISSED, NONE, PLAN, UNFINISHED};
 use jesmovit_compare::comparison::operation::Operation;
-use jesmovit_compare::second::costs::UNREACHED;
 use jesmovit_compare::second::job::Move;
 
 use crate::both::{all_refuse, ask};
-use crate::sample::{sample, sample_with, text_of};
+use crate::sample::{sample, sample_with, text_of, X};
 use crate::worked::Worked;
 
 #[test]
@@ -14,13 +13,35 @@ fn twelve_facts() {
     let mut worked = sample();
     worked.job = worked.job.replace("facts=2", "facts=12");
     // The other facts stay false, so none of the further states is reached.
-    worked.table.resize(12288, UNREACHED);
+    worked.table.resize(12288, X);
     let read = ask(Operation::ReadJob, worked.job.as_bytes(), b"", 0, 0);
     assert_eq!(read.answer, Answer::accepted([12, 4, 2, 2, 3]));
     worked.checks_moves(&[0, 1], [PLAN, 25]);
     worked.checks_steps(&[0, 1], [PLAN, 25]);
     worked.costs([COSTS, 25]);
     worked.judges(&[0, 1], [LEAST, 25, 25]);
+}
+
+#[test]
+fn a_table_of_6144_numbers() {
+    // Eleven facts and three positions.
+    let mut worked = sample();
+    worked.job = worked.job.replace("facts=2", "facts=11");
+    worked.table.resize(6144, X);
+    worked.costs([COSTS, 25]);
+    worked.judges(&[0, 1], [LEAST, 25, 25]);
+    // Twelve facts and two positions: move 0 alone, with fact 1 for the goal.
+    let job = with_rows(&["p=1,0,0,0\n".to_string()]).replace("facts=2", "facts=12").replace("goal=1", "goal=2");
+    for operation in [Operation::LeastCost, Operation::Judge] {
+        let asked = ask(operation, job.as_bytes(), b"plan=1\nm=0\n", 4, 6144);
+        assert_eq!(asked.answer, Answer::refused(6, 8192));
+        asked.holds(&[], &[]);
+    }
+    let mut table = vec![X; 8192];
+    (table[0], table[2 * 2 + 1]) = (0, 20);
+    let worked = Worked { job, costs: None, positions: 2, list: vec![3, 0, 1, 0], table };
+    worked.costs([COSTS, 20]);
+    worked.judges(&[0], [LEAST, 20, 20]);
 }
 
 /// The sample with a program of these rows.
@@ -35,9 +56,9 @@ fn positions() {
     rows.extend((0..7).map(|row| format!("p=4,{row},{row},0\n")));
     rows.extend((0..7).map(|row| format!("p=4,{},{row},0\n", 7 + row)));
     // State 0 is left by the first move, for state 2.
-    let mut table = vec![UNREACHED; 4 * 256];
+    let mut table = vec![X; 4 * 256];
     table[0] = 0;
-    (1..256).for_each(|made| table[2 * 256 + made] = 20 * made as u32);
+    (1..256).for_each(|made| table[2 * 256 + made] = 20 * made as u64);
     let list = (0..255).flat_map(|from| [3, from, from + 1, 0]).collect();
     let worked = Worked { job: with_rows(&rows), costs: None, positions: 256, list, table };
     worked.compiles();

@@ -2,6 +2,7 @@
 
 mod both;
 mod costs;
+mod dear;
 mod edges;
 mod lengths;
 mod marked;

@@ -106,7 +106,7 @@ fn case_8_with_the_faulty_star() {
 
 /// What the judge says of a list of moves, with room enough.
 fn judged(job: &str, moves: &[u16]) -> [u64; 3] {
-    let asked = ask(Operation::Judge, job.as_bytes(), &plan_text("m", moves), 4096, 12288);
+    let asked = ask(Operation::Judge, job.as_bytes(), &plan_text("m", moves), 4096, 6144);
     assert_eq!(asked.answer.number, 0);
     let [_, _, number, value, least] = asked.answer.values;
     [number, value, least]

@@ -1,12 +1,12 @@
 //! The sample of document 01 and jobs made from it, worked out by hand.
 
 use jesmovit_compare::generator::writer::job_text;
-use jesmovit_compare::second::costs::UNREACHED;
 use jesmovit_compare::second::job::{Job, Move};
 
 use crate::worked::Worked;
 
-const X: u32 = UNREACHED;
+/// An entry of the cost table that can't be reached.
+pub const X: u64 = 18_446_744_073_709_551_615;
 
 /// The sample's text; its 18 lines are job, facts, init, formulas, 4 f, moves, m, e, m, e, goal, program, 3 p.
 pub fn sample_text() -> String {
@@ -85,7 +85,12 @@ pub fn text_of(facts: u16, formulas: &[[u16; 3]], moves: Vec<Move>, goal: u16, r
 
 /// One fact, false at first and true at the goal, and one move of class 1 with these effects, which is the program.
 pub fn one_move(effects: &[[u16; 3]]) -> Worked {
-    let action = Move { pre: 0, class: 1, effects: effects.to_vec() };
+    one_move_of(1, effects)
+}
+
+/// The same with a move of this class; the table is that of a move that costs 5.
+pub fn one_move_of(class: u16, effects: &[[u16; 3]]) -> Worked {
+    let action = Move { pre: 0, class, effects: effects.to_vec() };
     Worked {
         job: text_of(1, &[[1, 0, 0], [2, 0, 0]], vec![action], 1, &[[1, 0, 0, 0]]),
         costs: None,

@@ -12,7 +12,7 @@ pub struct Worked {
     pub costs: Option<Vec<u8>>,
     pub positions: u64,
     pub list: Vec<u16>,
-    pub table: Vec<u32>,
+    pub table: Vec<u64>,
 }
 
 impl Worked {

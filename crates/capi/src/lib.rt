@@ -80,7 +80,7 @@ pub extern "C" fn jesmovit_least_cost(
     costs: &[u8],
     given: u32,
     list: &mut [u16],
-    table: &mut [u32],
+    table: &mut [u64],
     answer: &mut [u64; 5],
 ) -> u32
     ensures { λ r. ⌜ Gives leastNumbers (λ a. CostsLeast (record { job = now (text .entry); plan = []; costs = now (costs .entry); given = givenOf given })
@@ -101,7 +101,7 @@ pub extern "C" fn jesmovit_judge(
     costs: &[u8],
     given: u32,
     list: &mut [u16],
-    table: &mut [u32],
+    table: &mut [u64],
     answer: &mut [u64; 5],
 ) -> u32
     ensures { λ r. ⌜ Gives judgeNumbers (λ a. Judges

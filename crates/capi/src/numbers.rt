@@ -32,7 +32,7 @@ pub fn of_verdict(v: Verdict) -> Coded
     match v {
         Verdict::Plan(cost) => Coded {
             number: 0,
-            first: cost as u64,
+            first: cost,
             second: 0,
         },
         Verdict::Blocked(i) => Coded {
@@ -59,13 +59,13 @@ pub fn of_judgement(g: Judgement) -> Coded
     match g {
         Judgement::Least(cost) => Coded {
             number: 4,
-            first: cost as u64,
-            second: cost as u64,
+            first: cost,
+            second: cost,
         },
         Judgement::Dearer(cost, least) => Coded {
             number: 5,
-            first: cost as u64,
-            second: least as u64,
+            first: cost,
+            second: least,
         },
         Judgement::Other(v) => of_verdict(v),
     }
@@ -131,7 +131,7 @@ pub fn of_least(a: LeastAnswer) -> Numbers
     match a {
         LeastAnswer::Costs(cost) => Numbers {
             number: 0,
-            values: [6, cost as u64, 0, 0, 0],
+            values: [6, cost, 0, 0, 0],
         },
         LeastAnswer::NoPlan => Numbers {
             number: 0,

@@ -14,7 +14,7 @@ use job::head::Head;
 
 // Where a step leads: the state, the position, and what it costs. Nowhere, where it can't be made.
 pub enum Arrival {
-    At(u16, u16, u32),
+    At(u16, u16, u64),
     Nowhere,
 }
 

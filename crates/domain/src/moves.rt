@@ -33,11 +33,11 @@ pub fn successor(head: Head, rows: &[u16], values: &[bool], m: u16, state: u16) 
 }
 
 // What move m costs in a state, by the formulas' values in it.
-pub fn cost(head: Head, rows: &[u16], values: &[bool], m: u16, state: u16) -> u32
+pub fn cost(head: Head, rows: &[u16], values: &[bool], m: u16, state: u16) -> u64
     requires { ⌜ Stored head (now rows) × Tells (domainIn head (now rows)) state (now values) ⌝ }
     requires { ⌜ m < domainIn head (now rows) .moves ⌝ }
     ensures { λ r. ⌜ (r ≡ domainIn head (now (rows .entry)) .cost m state) × (r ≤ mostCost) ⌝ }
 {
     let made = job::stored::move_at(head, rows, m);
-    job::costs::class_cost(rows, made.class) as u32
+    job::costs::class_cost(rows, made.class) as u64
 }

@@ -4,10 +4,10 @@ use mathlib.Core.Path.{_≡_}
 use mathlib.Core.Bool.{true, false, cond}
 use mathlib.Core.Option.{Option, none, some}
 use mathlib.Core.List.{List, []}
-use lib.Dec.{leb}
+use lib.Dec.{ltb, leb}
 use lib.ListN.{length}
 use Rattle.semantics.specs.Plan.{Allowed, Least}
-use Rattle.semantics.specs.CostTable.{Filled}
+use Rattle.semantics.specs.CostTable.{unreached, Filled}
 use Rattle.semantics.specs.Judgement.{Judgement, Finds, least, dearer, other}
 use Rattle.load.specs.Refusals.{Handed}
 use Rattle.load.specs.View.{View, viewSteps, positionsOf, viewIn}
@@ -52,6 +52,10 @@ TableOf v = Filled (v .domain) (viewSteps v) (positionsOf v)
 pub data LeastIs (v : View) : Option ℕ → Type 0 where
   costs : {c : ℕ} → Least (v .domain) (v .program) c → LeastIs v (some c)
   no-plan : ((ms : List ℕ) → Allowed (v .domain) (v .program) ms → ⊥) → LeastIs v none
+
+-- as one number, which is `unreached` for none
+abbrev pub lowestOf : ℕ → Option ℕ
+lowestOf n = cond (ltb n unreached) (some n) none
 
 -- "Least cost fills it and answers the cost, or none"
 pub record CostDone (v : View) (lowest : Option ℕ) (old new : Lent) : Type 0 where

@@ -9,8 +9,9 @@ ghost use Rattle.domain.specs.Domain.{domainIn};
 ghost use Rattle.compiled.specs.Ready.{Ready};
 ghost use Rattle.validate.specs.Entries.{EntriesBelow};
 ghost use Rattle.load.specs.View.{viewOf};
-ghost use Rattle.jesmovit.specs.Outcomes.{judgementOf};
-ghost use Rattle.jesmovit.specs.Judging.{CostsLeast, compared, Found, Judges};
+ghost use Rattle.load.specs.Refusals.{passed};
+ghost use Rattle.jesmovit.specs.Outcomes.{leastOutcome, judgementOf};
+ghost use Rattle.jesmovit.specs.Judging.{lowestOf, CostsLeast, compared, Found, Judges};
 use job::head::Head;
 use job::refusal::Refusal;
 use job::rows::STORE;
@@ -25,7 +26,7 @@ use validate::verdict::Verdict;
 // The least cost of all plans that the job's program allows, or none where it allows no plan of any
 // length; or why the texts, the list or the table are refused.
 pub enum LeastAnswer {
-    Costs(u32),
+    Costs(u64),
     NoPlan,
     Refused(Refusal),
 }
@@ -33,8 +34,8 @@ pub enum LeastAnswer {
 // What an offered plan is: one of least cost; one of a cost above the least, with both; or no plan,
 // with the check's verdict.
 pub enum Judgement {
-    Least(u32),
-    Dearer(u32, u32),
+    Least(u64),
+    Dearer(u64, u64),
     Other(Verdict),
 }
 
@@ -45,6 +46,16 @@ pub enum JudgeAnswer {
     Refused(Refusal),
 }
 
+// The least cost that the search found, or none.
+fn answer_of(least: u64) -> LeastAnswer
+    ensures { λ r. ⌜ leastOutcome r ≡ passed (lowestOf least) ⌝ }
+{
+    if least < search::UNREACHED {
+        return LeastAnswer::Costs(least);
+    }
+    LeastAnswer::NoPlan
+}
+
 // The least cost. Unless the texts, the list or the table are refused, the list's front then holds
 // the steps of the compiled job, four numbers each, and the table's front the least cost of
 // reaching each state and position.
@@ -53,7 +64,7 @@ pub fn least_cost(
     costs: &[u8],
     given: Given,
     list: &mut [u16],
-    table: &mut [u32],
+    table: &mut [u64],
 ) -> LeastAnswer
     ensures { λ r. ⌜ CostsLeast (record { job = now (text .entry); plan = []; costs = now (costs .entry); given = given })
         (record { list = now (list .entry); table = now (table .entry) }) r (record { list = now (list .exit); table = now (table .exit) }) ⌝ }
@@ -81,14 +92,11 @@ pub fn least_cost(
     };
     compile::program::compile(head, &rows, list);
     let least = search::least::least_cost(table, head, &rows, &list[0..need], grid);
-    if least < search::UNREACHED {
-        return LeastAnswer::Costs(least);
-    }
-    LeastAnswer::NoPlan
+    answer_of(least)
 }
 
 // A plan's cost beside the least cost.
-fn compare(cost: u32, least: u32) -> Judgement
+fn compare(cost: u64, least: u64) -> Judgement
     ensures { λ r. ⌜ r ≡ compared cost least ⌝ }
 {
     if cost <= least {
@@ -100,7 +108,7 @@ fn compare(cost: u32, least: u32) -> Judgement
 // What the entries of a plan are, and the cost table filled if they are a plan. The list holds the
 // compiled job's steps and nothing else.
 fn judge_entries(
-    table: &mut [u32],
+    table: &mut [u64],
     head: Head,
     rows: &[u16],
     list: &[u16],
@@ -130,7 +138,7 @@ pub fn judge(
     costs: &[u8],
     given: Given,
     list: &mut [u16],
-    table: &mut [u32],
+    table: &mut [u64],
 ) -> JudgeAnswer
     ensures { λ r. ⌜ Judges (record { job = now (text .entry); plan = now (plan .entry); costs = now (costs .entry); given = given })
         (record { list = now (list .entry); table = now (table .entry) }) r (record { list = now (list .exit); table = now (table .exit) }) ⌝ }

@@ -1,5 +1,5 @@
--- Class costs: no house number is above the greatest cost; costs written into a store are those
--- that it holds, and leave its job as it was.
+-- Class costs: no house number is above 3,600, let alone the greatest cost; costs written into a
+-- store are those that it holds, and leave its job as it was.
 -- Assumes nothing.
 use Prim.Native.Nat.{ℕ, _+_, _≤_}
 use mathlib.Core.Path.{_≡_, refl, sym, _∙_, ap}
@@ -12,7 +12,7 @@ use lib.Seq.{sets, sets-eq, length-sets, length-take-le, take-at, drop-at, drop-
 use borrow.Author.Tests.{leb-true}
 use Rattle.laws.proofs.Tables.{entry-passes}
 use Rattle.laws.proofs.Lists.{getD-sets-before}
-use Rattle.limits.specs.Limits.{lastClass, classCount, mostCost}
+use Rattle.limits.specs.Limits.{lastClass, classCount}
 use Rattle.job.specs.Job.{formulaOf, effectOf, rowOf}
 use Rattle.job.specs.Task.{houseCosts, classCost, CostsWithin}
 use Rattle.job.specs.Store.{formulasFrom, movesFrom, effectsFrom, programFrom, storedMove, costsFrom, storeSize, jobOf, storedCosts}
@@ -22,13 +22,16 @@ use Rattle.job.specs.declared.head.Head.{Head}
 use Rattle.job.proofs.StoreLaws.{rows-same}
 use Rattle.job.proofs.StoredLaws.{formula-count, move-count, effect-count, row-count}
 
--- by one test of the table
-pub house-within : CostsWithin houseCosts
+-- "its upper bound 3,600 proved once": by one test of the table
+pub house-most : (class : ℕ) → classCost houseCosts class ≤ 3600
 unfolding classCost
-house-within class = elim (decLt class (length houseCosts)) [
-  | yes h ↦ leb-true (getD houseCosts class 0) mostCost (entry-passes (λ k x. leb x mostCost) houseCosts refl class h)
+house-most class = elim (decLt class (length houseCosts)) [
+  | yes h ↦ leb-true (getD houseCosts class 0) 3600 (entry-passes (λ k x. leb x 3600) houseCosts refl class h)
   | no h ↦ omega (arith, List·getD-eq-default houseCosts 0 {n = class} (omega arith))
 ]
+
+pub house-within : CostsWithin houseCosts
+house-within class = omega (arith, house-most class)
 
 -- where a class's cost stands
 pub cost-at : (l : List ℕ) (class : ℕ) → class ≤ lastClass → getD l (costsFrom + class) 0 ≡ classCost (storedCosts l) class

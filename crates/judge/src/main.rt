@@ -6,14 +6,14 @@ use load::request::Given;
 // How many numbers the list of steps and the cost table hold.
 const LIST: usize = limits::STEPS * 4;
 
-const TABLE: usize = 12288;
+const TABLE: usize = 6144;
 
 fn main() {
     let mut text = io::large_buffer();
     let mut plan = io::large_buffer();
     let mut costs = io::large_buffer();
     let mut list = [0u16; LIST];
-    let mut table = [0u32; TABLE];
+    let mut table = [0u64; TABLE];
     let mut out = io::large_buffer();
     let got = console::texts::read_texts(&mut text, &mut plan, &mut costs);
     let n = got.job;

@@ -1,13 +1,13 @@
-// large_table JOB [COSTS]: what least_cost JOB [COSTS] prints, with a cost table that has room for
-// every job: twelve facts and 256 positions.
+// large_table JOB [COSTS]: what least_cost JOB [COSTS] prints, with a cost table of 4 MB, which has
+// room for twelve facts and 128 positions.
 use load::request::Given;
 
 // How many numbers the list of steps and the cost table hold.
 const LIST: usize = limits::STEPS * 4;
 
-const TABLE: usize = limits::STATES * limits::POSITIONS;
+const TABLE: usize = limits::STATES * 128;
 
-fn print_cost(text: &[u8], costs: &[u8], given: Given, table: &mut [u32]) {
+fn print_cost(text: &[u8], costs: &[u8], given: Given, table: &mut [u64]) {
     let mut list = [0u16; LIST];
     let mut out = io::buffer();
     let answer = jesmovit::least_cost(text, costs, given, &mut list, table);
@@ -16,7 +16,7 @@ fn print_cost(text: &[u8], costs: &[u8], given: Given, table: &mut [u32]) {
 }
 
 fn print_cost_of(text: &[u8], costs: &[u8], given: Given) {
-    let mut table = [0u32; TABLE];
+    let mut table = [0u64; TABLE];
     print_cost(text, costs, given, &mut table);
 }
 

@@ -31,12 +31,13 @@ mostEffects = mostMoves * mostMoveEffects
 abbrev pub mostProgram : ℕ
 mostProgram = 128
 
--- "The sixteen class costs", "each 0 to 3,600"
+-- "The sixteen class costs"
 abbrev pub classCount : ℕ
 classCount = suc lastClass
 
+-- "A cost may be 0 to 65,535"
 abbrev pub mostCost : ℕ
-mostCost = 3600
+mostCost = 65535
 
 -- "At most 256 positions and 1,024 steps."
 abbrev pub mostPositions : ℕ

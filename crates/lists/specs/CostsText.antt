@@ -1,4 +1,4 @@
--- Costs texts: "`costs=16`, then sixteen lines `c=cost`, each 0 to 3,600, class 0 first."
+-- Costs texts: "`costs=16`, then sixteen lines `c=cost`, …, class 0 first."
 use Prim.Native.Nat.{ℕ, suc, _≤_}
 use mathlib.Core.Path.{_≡_}
 use mathlib.Core.List.{List}
@@ -14,7 +14,7 @@ costsKey = bytes "costs"
 abbrev pub costKey : List ℕ
 costKey = bytes "c"
 
--- "Class 0 must cost 0."
+-- "Class 0 must cost 0."; "Loaded costs follow the new range too.", 0 to 65,535
 abbrev pub costRanges : Ranges
 costRanges = record { least = classCount; most = classCount; first = 1; rest = suc mostCost }
 

@@ -16,12 +16,15 @@ same-keys-none q = record { size = refl; keys = λ k h. refl }
 pub queue-kept : {n : ℕ} {old new : List ℕ} → Queue old n → SameKeys old new → Queue new n
 queue-kept q s = record { size = s .size ∙ q .size; few = q .few }
 
--- a node of the order written
-pub same-keys-more : {old new : List ℕ} (i x : ℕ) → SameKeys old new → SameKeys old (set new (mostStates + i) x)
-same-keys-more {old} {new} i x s = record {
-  size = length-set new (mostStates + i) x ∙ s .size;
-  keys = λ k h. getD-set-other new (mostStates + i) k x 0 (λ e. omega arith) ∙ s .keys k h;
+-- a number of the order written
+pub same-keys-set : (q : List ℕ) (i x : ℕ) → SameKeys q (set q (mostStates + i) x)
+same-keys-set q i x = record {
+  size = length-set q (mostStates + i) x;
+  keys = λ k h. getD-set-other q (mostStates + i) k x 0 (λ e. omega arith);
 }
+
+pub same-keys-more : {old mid new : List ℕ} → SameKeys old mid → SameKeys mid new → SameKeys old new
+same-keys-more a b = record { size = b .size ∙ a .size; keys = λ k h. b .keys k h ∙ a .keys k h }
 
 pub lowered-stored : {n : ℕ} (s x : ℕ) {old new : List ℕ} → Queue old n → s < n → x < getD old s 0 → SameKeys (set old s x) new → Lowered s x old new
 lowered-stored s x {old} q h less same =

@@ -1,17 +1,17 @@
 -- The keys of the states, in the front of a list whose other numbers are an order of them.
-use Prim.Native.Nat.{ℕ, _*_, _≤_, _<_}
+use Prim.Native.Nat.{ℕ, _+_, _/_, _≤_, _<_}
 use mathlib.Core.Path.{_≡_}
 use mathlib.Core.List.{List}
 use lib.ListN.{length, getD}
 use Rattle.limits.specs.Limits.{mostStates}
 
--- how many numbers there are: the keys of all states, and as many for the order
+-- how many numbers there are: the keys of all states, and one for each four nodes of the order
 abbrev pub queueSize : ℕ
-queueSize = mostStates * 2
+queueSize = mostStates + mostStates / 4
 
 -- the key of a state with nothing to follow
 abbrev pub noKey : ℕ
-noKey = 4294967295
+noKey = 18446744073709551615
 
 -- a queue for n states
 pub record Queue (queue : List ℕ) (n : ℕ) : Type 0 where

@@ -2,10 +2,9 @@
 ghost use Prim.Native.Nat.{_<_};
 ghost use Rattle.queue.specs.Queue.{Queue, Lowered, Chosen};
 use crate::NO_KEY;
-use crate::NODES;
 
 // Lowers the key of state s to x, where that is less.
-pub fn lower(queue: &mut [u32], n: usize, s: usize, x: u32)
+pub fn lower(queue: &mut [u64], n: usize, s: usize, x: u64)
     requires { ⌜ Queue (now queue) n × (s < n) ⌝ }
     ensures { λ _. ⌜ Lowered s x (now (queue .entry)) (now (queue .exit)) ⌝ }
 {
@@ -16,7 +15,7 @@ pub fn lower(queue: &mut [u32], n: usize, s: usize, x: u32)
 }
 
 // The first state from 0 on that has a key; n where none has.
-fn first(queue: &[u32], n: usize) -> usize
+fn first(queue: &[u64], n: usize) -> usize
     requires { ⌜ Queue (now queue) n ⌝ }
     ensures { λ r. ⌜ Chosen n (now (queue .entry)) r ⌝ }
 {
@@ -31,11 +30,11 @@ fn first(queue: &[u32], n: usize) -> usize
 }
 
 // A state that has a key, the one that the order names where it has one; n where none has.
-pub fn choose(queue: &[u32], n: usize) -> usize
+pub fn choose(queue: &[u64], n: usize) -> usize
     requires { ⌜ Queue (now queue) n ⌝ }
     ensures { λ r. ⌜ Chosen n (now (queue .entry)) r ⌝ }
 {
-    let s = queue[NODES + 1] as usize;
+    let s = crate::order::named(queue, n, 1) as usize;
     if s < n {
         if queue[s] < NO_KEY {
             return s;

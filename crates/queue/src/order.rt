@@ -3,22 +3,34 @@
 ghost use mathlib.Core.Path.{_≡_};
 ghost use Prim.Native.Nat.{_<_};
 ghost use lib.ListN.{length};
+ghost use Rattle.limits.specs.Limits.{mostStates};
 ghost use Rattle.queue.specs.Queue.{Queue, queueSize, SameKeys};
 use crate::NO_KEY;
 use crate::NODES;
 
 // The state that node i names. From n on the nodes are the n states themselves.
-fn named(queue: &[u32], n: usize, i: usize) -> u32
-    requires { ⌜ Queue (now queue) n × (i < queueSize) ⌝ }
+pub(crate) fn named(queue: &[u64], n: usize, i: usize) -> u64
+    requires { ⌜ Queue (now queue) n ⌝ }
 {
     if i < n {
-        return queue[NODES + i];
+        return (queue[NODES + i / 4] >> (i % 4 * 16)) % 65536;
     }
-    (i - n) as u32
+    (i - n) as u64
+}
+
+// Has node i name state s. The three nodes in the same number name what they did.
+fn name(queue: &mut [u64], i: usize, s: u64)
+    requires { ⌜ (length (now queue) ≡ queueSize) × (i < mostStates) ⌝ }
+    ensures { λ _. ⌜ SameKeys (now (queue .entry)) (now (queue .exit)) ⌝ }
+{
+    let shift = i % 4 * 16;
+    let four = queue[NODES + i / 4];
+    let old = (four >> shift) % 65536;
+    queue[NODES + i / 4] = four ^ ((old ^ s) << shift);
 }
 
 // The key of a state; NO_KEY past the last.
-fn key(queue: &[u32], s: u32) -> u32
+fn key(queue: &[u64], s: u64) -> u64
     requires { ⌜ length (now queue) ≡ queueSize ⌝ }
 {
     let i = s as usize;
@@ -29,7 +41,7 @@ fn key(queue: &[u32], s: u32) -> u32
 }
 
 // The one of two states that has the lesser key.
-fn lesser(queue: &[u32], a: u32, b: u32) -> u32
+fn lesser(queue: &[u64], a: u64, b: u64) -> u64
     requires { ⌜ length (now queue) ≡ queueSize ⌝ }
 {
     if key(queue, b) < key(queue, a) {
@@ -39,7 +51,7 @@ fn lesser(queue: &[u32], a: u32, b: u32) -> u32
 }
 
 // Has the nodes above state s name states of least key again, from below upward.
-pub fn sift_up(queue: &mut [u32], n: usize, s: usize)
+pub fn sift_up(queue: &mut [u64], n: usize, s: usize)
     requires { ⌜ Queue (now queue) n × (s < n) ⌝ }
     ensures { λ _. ⌜ SameKeys (now (queue .entry)) (now (queue .exit)) ⌝ }
 {
@@ -47,23 +59,24 @@ pub fn sift_up(queue: &mut [u32], n: usize, s: usize)
     while 0 < i {
         let best = lesser(queue, named(queue, n, 2 * i), named(queue, n, 2 * i + 1));
         if best as usize != s {
-            if queue[NODES + i] == best {
+            if named(queue, n, i) == best {
                 return;
             }
         }
-        queue[NODES + i] = best;
+        name(queue, i, best);
         i = i / 2;
     }
 }
 
 // Has each node name the first state below it.
-pub fn order(queue: &mut [u32], n: usize)
+pub fn order(queue: &mut [u64], n: usize)
     requires { ⌜ Queue (now queue) n ⌝ }
     ensures { λ _. ⌜ SameKeys (now (queue .entry)) (now (queue .exit)) ⌝ }
 {
     let mut i: usize = n;
     while 1 < i {
         i -= 1;
-        queue[NODES + i] = named(queue, n, 2 * i);
+        let first = named(queue, n, 2 * i);
+        name(queue, i, first);
     }
 }

@@ -66,11 +66,11 @@ pub(crate) fn refusal(out: &mut [u8], at: usize, r: Refusal) -> usize
     line(out, b, b",", r.place as u64)
 }
 
-fn plan(out: &mut [u8], at: usize, cost: u32) -> usize
+fn plan(out: &mut [u8], at: usize, cost: u64) -> usize
     requires { ⌜ at + 64 ≤ length (now out) ⌝ }
     ensures { λ r. ⌜ Put 64 (verdictLines (plan cost)) (now (out .entry)) at (now (out .exit)) r ⌝ }
 {
-    let a = line(out, at, b"cost=", cost as u64);
+    let a = line(out, at, b"cost=", cost);
     put::text(out, a, b"answer=plan\n")
 }
 

@@ -38,12 +38,12 @@ fn compiled(out: &mut [u8], positions: u16, steps: u16, list: &[u16]) -> usize
     lines::steps(out, b, numbers)
 }
 
-fn costs(out: &mut [u8], at: usize, cost: u32, least: u32) -> usize
+fn costs(out: &mut [u8], at: usize, cost: u64, least: u64) -> usize
     requires { ⌜ at + 64 ≤ length (now out) ⌝ }
     ensures { λ r. ⌜ Put 64 (costLines cost least) (now (out .entry)) at (now (out .exit)) r ⌝ }
 {
-    let a = lines::line(out, at, b"cost=", cost as u64);
-    lines::line(out, a, b"least=", least as u64)
+    let a = lines::line(out, at, b"cost=", cost);
+    lines::line(out, a, b"least=", least)
 }
 
 fn judgement(out: &mut [u8], at: usize, j: Judgement) -> usize
@@ -83,7 +83,7 @@ pub fn least_cost(answer: LeastAnswer, out: &mut [u8]) -> usize
     ensures { λ r. ⌜ Prints (leastPrintout answer) (now (out .exit)) r ⌝ }
 {
     match answer {
-        LeastAnswer::Costs(cost) => lines::line(out, 0, b"least=", cost as u64),
+        LeastAnswer::Costs(cost) => lines::line(out, 0, b"least=", cost),
         LeastAnswer::NoPlan => put::text(out, 0, b"answer=none\n"),
         LeastAnswer::Refused(r) => lines::refusal(out, 0, r),
     }

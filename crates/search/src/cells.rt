@@ -16,7 +16,7 @@ pub fn cell(state: u16, positions: u16, p: usize) -> usize
 }
 
 // Makes the first n cells unreached.
-pub fn clear(costs: &mut [u32], n: usize)
+pub fn clear(costs: &mut [u64], n: usize)
     requires { ⌜ n ≤ length (now costs) ⌝ }
     ensures { λ _. ⌜ Cleared n (now (costs .entry)) (now (costs .exit)) ⌝ }
 {
@@ -28,7 +28,7 @@ pub fn clear(costs: &mut [u32], n: usize)
 }
 
 // Whether nothing is to follow from a cell that costs x, in a state with key k.
-pub fn is_idle(mark: bool, k: u32, x: u32) -> bool
+pub fn is_idle(mark: bool, k: u64, x: u64) -> bool
     ensures { λ r. ⌜ Idle mark k x r ⌝ }
 {
     if mark {

@@ -20,8 +20,8 @@ use queue::QUEUE;
 
 // Sweeps a state that has a key.
 fn visit(
-    costs: &mut [u32],
-    queue: &mut [u32],
+    costs: &mut [u64],
+    queue: &mut [u64],
     rows: &[u16],
     list: &[u16],
     adjacency: &[u16],
@@ -52,8 +52,8 @@ fn visit(
 
 // Visits states until none has a key.
 fn settle(
-    costs: &mut [u32],
-    queue: &mut [u32],
+    costs: &mut [u64],
+    queue: &mut [u64],
     head: Head,
     rows: &[u16],
     list: &[u16],
@@ -81,7 +81,7 @@ fn settle(
 
 // Fills the table's front with the least cost of each state and position; the list holds the steps
 // of the job's program.
-pub fn fill(costs: &mut [u32], head: Head, rows: &[u16], list: &[u16], grid: Grid)
+pub fn fill(costs: &mut [u64], head: Head, rows: &[u16], list: &[u16], grid: Grid)
     requires { ⌜ Ready head (now rows) (now list) (grid .positions) × (grid .states ≡ domainIn head (now rows) .states) ⌝ }
     requires { ⌜ domainIn head (now rows) .states * grid .positions ≤ length (now costs) ⌝ }
     ensures { λ _. ⌜ Filled (domainIn head (now (rows .entry))) (stepsOf (jobOf head (now (rows .entry)))) (grid .positions)

@@ -16,7 +16,7 @@ use crate::UNREACHED;
 use job::head::Head;
 
 // The lesser of `least` and x, if the goal holds in the state.
-fn lesser(head: Head, rows: &[u16], state: u16, least: u32, x: u32) -> u32
+fn lesser(head: Head, rows: &[u16], state: u16, least: u64, x: u64) -> u64
     requires { ⌜ Stored head (now rows) ⌝ }
     ensures { λ r. ⌜ Lower (domainIn head (now (rows .entry)) .goal state) least x r ⌝ }
 {
@@ -30,7 +30,7 @@ fn lesser(head: Head, rows: &[u16], state: u16, least: u32, x: u32) -> u32
 }
 
 // The least entry at a position, of the states where the goal holds.
-fn least_entry(costs: &[u32], head: Head, rows: &[u16], grid: Grid, p: usize) -> u32
+fn least_entry(costs: &[u64], head: Head, rows: &[u16], grid: Grid, p: usize) -> u64
     requires { ⌜ Stored head (now rows) × (grid .states ≡ domainIn head (now rows) .states) ⌝ }
     requires { ⌜ (p < grid .positions) × (grid .positions ≤ mostPositions) × (domainIn head (now rows) .states * grid .positions ≤ length (now costs)) ⌝ }
     ensures { λ r. ⌜ Lowest (domainIn head (now (rows .entry))) (grid .positions) (now (costs .entry)) p (domainIn head (now (rows .entry)) .states) r ⌝ }
@@ -48,7 +48,7 @@ fn least_entry(costs: &[u32], head: Head, rows: &[u16], grid: Grid, p: usize) ->
 
 // Fills the table, and answers the least cost of all plans; UNREACHED where there is none. The list
 // holds the steps of the job's program.
-pub fn least_cost(costs: &mut [u32], head: Head, rows: &[u16], list: &[u16], grid: Grid) -> u32
+pub fn least_cost(costs: &mut [u64], head: Head, rows: &[u16], list: &[u16], grid: Grid) -> u64
     requires { ⌜ Ready head (now rows) (now list) (grid .positions) × (grid .states ≡ domainIn head (now rows) .states) ⌝ }
     requires { ⌜ domainIn head (now rows) .states * grid .positions ≤ length (now costs) ⌝ }
     ensures { λ r. ⌜ Filled (domainIn head (now (rows .entry))) (stepsOf (jobOf head (now (rows .entry)))) (grid .positions)

@@ -27,7 +27,7 @@ pub struct Origin {
 
 // How far the sweep of a state is: the key that it had, and the position whose cell is next.
 pub struct Front {
-    pub key: u32,
+    pub key: u64,
     pub position: usize,
 }
 
@@ -35,8 +35,8 @@ pub struct Front {
 pub struct Target {
     pub state: u16,
     pub position: u16,
-    pub cost: u32,
+    pub cost: u64,
 }
 
 // What a cell holds that is not reached.
-pub const UNREACHED: u32 = queue::NO_KEY;
+pub const UNREACHED: u64 = queue::NO_KEY;

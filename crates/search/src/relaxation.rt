@@ -23,11 +23,11 @@ use limits::POSITIONS;
 // the steps from the target's position are then to follow, and the answer is the lesser of `next`
 // and that position; another state's key comes down, and the answer is `next`.
 fn relax(
-    costs: &mut [u32],
-    queue: &mut [u32],
+    costs: &mut [u64],
+    queue: &mut [u64],
     marks: &mut [bool],
     origin: Origin,
-    x: u32,
+    x: u64,
     target: Target,
     next: usize,
 ) -> usize
@@ -62,14 +62,14 @@ fn relax(
 
 // Follows a step, if it can be made, from a cell of the state that costs x.
 fn follow(
-    costs: &mut [u32],
-    queue: &mut [u32],
+    costs: &mut [u64],
+    queue: &mut [u64],
     cache: &mut [u16],
     marks: &mut [bool],
     rows: &[u16],
     values: &[bool],
     origin: Origin,
-    x: u32,
+    x: u64,
     step: OutStep,
     next: usize,
 ) -> usize
@@ -95,8 +95,8 @@ fn follow(
 // Follows the steps from the front's position, unless nothing is to follow there. Answers the
 // position to go on from.
 pub fn scan(
-    costs: &mut [u32],
-    queue: &mut [u32],
+    costs: &mut [u64],
+    queue: &mut [u64],
     cache: &mut [u16],
     marks: &mut [bool],
     rows: &[u16],

@@ -15,8 +15,8 @@ use queue::NO_KEY;
 // Follows the steps from all cells of the origin's state that cost at least as much as its key
 // says, again from those that fall meanwhile. Its key is taken back.
 pub fn sweep(
-    costs: &mut [u32],
-    queue: &mut [u32],
+    costs: &mut [u64],
+    queue: &mut [u64],
     cache: &mut [u16],
     rows: &[u16],
     list: &[u16],

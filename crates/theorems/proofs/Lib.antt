@@ -10,6 +10,7 @@ pub mod LongLists
 pub mod Agreement
 pub mod StepPlans
 pub mod CostSum
+pub mod TableWidths
 pub mod OneAnswer
 pub mod OneCall
 pub mod CallNumbers

@@ -1,12 +1,11 @@
 -- The ten marked cases, and three by other costs, from the bytes of their texts, by position sets
 -- and computed cost tables.
 -- Assumes nothing.
-use Prim.Native.Nat.{ℕ, _*_}
+use Prim.Native.Nat.{ℕ}
 use mathlib.Core.Path.{_≡_, refl, ap}
 use mathlib.Core.Option.{Option, some}
 use mathlib.Core.List.{List, [], _∷_, _++_, map, List·Memᴰ, List·Memᴰ·head, List·Memᴰ·tail}
 use native.Mathlib.Omega.{arith}
-use Rattle.limits.specs.Limits.{mostSteps}
 use Rattle.laws.proofs.Tests.{never}
 use Rattle.text.specs.Bytes.{bytes}
 use Rattle.text.specs.Lines.{lines, hasKey, valueOf}
@@ -27,8 +26,7 @@ use Rattle.compile.specs.Program.{build, programs, programOf}
 use Rattle.compile.specs.CompiledJob.{positionCount, stepCount, fits}
 use Rattle.lists.specs.CountedList.{entryIn, countIn, readEntries, readLines, readList}
 use Rattle.load.specs.Refusals.{Checked, passed, refused, Offer, next, jobIn, taskIn, textsIn, loading}
-use Rattle.jesmovit.specs.Judging.{judging}
-use Rattle.theorems.specs.MarkedCases.{Case, marked, pricedCases, Right}
+use Rattle.theorems.specs.MarkedCases.{Case, marked, pricedCases, handedByProgram, Right}
 use Rattle.theorems.proofs.Acceptance.{accepted-within, accepted-iff}
 use Rattle.theorems.proofs.ComputedTable.{follow, followAll, sweep, sweeps, computedTable, keeps, every, relaxedBelow}
 use Rattle.theorems.proofs.ComputedJudgement.{lowestBelow, computedJudgement, computed-finds}
@@ -48,7 +46,7 @@ computedOf o = record { positions = positionCount (o .task .job); steps = stepCo
 
 -- the same from the texts, or the refusal
 unfoldable judged : Case → Checked Computed
-judged c = next (loading (judging (c .texts) (mostSteps * 4) 12288)) (λ o. passed (computedOf o))
+judged c = next (loading (handedByProgram (c .texts))) (λ o. passed (computedOf o))
 
 abbrev said : Case → Checked Computed
 said c = passed (record { positions = c .positions; steps = c .steps; says = some (c .says) })
@@ -66,12 +64,12 @@ computed = refl
 
 judged-right : (c : Case) → judged c ≡ said c → Right c
 unfolding judged
-judged-right c e = by (loading (judging (c .texts) (mostSteps * 4) 12288)) refl e
+judged-right c e = by (loading (handedByProgram (c .texts))) refl e
   where
-    by : (k : Checked Offer) → loading (judging (c .texts) (mostSteps * 4) 12288) ≡ k → next k (λ o. passed (computedOf o)) ≡ said c → Right c
+    by : (k : Checked Offer) → loading (handedByProgram (c .texts)) ≡ k → next k (λ o. passed (computedOf o)) ≡ said c → Right c
     by (passed o) f g =
         let z : computedOf o ≡ record { positions = c .positions; steps = c .steps; says = some (c .says) } = cc in
-        let accepted = accepted-iff (judging (c .texts) (mostSteps * 4) 12288) o .0 f .texts .its-task in
+        let accepted = accepted-iff (handedByProgram (c .texts)) o .0 f .texts .its-task in
         let j = verdict-by-judged (domainOf (o .task)) (programOf (o .task .job)) (positionCount (o .task .job)) (omega arith) (o .entries) in
         record {
           offer = o;

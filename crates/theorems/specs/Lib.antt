@@ -4,6 +4,7 @@ pub mod HouseCosts
 pub mod RefusalNumbers
 pub mod Decided
 pub mod CostSum
+pub mod TableWidths
 pub mod OriginalStar
 pub mod MarkedCases
 pub mod Printed

@@ -10,7 +10,7 @@ use Rattle.semantics.specs.Judgement.{Judgement, least, dearer, other, Finds}
 use Rattle.domain.specs.Domain.{domainOf}
 use Rattle.compile.specs.Program.{programOf}
 use Rattle.compile.specs.CompiledJob.{positionCount, stepCount}
-use Rattle.load.specs.Refusals.{passed, Offer, loading}
+use Rattle.load.specs.Refusals.{Handed, passed, Offer, loading}
 use Rattle.jesmovit.specs.Texts.{Texts, withoutCosts, withCostsText}
 use Rattle.jesmovit.specs.Judging.{judging}
 
@@ -80,28 +80,31 @@ marked =
     ∷ marks nilProgram 2 1 "plan=0\n" (least 0)  -- "(10) … empty plan least at 0"
     ∷ []
 
--- class 1 costs 7, class 3 costs 100, the others as the house's
+-- class 1 costs 7, class 3 costs 65,535, the others as the house's
 abbrev ownCosts : List ℕ
-ownCosts = bytes "costs=16\nc=0\nc=7\nc=12\nc=100\nc=30\nc=45\nc=60\nc=90\nc=120\nc=180\nc=240\nc=360\nc=600\nc=900\nc=1800\nc=3600\n"
+ownCosts = bytes "costs=16\nc=0\nc=7\nc=12\nc=65535\nc=30\nc=45\nc=60\nc=90\nc=120\nc=180\nc=240\nc=360\nc=600\nc=900\nc=1800\nc=3600\n"
 
 abbrev freeCosts : List ℕ
 freeCosts = bytes "costs=16\nc=0\nc=0\nc=0\nc=0\nc=0\nc=0\nc=0\nc=0\nc=0\nc=0\nc=0\nc=0\nc=0\nc=0\nc=0\nc=0\n"
 
 -- "The judge's verdict is now about the costs that were loaded": cases (1) and (6) by other costs,
--- where crossing twice costs 100 more than once, or nothing
+-- where crossing twice costs 65,535 more than once, or nothing
 unfoldable pub pricedCases : List Case
 pricedCases =
-    priced (marks sample 3 2 "plan=2\nm=0\nm=1\n" (least 107)) ownCosts
-    ∷ priced (marks starOfChoice 8 9 "plan=3\nm=0\nm=0\nm=1\n" (dearer 207 107)) ownCosts
+    priced (marks sample 3 2 "plan=2\nm=0\nm=1\n" (least 65542)) ownCosts
+    ∷ priced (marks starOfChoice 8 9 "plan=3\nm=0\nm=0\nm=1\n" (dearer 131077 65542)) ownCosts
     ∷ priced (marks starOfChoice 8 9 "plan=3\nm=0\nm=0\nm=1\n" (least 0)) freeCosts
     ∷ []
 
--- nothing is refused, with a list of 4,096 and a cost table of 12,288 places, the compiled job has
--- these sizes, and this is what the judge finds: by the program's own runs, and by all allowed
--- plans of whatever length
+-- "the judge program's table holds 6,144", "its compiled list 4,096"
+abbrev pub handedByProgram : Texts → Handed
+handedByProgram texts = judging texts (mostSteps * 4) 6144
+
+-- nothing is refused, the compiled job has these sizes, and this is what the judge finds: by the
+-- program's own runs, and by all allowed plans of whatever length
 pub record Right (c : Case) : Type 0 where
   pub offer : Offer
-  pub passes : loading (judging (c .texts) (mostSteps * 4) 12288) ≡ passed offer
+  pub passes : loading (handedByProgram (c .texts)) ≡ passed offer
   pub positions : positionCount (offer .task .job) ≡ c .positions
   pub steps : stepCount (offer .task .job) ≡ c .steps
   pub finds : Finds (domainOf (offer .task)) (programOf (offer .task .job)) (offer .entries) (c .says)

@@ -24,7 +24,7 @@ pub fn check_moves(head: Head, rows: &[u16], list: &[u16], positions: u16, plan:
     let mut state = domain::states::start(head, rows);
     let mut values = domain::formulas::formula_values(head, rows, state);
     let mut set = PositionSet::start().closed(list, &adjacency, &values);
-    let mut cost: u32 = 0;
+    let mut cost: u64 = 0;
     let mut i: usize = 0;
     while i < plan.len() {
         let m = plan[i];

@@ -45,7 +45,7 @@ pub fn check_steps(head: Head, rows: &[u16], list: &[u16], positions: u16, plan:
 {
     let mut state = domain::states::start(head, rows);
     let mut position: u16 = 0;
-    let mut cost: u32 = 0;
+    let mut cost: u64 = 0;
     let mut i: usize = 0;
     while i < plan.len() {
         let entry = plan[i];

@@ -6,14 +6,14 @@ ghost use Rattle.validate.specs.Verdict.{verdictOf};
 // What a list of moves, or of steps, is: a plan with its cost, blocked at an index, unfinished, or
 // one that misses the goal.
 pub enum Verdict {
-    Plan(u32),
+    Plan(u64),
     Blocked(usize),
     Unfinished,
     Missed,
 }
 
 // The verdict once all entries are made, at a cost.
-pub fn finish(complete: bool, goal: bool, cost: u32) -> Verdict
+pub fn finish(complete: bool, goal: bool, cost: u64) -> Verdict
     ensures { λ r. ⌜ verdictOf r ≡ onward cost (finished complete goal) ⌝ }
 {
     if complete {

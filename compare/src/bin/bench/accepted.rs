@@ -21,6 +21,6 @@ pub fn check_moves(job: &[u8], plan: &[u8], list: &mut [u16]) -> [u64; 5] {
     accepted(library::check_moves(job, plan, NONE_GIVEN, list))
 }
 
-pub fn least_cost(job: &[u8], list: &mut [u16], table: &mut [u32]) -> [u64; 5] {
+pub fn least_cost(job: &[u8], list: &mut [u16], table: &mut [u64]) -> [u64; 5] {
     accepted(library::least_cost(job, NONE_GIVEN, list, table))
 }

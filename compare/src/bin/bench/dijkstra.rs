@@ -14,7 +14,7 @@ struct Link {
     kind: u16,
     to: u16,
     arg: u16,
-    cost: u32,
+    cost: u64,
 }
 
 /// Steps by the positions that they start from: those from p are `links[starts[p]..starts[p + 1]]`.
@@ -79,19 +79,20 @@ impl<'a> Memo<'a> {
     }
 }
 
-/// A cell and its cost in one number, which orders by cost.
-fn entry(cost: u32, state: u16, position: u16) -> Reverse<u64> {
-    Reverse(u64::from(cost) << 32 | u64::from(state) << 16 | u64::from(position))
+/// A cell and its cost in one number, which orders by cost: 8 bits of it are the position, 12 the state. No cost needs
+/// more than 36: a cell is reached over each of 1,048,576 once at most, by moves of at most 65,535.
+fn entry(cost: u64, state: u16, position: u16) -> Reverse<u64> {
+    Reverse(cost << 20 | u64::from(state) << 8 | u64::from(position))
 }
 
 /// Fills the table's front, which is unreached but for cell 0 of init. With `STACK`, what a free step lowers is settled
 /// at once and never in the heap.
-fn settle<const STACK: bool>(init: u16, positions: usize, steps: &Grouped, memo: &mut Memo, table: &mut [u32]) {
+fn settle<const STACK: bool>(init: u16, positions: usize, steps: &Grouped, memo: &mut Memo, table: &mut [u64]) {
     let mut heap = BinaryHeap::new();
     let mut stack = Vec::new();
     heap.push(entry(0, init, 0));
     while let Some(Reverse(top)) = stack.pop().or_else(|| heap.pop()) {
-        let (cost, state, p) = ((top >> 32) as u32, (top >> 16) as u16, usize::from(top as u16));
+        let (cost, state, p) = (top >> 20, (top >> 8) as u16 & 0xfff, usize::from(top as u8));
         if table[usize::from(state) * positions + p] < cost {
             continue;
         }
@@ -119,7 +120,7 @@ fn settle<const STACK: bool>(init: u16, positions: usize, steps: &Grouped, memo:
 }
 
 /// Reads and compiles the job, fills the table's front, and answers the least cost.
-pub fn least_cost<const STACK: bool>(text: &[u8], table: &mut [u32]) -> u32 {
+pub fn least_cost<const STACK: bool>(text: &[u8], table: &mut [u64]) -> u64 {
     let job = read_job(text).expect("the job is read");
     let compiled = compile(&job).expect("the program compiles");
     let states = States::new(&job);

@@ -14,9 +14,9 @@ const CELLS: usize = 1 << 20;
 /// Room for a list, for the library's table and for those of two others.
 pub struct Room {
     pub list: Vec<u16>,
-    pub table: Vec<u32>,
-    pub other: Vec<u32>,
-    third: Vec<u32>,
+    pub table: Vec<u64>,
+    pub other: Vec<u64>,
+    third: Vec<u64>,
 }
 
 impl Room {
@@ -46,15 +46,15 @@ impl Sizes {
 }
 
 /// The least cost that the library finds; UNREACHED for none.
-fn library_least(text: &[u8], room: &mut Room) -> u32 {
+fn library_least(text: &[u8], room: &mut Room) -> u64 {
     match accepted::least_cost(text, &mut room.list, &mut room.table) {
-        [COSTS, least, ..] => least as u32,
+        [COSTS, least, ..] => least,
         _ => UNREACHED,
     }
 }
 
 /// Ends the program unless the least costs and the fronts of the tables are equal.
-fn demand_equal(name: &str, least: [u32; 2], table: &[u32], other: &[u32]) {
+fn demand_equal(name: &str, least: [u64; 2], table: &[u64], other: &[u64]) {
     let [a, b] = least;
     assert!(a == b, "job {name}: the library's least cost is {a}, the other's {b}");
     for (i, (a, b)) in table.iter().zip(other).enumerate() {

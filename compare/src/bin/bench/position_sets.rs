@@ -99,7 +99,7 @@ fn check(compiled: &Compiled, states: &States, init: u16, plan: &[u16]) -> Verdi
             state = after;
             values = states.values(state);
         }
-        cost += u64::from(states.cost(m));
+        cost += states.cost(m);
         next.close(&steps, &values);
         std::mem::swap(&mut now, &mut next);
     }

@@ -26,7 +26,7 @@ struct Effect {
 
 struct Action {
     pre: u16,
-    cost: u32,
+    cost: u64,
     effects: Vec<Effect>,
 }
 
@@ -92,7 +92,7 @@ impl States {
         Some(state & !clears | sets)
     }
 
-    pub fn cost(&self, m: u16) -> u32 {
+    pub fn cost(&self, m: u16) -> u64 {
         self.actions[usize::from(m)].cost
     }
 
@@ -102,7 +102,7 @@ impl States {
 }
 
 /// The least entry at the last position, of the states where the goal holds.
-pub fn least_entry(states: &States, positions: usize, table: &[u32]) -> u32 {
+pub fn least_entry(states: &States, positions: usize, table: &[u64]) -> u64 {
     let mut least = UNREACHED;
     for state in 0..states.count {
         let entry = table[state * positions + positions - 1];

@@ -20,7 +20,7 @@ fn view(states: &States, state: u16) -> View {
 }
 
 /// Follows all steps of a state; whether a cell was lowered.
-fn sweep_state(compiled: &Compiled, states: &States, state: u16, view: &View, table: &mut [u32]) -> bool {
+fn sweep_state(compiled: &Compiled, states: &States, state: u16, view: &View, table: &mut [u64]) -> bool {
     let mut changed = false;
     for &[kind, from, to, arg] in &compiled.steps {
         let cost = table[usize::from(state) * compiled.positions + usize::from(from)];
@@ -44,7 +44,7 @@ fn sweep_state(compiled: &Compiled, states: &States, state: u16, view: &View, ta
 }
 
 /// Reads and compiles the job, fills the table's front, and answers the least cost; none where it takes too long.
-pub fn least_cost(text: &[u8], table: &mut [u32], most: Duration) -> Option<u32> {
+pub fn least_cost(text: &[u8], table: &mut [u64], most: Duration) -> Option<u64> {
     let end = used() + most.as_secs_f64() * 1e6;
     let job = read_job(text).expect("the job is read");
     let compiled = compile(&job).expect("the program compiles");

@@ -1,10 +1,10 @@
-//! Domains in which every state has to be passed: the facts are the digits of a binary number, and moves add one to it.
+//! Jobs in which every state has to be passed: the facts are the digits of a binary number, and moves add one to it.
 
 use super::domains::random_move;
-use crate::generator::jobs::job_of;
+use crate::generator::jobs::{job_of, rounds};
 use crate::generator::moves::increments;
 use crate::generator::random::Random;
-use crate::second::job::Job;
+use crate::second::job::{Job, MOST_FACTS};
 
 /// A counter of some facts, perhaps with a few random moves beside, and with no program yet.
 pub fn random_counter(random: &mut Random) -> Job {
@@ -15,4 +15,10 @@ pub fn random_counter(random: &mut Random) -> Job {
         job.moves.push(random_move(random, usize::from(facts), &job.formulas));
     }
     job
+}
+
+/// A counter of all facts, or of one less, that counts so often that its one plan has more than 65,537 moves.
+pub fn long_counter(random: &mut Random) -> Job {
+    let (facts, least) = random.pick(&[(MOST_FACTS, 17), (MOST_FACTS - 1, 33)]);
+    rounds(facts, least + random.below(3))
 }

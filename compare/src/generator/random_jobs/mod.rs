@@ -1,11 +1,14 @@
 //! Random jobs: random facts, formulas and moves (`domains`) or a counter (`counters`), with a random program
-//! (`programs`), perhaps one at the limits (`limits`); and a few jobs of the greatest size (`largest`).
+//! (`programs`), perhaps one at the limits (`limits`); a few jobs of the greatest size (`largest`), and jobs of long
+//! plans.
 
 mod counters;
 mod domains;
 mod largest;
 mod limits;
 mod programs;
+
+pub use counters::long_counter;
 
 use super::random::Random;
 use crate::second::job::Job;

@@ -3,7 +3,7 @@ use native.Mathlib.Omega.{arith}
 use Rattle.laws.proofs.Tests.{never}
 use Rattle.jesmovit.proofs.AnswerLaws.{answer-done}
 use Rattle.jesmovit.proofs.LoadedLaws.{load-refused, load-front, load-ready, load-passed, load-sized, load-listed, load-cells}
-use Rattle.jesmovit.proofs.CostLaws.{table-of, least-below, none-above}
+use Rattle.jesmovit.proofs.CostLaws.{table-of, lowest-is}
 use borrow.Author.Needs.{needs}
 use Rattle.jesmovit.proofs.judging.least_cost.Statement.{statement}
 use Rattle.jesmovit.proofs.judging.least_cost.Tie as tie
@@ -51,23 +51,11 @@ returns-2 c =
     let at16 = at10 .before .before .before .before .before .before in
     let at20 = at16 .before .before .before .before in
     let s = load-sized (at20 .load .ensures) (at16 .loaded .given .1) in
-    answer-done _ (load-passed (at20 .load .ensures) (at16 .loaded .given .1)) (record {
-      is = least-below _ (c .before .before .before .least-cost .ensures .1) (c .if1 .taken);
+    rw (c .answer-of .ensures) (answer-done _ (load-passed (at20 .load .ensures) (at16 .loaded .given .1)) (record {
+      is = lowest-is _ (c .before .before .before .least-cost .ensures .1);
       list = at10 .compile .ensures;
       table = table-of (s .positions) (c .before .before .before .least-cost .ensures .0);
-    })
-
-returns-3 : tie.Need-returns-3
-returns-3 c =
-    let at10 = c .before .before .before .before .before .before .before .before .before .before in
-    let at16 = at10 .before .before .before .before .before .before in
-    let at20 = at16 .before .before .before .before in
-    let s = load-sized (at20 .load .ensures) (at16 .loaded .given .1) in
-    answer-done _ (load-passed (at20 .load .ensures) (at16 .loaded .given .1)) (record {
-      is = none-above _ (c .before .before .before .least-cost .ensures .1) (c .if1 .left);
-      list = at10 .compile .ensures;
-      table = table-of (s .positions) (c .before .before .before .least-cost .ensures .0);
-    })
+    }))
 
 pub least-cost-spec : {M : Type 1} → statement M
 least-cost-spec =
@@ -75,5 +63,5 @@ least-cost-spec =
     (tie.spec
     (λ c. search needs) (λ c. search needs) (λ c. search needs) (λ c. search needs) (λ c. search needs) load-requires (λ c. search needs)
     (λ c. search needs) (λ c κs. search needs) returns (λ c κs. search needs) (λ c. search needs) compile-requires (λ c. search needs)
-    (λ c. search needs) (λ c. search needs) part-least-cost-end least-cost-requires (λ c. search needs) (λ c. search needs) returns-2
-    (λ c. search needs) (λ c. search needs) returns-3)
+    (λ c. search needs) (λ c. search needs) part-least-cost-end least-cost-requires (λ c κs. search needs) (λ c. search needs) (λ c. search needs)
+    returns-2)

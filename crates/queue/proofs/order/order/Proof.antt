@@ -17,18 +17,19 @@ loop-holds c = (omega arith, same-keys-none _)
 
 named-requires : tie.Need-named-requires Inv-loop μ-loop
 named-requires c κs =
-    let inv = c .before .before .loop .inv in
-    let p = c .before .before .before .before .pre in
-    (queue-kept p (inv .1), omega (arith, p .few))
+    let at4 = c .before .before .before .before in
+    queue-kept (at4 .pre) (c .before .before .loop .inv .1)
 
-slice-write-queue : tie.Need-slice-write-queue Inv-loop μ-loop
-slice-write-queue c =
-    let inv = c .before .before .before .loop .inv in
-    let p = c .before .before .before .before .before .pre in
-    omega (arith, p .few, c .before .before .loop-test .taken, queue-kept p (inv .1) .size)
+name-requires : tie.Need-name-requires Inv-loop μ-loop
+name-requires c κs =
+    let at4 = c .before .before .before .before in
+    let at6 = at4 .before .before in
+    (queue-kept (at6 .pre) (at4 .loop .inv .1) .size, omega (arith, at6 .pre .few, at4 .loop .inv .0, c .before .before .before .loop-test .taken))
 
 loop-again : tie.Need-loop-again Inv-loop μ-loop
-loop-again c = (omega (arith, c .before .before .before .loop .inv .0), same-keys-more _ _ (c .before .before .before .loop .inv .1))
+loop-again c =
+    let at7 = c .before .before .before .before .before .before .before in
+    (omega (arith, at7 .loop .inv .0), same-keys-more (at7 .loop .inv .1) (c .before .before .name .ensures))
 
 same-length : tie.Need-same-length Inv-loop μ-loop
 same-length c = c .before .loop .inv .1 .size
@@ -40,5 +41,5 @@ pub order-spec : {M : Type 1} → statement M
 order-spec =
     tie.close
     (tie.spec
-    Inv-loop μ-loop loop-holds (λ c. search needs) (λ c. search needs) named-requires (λ c. search needs) (λ c. search needs) slice-write-queue
-    (λ c. search needs) loop-again same-length returns)
+    Inv-loop μ-loop loop-holds (λ c. search needs) (λ c. search needs) named-requires name-requires (λ c. search needs) loop-again same-length
+    returns)

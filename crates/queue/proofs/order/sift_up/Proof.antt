@@ -21,40 +21,51 @@ loop-holds c = (omega (arith, c .before .pre .0 .few, c .before .pre .1), same-k
 
 named-requires : tie.Need-named-requires Inv-loop μ-loop
 named-requires c κs =
-    let inv = c .before .before .loop .inv in
-    (queue-kept (c .before .before .before .before .pre .0) (inv .1), omega arith)
+    let at4 = c .before .before .before .before in
+    queue-kept (at4 .pre .0) (c .before .before .loop .inv .1)
 
 named-requires-2 : tie.Need-named-requires-2 Inv-loop μ-loop
 named-requires-2 c κs =
-    let inv = c .before .before .before .loop .inv in
-    (queue-kept (c .before .before .before .before .before .pre .0) (inv .1), omega arith)
+    let at5 = c .before .before .before .before .before in
+    queue-kept (at5 .pre .0) (c .before .before .before .loop .inv .1)
 
 lesser-requires : tie.Need-lesser-requires Inv-loop μ-loop
-lesser-requires c κs = queue-kept (c .before .before .before .before .before .before .pre .0) (c .before .before .before .before .loop .inv .1) .size
+lesser-requires c κs =
+    let at4 = c .before .before .before .before in
+    let at6 = at4 .before .before in
+    queue-kept (at6 .pre .0) (at4 .loop .inv .1) .size
 
-slice-read-if2 : tie.Need-slice-read-if2 Inv-loop μ-loop
-slice-read-if2 c =
-    let inv = c .before .before .before .before .before .before .before .loop .inv in
-    omega (arith, inv .0, queue-kept (c .before .before .before .before .before .before .before .before .before .pre .0) (inv .1) .size)
+named-requires-3 : tie.Need-named-requires-3 Inv-loop μ-loop
+named-requires-3 c κs =
+    let at7 = c .before .before .before .before .before .before .before in
+    let at9 = at7 .before .before in
+    queue-kept (at9 .pre .0) (at7 .loop .inv .1)
 
 same-length : tie.Need-same-length Inv-loop μ-loop
-same-length c = c .before .before .before .before .before .before .before .before .loop .inv .1 .size
+same-length c =
+    let at9 = c .before .before .before .before .before .before .before .before .before in
+    at9 .loop .inv .1 .size
 
 returns : tie.Need-returns Inv-loop μ-loop
-returns c = c .before .before .before .before .before .before .before .before .loop .inv .1
+returns c =
+    let at9 = c .before .before .before .before .before .before .before .before .before in
+    at9 .loop .inv .1
 
-slice-write-queue : tie.Need-slice-write-queue Inv-loop μ-loop
-slice-write-queue c =
-    let inv = c .before .before .before .before .before .before .loop .inv in
-    omega (arith, inv .0, queue-kept (c .before .before .before .before .before .before .before .before .pre .0) (inv .1) .size)
+name-requires : tie.Need-name-requires Inv-loop μ-loop
+name-requires c κs =
+    let at7 = c .before .before .before .before .before .before .before in
+    let at9 = at7 .before .before in
+    (queue-kept (at9 .pre .0) (at7 .loop .inv .1) .size, at7 .loop .inv .0)
 
 loop-less : tie.Need-loop-less Inv-loop μ-loop
-loop-less c = omega (arith, c .before .before .before .before .before .loop-test .taken)
+loop-less c =
+    let at9 = c .before .before .before .before .before .before .before .before .before in
+    omega (arith, at9 .loop-test .taken)
 
 loop-again : tie.Need-loop-again Inv-loop μ-loop
 loop-again c =
-    let inv = c .before .before .before .before .before .before .loop .inv in
-    (omega arith, same-keys-more _ _ (inv .1))
+    let at10 = c .before .before .before .before .before .before .before .before .before .before in
+    (omega (arith, at10 .loop .inv .0), same-keys-more (at10 .loop .inv .1) (c .before .before .name .ensures))
 
 same-length-2 : tie.Need-same-length-2 Inv-loop μ-loop
 same-length-2 c = c .before .loop .inv .1 .size
@@ -67,5 +78,4 @@ sift-up-spec =
     tie.close
     (tie.spec
     Inv-loop μ-loop add-i loop-holds (λ c. search needs) named-requires (λ c. search needs) (λ c. search needs) named-requires-2 lesser-requires
-    (λ c. search needs) (λ c. search needs) (λ c. search needs) slice-read-if2 same-length returns (λ c. search needs) (λ c. search needs)
-    slice-write-queue loop-less loop-again same-length-2 returns-2)
+    named-requires-3 same-length returns name-requires loop-less loop-again same-length-2 returns-2)
