@@ -1,3 +1,4 @@
 pub mod State
 pub mod Domain
 pub mod Successor
+pub mod Entries

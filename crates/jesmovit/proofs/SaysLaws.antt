@@ -19,7 +19,7 @@ use Rattle.compile.specs.Program.{programOf}
 use Rattle.compile.specs.CompiledJob.{stepsOf}
 use Rattle.compiled.specs.Ready.{Ready}
 use Rattle.compiled.proofs.ReadyLaws.{final-below}
-use Rattle.validate.specs.Entries.{EntriesBelow}
+use Rattle.domain.specs.Entries.{EntriesBelow}
 use Rattle.load.specs.Refusals.{boundFor}
 use Rattle.load.specs.View.{viewOf}
 use Rattle.load.specs.declared.request.Sort.{Sort}

@@ -5,3 +5,4 @@ pub mod JobText
 pub mod Compiling
 pub mod Checking
 pub mod Judging
+pub mod Writing

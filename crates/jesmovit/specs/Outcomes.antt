@@ -14,6 +14,7 @@ use Rattle.jesmovit.specs.declared.checking.CheckAnswer as Check
 use Rattle.jesmovit.specs.declared.judging.LeastAnswer as Least
 use Rattle.jesmovit.specs.declared.judging.Judgement as Judgement
 use Rattle.jesmovit.specs.declared.judging.JudgeAnswer as Judge
+use Rattle.jesmovit.specs.declared.laying.SheetAnswer as Sheet
 
 -- reading: the job's counts
 abbrev pub readOutcome : Read.ReadAnswer → Checked Counts
@@ -51,3 +52,13 @@ abbrev pub judgeOutcome : Judge.JudgeAnswer → Checked SizedJudgement
 judgeOutcome (Judge.the-variants.Judged positions steps g) =
     passed (record { sizes = record { positions = positions; steps = steps }; judgement = judgementOf g })
 judgeOutcome (Judge.the-variants.Refused r) = refused (r .number) (r .place)
+
+-- what is written for a plan: how much of it there is; of a list that isn't a plan the verdict
+pub data Written : Type 0 where
+  wrote : ℕ → Written
+  said : S.Verdict → Written
+
+abbrev pub sheetOutcome : Sheet.SheetAnswer → Checked Written
+sheetOutcome (Sheet.the-variants.Laid bytes) = passed (wrote bytes)
+sheetOutcome (Sheet.the-variants.Said v) = passed (said (verdictOf v))
+sheetOutcome (Sheet.the-variants.Refused r) = refused (r .number) (r .place)

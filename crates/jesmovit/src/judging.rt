@@ -7,7 +7,7 @@ ghost use lib.ListN.{length};
 ghost use Rattle.job.specs.Store.{taskOf};
 ghost use Rattle.domain.specs.Domain.{domainIn};
 ghost use Rattle.compiled.specs.Ready.{Ready};
-ghost use Rattle.validate.specs.Entries.{EntriesBelow};
+ghost use Rattle.domain.specs.Entries.{EntriesBelow};
 ghost use Rattle.load.specs.View.{viewOf};
 ghost use Rattle.load.specs.Refusals.{passed};
 ghost use Rattle.jesmovit.specs.Outcomes.{leastOutcome, judgementOf};

@@ -3,6 +3,7 @@ mod checking;
 mod compiling;
 mod job_text;
 mod judging;
+mod laying;
 
 pub use checking::CheckAnswer;
 pub use checking::check_moves;
@@ -16,3 +17,5 @@ pub use judging::Judgement;
 pub use judging::LeastAnswer;
 pub use judging::judge;
 pub use judging::least_cost;
+pub use laying::SheetAnswer;
+pub use laying::sheet;

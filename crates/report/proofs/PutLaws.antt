@@ -1,16 +1,16 @@
 -- Text put into a buffer, one part after another.
 -- Assumes nothing.
-use Prim.Native.Nat.{ℕ, zero, suc, _+_, _*_, _/_, _%_, _≤_, _<_}
+use Prim.Native.Nat.{ℕ, suc, _+_, _/_, _%_, _≤_, _<_}
 use mathlib.Core.Path.{_≡_, sym, _∙_, ap}
 use mathlib.Core.List.{List, [], _∷_, _++_}
 use native.Mathlib.Omega.{arith}
 use native.Mathlib.Numerals.{add-one}
-use native.Mathlib.Decide.{decLt}
 use lib.ListN.{length, getD, take, drop, set, length-append}
 use lib.Seq.{take-suc, take-all, length-take-le, sets, sets-eq, length-sets, take-at}
 use Rattle.laws.proofs.Lists.{sets-append}
 use Rattle.text.specs.Written.{decimal}
 use Rattle.text.proofs.WrittenLaws.{decimal-digit, decimal-tens}
+use Rattle.text.proofs.DecimalLaws.{decimal-short}
 use Rattle.compile.specs.Laid.{Laid}
 use Rattle.compile.proofs.LaidLaws.{laid-append}
 use Rattle.report.specs.Put.{Put, Prints}
@@ -42,30 +42,12 @@ module _ (old t : List ℕ) (at k : ℕ) where
   copied h g e = record { laid = record { list = e ∙ rw (take-all k t g); place = omega arith }; short = omega arith }
 
 -- a number's digits: the last one, behind those of its tenth
-pub digit-length : (n : ℕ) → n < 10 → length (decimal n) ≡ 1
-digit-length n h = ap length (decimal-digit n h)
-
-pub tens-length : (n : ℕ) → 10 ≤ n → length (decimal n) ≡ length (decimal (n / 10)) + 1
-tens-length n h = ap length (decimal-tens n h) ∙ length-append (decimal (n / 10)) ((48 + n % 10) ∷ [])
-
 pub digit-laid : {n : ℕ} {old new : List ℕ} {at p : ℕ} → n < 10 → Laid ((48 + n) ∷ []) old at new p → Laid (decimal n) old at new p
 digit-laid {n} h x = rw (decimal-digit n h) x
 
 pub tens-laid : {n : ℕ} {old mid new : List ℕ} {at p q : ℕ} → 10 ≤ n → Laid (decimal (n / 10)) old at mid p → Laid ((48 + n % 10) ∷ []) mid p new q
     → Laid (decimal n) old at new q
 tens-laid {n} h x y = rw (decimal-tens n h) (laid-append x y)
-
--- 10, 100, ..
-abbrev tens : ℕ → ℕ
-tens zero = 10
-tens (suc k) = tens k * 10
-
-decimal-short : (k n : ℕ) → n < tens k → length (decimal n) ≤ suc k
-decimal-short zero n h = omega (arith, digit-length n h)
-decimal-short (suc k) n h = elim (decLt n 10) [
-  | yes d ↦ omega (arith, digit-length n d)
-  | no d ↦ omega (arith, tens-length n (omega arith), decimal-short k (n / 10) (omega arith))
-]
 
 pub short-16 : (n : ℕ) → n < 65536 → length (decimal n) ≤ 5
 short-16 n h = decimal-short 4 n (omega arith)

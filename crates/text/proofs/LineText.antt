@@ -1,7 +1,7 @@
 -- A line is read as numbers just where it is the text of its key and of these numbers; so it is
 -- short.
 -- Assumes nothing.
-use Prim.Native.Nat.{ℕ, zero, suc, _+_, _*_, _/_, _%_, _≤_, _<_}
+use Prim.Native.Nat.{ℕ, zero, suc, _+_, _*_, _/_, _%_, _≤_}
 use mathlib.Core.Path.{_≡_, refl, _∙_, ap}
 use mathlib.Core.Bool.{Bool, true, false, cond}
 use mathlib.Core.List.{List, [], _∷_, _++_}
@@ -17,6 +17,7 @@ use Rattle.text.specs.Lines.{lines, onto, hasKey, valueOf}
 use Rattle.text.specs.Numbers.{numbers}
 use Rattle.text.specs.Written.{digitsWithin, decimal, written, lineText}
 use Rattle.text.proofs.WrittenLaws.{Small, IsValue, numbers-sound, numbers-complete}
+use Rattle.text.proofs.DecimalLaws.{decimal-short}
 
 both : (b k : ℕ) (rest same : Bool) → eqb b k ≡ same → cond same rest false ≡ true → (b ≡ k) × (rest ≡ true)
 both b k rest true e h = (eqb-true b k e, h)
@@ -55,32 +56,10 @@ line-complete key want n ns h s =
     let d : drop (length key + 1) (key ++ (61 ∷ written (n ∷ ns))) ≡ written (n ∷ ns) = drop-append-add key (61 ∷ written (n ∷ ns)) 1 in
     rw (key-has key (written (n ∷ ns)), d) (numbers-complete want n ns (written (n ∷ ns)) (record { count = h; small = s; text = refl }))
 
--- numbers below a limit have so many digits at the most; ten times the limit, one more
-Short : ℕ → ℕ → Type 0
-Short limit j = (k n : ℕ) → n < limit → length (digitsWithin k n) ≤ j
-
-short-first : Short 10 1
-unfolding Short digitsWithin
-short-first zero n h = omega arith
-short-first (suc k) n h = rw (lt-ltb n 10 h) (omega arith)
-
-short-more : (limit j : ℕ) → Short limit j → Short (10 * limit) (suc j)
-unfolding Short digitsWithin
-short-more limit j f zero n h = omega arith
-short-more limit j f (suc k) n h = elim (decLt n 10) [
-  | yes d ↦ rw (lt-ltb n 10 d) (omega arith)
-  | no d ↦ (let e : 10 ≤ n = omega arith in
-      rw (le-ltb n 10 e) (simp length-append (omega (arith, f k (n / 10) (omega arith)))))
-]
-
-decimal-short : (n : ℕ) → n ≤ 65535 → length (decimal n) ≤ 5
-unfolding Short
-decimal-short n h = short-more 10000 4 (short-more 1000 3 (short-more 100 2 (short-more 10 1 short-first))) (suc n) n (omega arith)
-
 written-short : (n : ℕ) (ns : List ℕ) → Small (n ∷ ns) → length (written (n ∷ ns)) ≤ 6 * length (n ∷ ns)
 unfolding written
-written-short n [] s = simp length-append (omega (arith, decimal-short n (s .0)))
-written-short n (m ∷ ns) s = simp length-append (omega (arith, decimal-short n (s .0), written-short m ns (s .1)))
+written-short n [] s = simp length-append (omega (arith, decimal-short 4 n (omega (arith, s .0))))
+written-short n (m ∷ ns) s = simp length-append (omega (arith, decimal-short 4 n (omega (arith, s .0)), written-short m ns (s .1)))
 
 values-short : (ns : List ℕ) → Small ns → length (written ns) ≤ 6 * length ns + 1
 values-short [] s = unfold written in omega arith
@@ -127,11 +106,11 @@ pub plain-ends : (a l : List ℕ) → plain a ≡ true → endsOnce l ≡ true �
 plain-ends [] l e h = h
 plain-ends (b ∷ a) l e h = let g = not-feed b (plain a) (eqb b 10) refl e in ends-after b (a ++ l) (g .0) (plain-ends a l (g .1) h)
 
-plain-both : (a b : List ℕ) → plain a ≡ true → plain b ≡ true → plain (a ++ b) ≡ true
+pub plain-both : (a b : List ℕ) → plain a ≡ true → plain b ≡ true → plain (a ++ b) ≡ true
 plain-both [] b e h = h
 plain-both (x ∷ a) b e h = let g = not-feed x (plain a) (eqb x 10) refl e in rw (g .0) (plain-both a b (g .1) h)
 
-digits-plain : (k n : ℕ) → plain (digitsWithin k n) ≡ true
+pub digits-plain : (k n : ℕ) → plain (digitsWithin k n) ≡ true
 unfolding digitsWithin
 digits-plain zero n = refl
 digits-plain (suc k) n = elim (decLt n 10) [

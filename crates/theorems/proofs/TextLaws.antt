@@ -13,6 +13,7 @@ use lib.ListN.{length, getD, take, drop, length-append, length-drop, length-map,
 use borrow.Author.Tests.{lt-ltb, le-leb, ne-eqb}
 use Rattle.limits.specs.Limits.{mostFacts, mostFormulas, mostMoves, mostProgram, lastClass}
 use Rattle.laws.proofs.Tests.{and-both}
+use Rattle.laws.proofs.Each.{All, all-every, all-at, all-take, all-drop, all-any, all-both, all-map}
 use Rattle.text.proofs.WrittenLaws.{Small}
 use Rattle.text.specs.Lines.{lines}
 use Rattle.text.proofs.LineText.{line-complete, plain, endsOnce, line-of, line-ends}
@@ -140,30 +141,6 @@ effect-step due m n j e rest q =
     (and-both (ltb (e .cond) (length (j .formulas))) _ (lt-ltb _ _ (q .0 .cond))
     (and-both (ltb (e .fact) (j .scalars .facts)) (leb (e .value) 1) (lt-ltb _ _ (q .0 .fact)) (le-leb _ _ (q .0 .value))))
     refl (omega arith)
-
--- each element of a list, without its place
-abbrev All : {A : Type 0} → (A → Type 0) → List A → Type 0
-All P [] = Unit {0}
-All P (a ∷ l) = P a × All P l
-
-all-every : {A : Type 0} (d : A) (P : A → Type 0) (l : List A) → ((i : ℕ) → i < length l → P (getD l i d)) → All P l
-all-every d P [] h = tt
-all-every d P (a ∷ l) h = (h 0 (omega arith), all-every d P l (λ i g. h (suc i) (omega arith)))
-
-all-at : {A : Type 0} (d : A) (P : A → Type 0) (l : List A) → All P l → (i : ℕ) → i < length l → P (getD l i d)
-all-at d P [] h i g = absurd (omega arith)
-all-at d P (a ∷ l) h zero g = h .0
-all-at d P (a ∷ l) h (suc i) g = all-at d P l (h .1) i (omega arith)
-
-all-take : {A : Type 0} (P : A → Type 0) (c : ℕ) (l : List A) → All P l → All P (take c l)
-all-take P zero l h = tt
-all-take P (suc c) [] h = tt
-all-take P (suc c) (a ∷ l) h = (h .0, all-take P c l (h .1))
-
-all-drop : {A : Type 0} (P : A → Type 0) (c : ℕ) (l : List A) → All P l → All P (drop c l)
-all-drop P zero l h = h
-all-drop P (suc c) [] h = tt
-all-drop P (suc c) (a ∷ l) h = all-drop P c l (h .1)
 
 -- a move
 move-step : (due n : ℕ) (j : J.Job) (m : J.Move) (rest : List (List ℕ)) → length (j .formulas) ≤ mostFormulas → MoveFits (length (j .formulas)) m
@@ -322,32 +299,27 @@ key-plain (Of Effect) = refl
 key-plain (Of Row) = refl
 key-plain End = refl
 
-abbrev Once : List ℕ → Type 0
+abbrev pub Once : List ℕ → Type 0
 Once l = endsOnce l ≡ true
 
 once : (k : Line) (n : ℕ) (ns : List ℕ) → Once (lineOf k (n ∷ ns))
 once k n ns = line-ends (formOf k .key) n ns (key-plain k)
 
-all-map : {A : Type 0} (f : A → List ℕ) (l : List A) → ((a : A) → Once (f a)) → All Once (map f l)
-all-map f [] h = tt
-all-map f (a ∷ l) h = (h a, all-map f l h)
-
-all-both : (a b : List (List ℕ)) → All Once a → All Once b → All Once (a ++ b)
-all-both [] b f g = g
-all-both (x ∷ a) b f g = (f .0, all-both a b (f .1) g)
+once-map : {A : Type 0} (f : A → List ℕ) (l : List A) → ((a : A) → Once (f a)) → All Once (map f l)
+once-map f l h = all-map f Once l (all-any (λ a. Once (f a)) h l)
 
 move-once : (ms : List J.Move) (es : List J.Effect) → All Once (moveLines ms es)
 unfolding moveLines
 move-once [] es = tt
 move-once (m ∷ ms) es = (
   once (Of Move) _ _,
-  all-both (map effectLine (take (m .effects) es)) (moveLines ms (drop (m .effects) es))
-      (all-map effectLine (take (m .effects) es) (λ e. once (Of Effect) _ _)) (move-once ms (drop (m .effects) es)),
+  all-both Once (map effectLine (take (m .effects) es)) (moveLines ms (drop (m .effects) es))
+      (once-map effectLine (take (m .effects) es) (λ e. once (Of Effect) _ _)) (move-once ms (drop (m .effects) es)),
 )
 
 job-once : (j : J.Job) → All Once (jobLines j)
 job-once j =
-    let end : All Once (programLines j) = (once (One Goal) _ _, (once (One Program) _ _, all-map rowLine (j .program) (λ r. once (Of Row) _ _))) in (
+    let end : All Once (programLines j) = (once (One Goal) _ _, (once (One Program) _ _, once-map rowLine (j .program) (λ r. once (Of Row) _ _))) in (
       once (One Job) _ _,
       (
         once (One Facts) _ _,
@@ -355,16 +327,16 @@ job-once j =
           once (One Init) _ _,
           (
             once (One Formulas) _ _,
-            all-both (map formulaLine (j .formulas))
+            all-both Once (map formulaLine (j .formulas))
                 (lineOf (One Moves) (length (j .moves) ∷ []) ∷ (moveLines (j .moves) (j .effects) ++ programLines j))
-                (all-map formulaLine (j .formulas) (λ f. once (Of Formula) _ _))
-                (once (One Moves) _ _, all-both (moveLines (j .moves) (j .effects)) (programLines j) (move-once (j .moves) (j .effects)) end),
+                (once-map formulaLine (j .formulas) (λ f. once (Of Formula) _ _))
+                (once (One Moves) _ _, all-both Once (moveLines (j .moves) (j .effects)) (programLines j) (move-once (j .moves) (j .effects)) end),
           ),
         ),
       ),
     )
 
-lines-flatten : (ls : List (List ℕ)) → All Once ls → lines (flatten ls) ≡ ls
+pub lines-flatten : (ls : List (List ℕ)) → All Once ls → lines (flatten ls) ≡ ls
 unfolding lines flatten
 lines-flatten [] h = refl
 lines-flatten (l ∷ ls) h = line-of l (flatten ls) (h .0) ∙ ap (λ r. l ∷ r) (lines-flatten ls (h .1))

@@ -1,3 +1,2 @@
 pub mod Positions
 pub mod Verdict
-pub mod Entries

@@ -6,7 +6,7 @@ ghost use Rattle.job.specs.Store.{jobOf};
 ghost use Rattle.domain.specs.Domain.{domainIn};
 ghost use Rattle.compile.specs.Program.{programOf};
 ghost use Rattle.compiled.specs.Ready.{Ready};
-ghost use Rattle.validate.specs.Entries.{EntriesBelow};
+ghost use Rattle.domain.specs.Entries.{EntriesBelow};
 ghost use Rattle.validate.specs.Verdict.{verdictOf};
 use crate::position_set::PositionSet;
 use crate::verdict::Verdict;

@@ -12,7 +12,7 @@ ghost use Rattle.compile.specs.CompiledJob.{stepsOf, stepCount};
 ghost use Rattle.compiled.specs.Adjacency.{stepsOn};
 ghost use Rattle.compiled.specs.Ready.{Ready};
 ghost use Rattle.compiled.specs.Arrival.{arrivalOf};
-ghost use Rattle.validate.specs.Entries.{EntriesBelow};
+ghost use Rattle.domain.specs.Entries.{EntriesBelow};
 ghost use Rattle.validate.specs.Verdict.{verdictOf};
 use crate::verdict::Verdict;
 use compiled::arrival::Arrival;

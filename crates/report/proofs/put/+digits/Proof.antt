@@ -3,7 +3,8 @@ use native.Mathlib.Omega.{arith}
 use borrow.Author.Needs.{needs}
 use borrow.Fn.Kinds.{In}
 use borrow.Fn.PlainCycle.{Measures, is, falls, and}
-use Rattle.report.proofs.PutLaws.{digit-laid, tens-laid, digit-length, tens-length}
+use Rattle.text.proofs.DecimalLaws.{digit-length, tens-length}
+use Rattle.report.proofs.PutLaws.{digit-laid, tens-laid}
 use Rattle.report.proofs.put.digits.Reads as digits
 use Rattle.report.proofs.put.digits.Kinds as digits-kinds
 use Rattle.report.proofs.put.+digits.Lts-digits as digits-lts

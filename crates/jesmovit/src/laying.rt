@@ -1,0 +1,113 @@
+// A plan text laid out as a sheet, by the class costs of a costs text where one is given.
+ghost use Prim.Native.Nat.{_*_, _≤_};
+ghost use lib.ListN.{length};
+ghost use Rattle.job.specs.Store.{jobOf, taskOf};
+ghost use Rattle.domain.specs.Domain.{domainIn};
+ghost use Rattle.domain.specs.Entries.{EntriesBelow};
+ghost use Rattle.compile.specs.CompiledJob.{stepCount};
+ghost use Rattle.validate.specs.Verdict.{verdictOf};
+ghost use Rattle.load.specs.Refusals.{passed};
+ghost use Rattle.load.specs.Loaded.{Sized};
+ghost use Rattle.load.specs.View.{viewOf};
+ghost use Rattle.jesmovit.specs.Outcomes.{sheetOutcome};
+ghost use Rattle.jesmovit.specs.Checking.{Says};
+ghost use Rattle.jesmovit.specs.Writing.{Writes, SheetIs, Sheets};
+use job::refusal::Refusal;
+use job::rows::STORE;
+use limits::ENTRIES;
+use limits::STEPS;
+use load::loaded::Loaded;
+use load::loaded::LoadedJob;
+use load::request::Given;
+use load::request::Request;
+use load::request::Sort;
+use validate::verdict::Verdict;
+
+// How many bytes the sheet of a plan has; the verdict on what is no plan; or why the texts, the
+// list or the output are refused.
+pub enum SheetAnswer {
+    Laid(usize),
+    Said(Verdict),
+    Refused(Refusal),
+}
+
+// Numbers of the greatest step list.
+const PLACES: usize = STEPS * 4;
+
+// The verdict on a list of moves. The compiled job's steps stand in an array of its own, so that
+// the list which is lent may still hold what it held.
+fn move_verdict(job: LoadedJob, rows: &[u16], plan: &[u16]) -> Verdict
+    requires { ⌜ Sized job (now rows) ⌝ }
+    requires { ⌜ EntriesBelow (now plan) (domainIn (job .head) (now rows) .moves) ⌝ }
+    ensures { λ r. ⌜ Says Sort.Moves (viewOf (record { task = taskOf (job .head) (now (rows .entry)); entries = now (plan .entry) })) (verdictOf r) ⌝ }
+{
+    let head = job.head;
+    let need = load::room::list_need(job);
+    let mut steps = [0u16; PLACES];
+    compile::program::compile(head, rows, &mut steps);
+    validate::moves::check_moves(head, rows, &steps[0..need], job.sizes.positions, plan)
+}
+
+// The sheet of a list of moves, if they are a plan and the output has room. The list is filled once
+// nothing is refused any more.
+fn lay_out(
+    job: LoadedJob,
+    rows: &[u16],
+    plan: &[u16],
+    list: &mut [u16],
+    out: &mut [u8],
+) -> SheetAnswer
+    requires { ⌜ Sized job (now rows) × (stepCount (jobOf (job .head) (now rows)) * 4 ≤ length (now list)) ⌝ }
+    requires { ⌜ EntriesBelow (now plan) (domainIn (job .head) (now rows) .moves) ⌝ }
+    ensures { λ r. ⌜ Writes SheetIs (record { list = now (list .entry); output = now (out .entry) })
+        (passed (viewOf (record { task = taskOf (job .head) (now (rows .entry)); entries = now (plan .entry) })))
+        (sheetOutcome r) (record { list = now (list .exit); output = now (out .exit) }) ⌝ }
+{
+    let head = job.head;
+    let verdict = move_verdict(job, rows, plan);
+    let Verdict::Plan(_) = verdict else {
+        compile::program::compile(head, rows, list);
+        return SheetAnswer::Said(verdict);
+    };
+    let need = layout::sheet::sheet_size(plan.len());
+    if out.len() < need {
+        let short = load::room::too_short(need);
+        return SheetAnswer::Refused(short);
+    }
+    compile::program::compile(head, rows, list);
+    layout::sheet::put_sheet(head, rows, plan, out);
+    SheetAnswer::Laid(need)
+}
+
+// Lays out a list of moves. Unless the texts, the list or the output are refused, the list's front
+// then holds the steps of the compiled job, four numbers each; for a plan, the output's front then
+// holds the sheet.
+pub fn sheet(
+    text: &[u8],
+    plan: &[u8],
+    costs: &[u8],
+    given: Given,
+    list: &mut [u16],
+    out: &mut [u8],
+) -> SheetAnswer
+    ensures { λ r. ⌜ Sheets (record { job = now (text .entry); plan = now (plan .entry); costs = now (costs .entry); given = given })
+        (record { list = now (list .entry); output = now (out .entry) }) r (record { list = now (list .exit); output = now (out .exit) }) ⌝ }
+{
+    let mut rows = [0u16; STORE];
+    let mut entries = [0u16; ENTRIES];
+    let request = Request {
+        given: given,
+        plan: true,
+        sort: Sort::Moves,
+        places: list.len(),
+        table: false,
+        cells: 0,
+    };
+    let loaded = load::loading::load(request, text, plan, costs, &mut rows, &mut entries);
+    let Loaded::Ready(job) = loaded else {
+        let r = load::loaded::refusal(loaded);
+        return SheetAnswer::Refused(r);
+    };
+    let n = job.entries;
+    lay_out(job, &rows, &entries[0..n], list, out)
+}

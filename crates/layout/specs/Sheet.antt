@@ -1,0 +1,54 @@
+-- The sheet of a plan (document 02: shift sheet), line by line and page by page.
+use Prim.Native.Nat.{ℕ, suc, _+_, _-_, _*_, _/_, _≤_}
+use mathlib.Core.Option.{none, some}
+use mathlib.Core.List.{List, [], _∷_, _++_, map, flatten}
+use lib.ListN.{length, replicate}
+use Rattle.text.specs.Written.{decimal}
+use Rattle.semantics.specs.Domain.{Domain}
+use Rattle.layout.specs.Column.{spaces, column}
+use Rattle.layout.specs.declared.line.SheetLine.{SheetLine}
+
+-- "lines of exactly 30 bytes and a line feed" (byte 10): "row from 1 in 5 columns, two spaces, move
+-- in 3, two spaces, cost in 7, two spaces, running total in 9"
+unfoldable pub lineOf : SheetLine → List ℕ
+lineOf l =
+    column 5 (l .row) ++ spaces 2 ++ column 3 (l .made) ++ spaces 2 ++ column 7 (l .cost) ++ spaces 2 ++ column 9 (l .total) ++ (10 ∷ [])
+
+-- each number has room in its column, so that none is shifted
+pub record Fits (l : SheetLine) : Type 0 where
+  pub row : length (decimal (l .row)) ≤ 5
+  pub made : length (decimal (l .made)) ≤ 3
+  pub cost : length (decimal (l .cost)) ≤ 7
+  pub total : length (decimal (l .total)) ≤ 9
+
+-- a line for each move that is made from state s on, with its cost in the state before it; n lines
+-- stand above, and their costs sum to `total`
+unfoldable pub linesFrom : Domain → ℕ → ℕ → ℕ → List ℕ → List SheetLine
+linesFrom D s n total [] = []
+linesFrom D s n total (m ∷ ms) =
+    record { row = suc n; made = m; cost = D .cost m s; total = total + D .cost m s }
+    ∷ elim (D .successor m s) [ none ↦ [] | some t ↦ linesFrom D t (suc n) (total + D .cost m s) ms ]
+
+-- of a plan, from the start on
+abbrev pub linesOf : Domain → List ℕ → List SheetLine
+linesOf D ms = linesFrom D (D .start) 0 0 ms
+
+-- how many lines the pages of so many rows have: "A page has 60 lines", "an empty plan has no page"
+abbrev pub pageLines : ℕ → ℕ
+pageLines n = (n + 59) / 60 * 60
+
+-- a line of spaces
+unfoldable pub blankLine : List ℕ
+blankLine = spaces 30 ++ (10 ∷ [])
+
+-- "the last page filled with lines of spaces"
+unfoldable pub filled : List (List ℕ) → List (List ℕ)
+filled ls = ls ++ replicate (pageLines (length ls) - length ls) blankLine
+
+-- the bytes of the sheet
+unfoldable pub sheetOf : Domain → List ℕ → List ℕ
+sheetOf D ms = flatten (filled (map lineOf (linesOf D ms)))
+
+-- how many there are, of so many moves
+abbrev pub sheetSize : ℕ → ℕ
+sheetSize n = pageLines n * 31
