@@ -4,12 +4,14 @@ use Prim.Native.Nat.{ℕ, _+_, _-_, _*_, _≤_}
 use mathlib.Core.Path.{_≡_, _∙_, ap}
 use mathlib.Core.List.{List}
 use native.Mathlib.Omega.{arith}
-use lib.ListN.{length, take, drop}
+use lib.ListN.{length, take, drop, replicate, length-replicate}
 use lib.Seq.{sets, sets-eq, take-append-seam}
+use Rattle.limits.specs.Limits.{mostSteps}
 use Rattle.job.specs.Store.{jobOf}
 use Rattle.semantics.specs.CompilingTable.{Step, flat}
 use Rattle.semantics.proofs.FlatLaws.{flat-length, flat-steps}
 use Rattle.compile.specs.CompiledJob.{stepsOf, stepCount}
+use Rattle.compile.proofs.FitLaws.{few-steps}
 use Rattle.compiled.specs.Adjacency.{stepsOn}
 use Rattle.compiled.specs.Ready.{Ready}
 use Rattle.load.specs.Loaded.{Sized}
@@ -45,3 +47,19 @@ module _ {l : LoadedJob} {rows : List ℕ} (sized : Sized l rows) (list : List �
         steps = ap stepsOn front ∙ flat-steps L;
         positions = sized .positions;
       }
+
+-- the same in an array of an operation's own, which has room for the steps of every job
+module _ {l : LoadedJob} {rows : List ℕ} (sized : Sized l rows) where
+  pub own-room : stepCount (jobOf (l .head) rows) * 4 ≤ mostSteps * 4
+  own-room = omega (arith, few-steps (jobOf (l .head) rows) (sized .fit))
+
+  module _ {need : ℕ} (n : need ≡ l .sizes .steps * 4) where
+    pub own-fits : need ≤ mostSteps * 4
+    own-fits = omega (arith, own-room, sized .steps, n)
+
+    abbrev own : List ℕ
+    own = replicate (mostSteps * 4) 0
+
+    pub own-ready : {after : List ℕ} → after ≡ sets (replicate (mostSteps * 4) 0) 0 (flat (stepsOf (jobOf (l .head) rows)))
+        → Ready (l .head) rows (take (need - 0) after) (l .sizes .positions)
+    own-ready = let size : length own ≡ mostSteps * 4 = length-replicate {A = ℕ} (mostSteps * 4) 0 in front-ready sized own (omega (arith, own-room, size)) n

@@ -41,7 +41,7 @@ module _ (D : Domain) (σ : Program) where
   judged-allowed (is-plan {u} x g) = record { last = u; run = x; reached = g }
 
 -- a verdict of another tag is no plan
-other-tag : (v : Verdict) → OneOf (1 ∷ 2 ∷ 3 ∷ []) (tagOf the-type v) → (c : ℕ) → verdictOf v ≡ S.plan c → ⊥
+pub other-tag : (v : Verdict) → OneOf (1 ∷ 2 ∷ 3 ∷ []) (tagOf the-type v) → (c : ℕ) → verdictOf v ≡ S.plan c → ⊥
 other-tag (Verdict.Plan k) (inl e) c f = omega (arith, e)
 other-tag (Verdict.Plan k) (inr (inl e)) c f = omega (arith, e)
 other-tag (Verdict.Plan k) (inr (inr e)) c f = omega (arith, e)

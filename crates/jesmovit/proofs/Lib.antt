@@ -5,3 +5,4 @@ pub mod CompileLaws
 pub mod SaysLaws
 pub mod CostLaws
 pub mod JudgeLaws
+pub mod WritingLaws

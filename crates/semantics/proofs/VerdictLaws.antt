@@ -3,6 +3,7 @@
 -- Assumes nothing.
 use Prim.Native.Nat.{ℕ}
 use mathlib.Core.Path.{_≡_, refl, sym, subst}
+use mathlib.Core.Option.{some}
 use mathlib.Core.List.{List}
 use mathlib.Core.Logic.{_↔_, Iff·symm}
 use Rattle.semantics.specs.Program.{Program, nil}
@@ -12,7 +13,7 @@ use Rattle.semantics.specs.CompilingTable.{Step, end, steps}
 use Rattle.semantics.specs.Path.{Path, movesIn}
 use Rattle.semantics.specs.Plan.{cost}
 use Rattle.semantics.specs.Verdict.{Verdict, plan, Entries, Judged, is-plan, byRuns, bySteps}
-use Rattle.semantics.proofs.PathLaws.{path-moves, path-leads, front-of-steps, front-of-moves}
+use Rattle.semantics.proofs.PathLaws.{stateAfter, path-moves, path-leads, front-of-steps, front-of-moves}
 use Rattle.semantics.proofs.Agreement.{partial-runs, complete-runs}
 use Rattle.semantics.proofs.OneVerdict.{Lawful, one-verdict, same-verdict}
 
@@ -55,6 +56,11 @@ module _ (D : Domain) (σ : Program) where
 
   pub one-move-verdict : (ms : List ℕ) (v w : Verdict) → Judged D (byRuns D σ) ms v → Judged D (byRuns D σ) ms w → v ≡ w
   one-move-verdict ms v w j k = one-verdict D (byPaths D σ) paths-lawful ms v w (verdicts-agree ms v .0 j) (verdicts-agree ms w .0 k)
+
+  -- the moves of a plan lead from the start to some state
+  pub plan-leads : {ms : List ℕ} {c : ℕ} → Judged D (byRuns D σ) ms (plan c) → (u : ℕ) × (stateAfter D (D .start) ms ≡ some u)
+  unfolding byRuns
+  plan-leads {ms} (is-plan {u} x g) = (u, path-leads (complete-runs D (D .start) σ ms u .0 x .1))
 
   abbrev L : List Step
   L = steps (D .moves) σ 0

@@ -1,0 +1,71 @@
+-- What is promised of what is written for a plan, from the chain of reasons and the verdict.
+-- Assumes nothing.
+use Prim.Native.Nat.{ℕ, _*_, _≤_, _<_}
+use mathlib.Core.Path.{_≡_, refl, sym, _∙_, ap, subst}
+use mathlib.Core.List.{List, [], _∷_}
+use native.Mathlib.Omega.{arith}
+use lib.ListN.{length}
+use lib.Seq.{sets}
+use types.Run.{OneOf}
+use denote.Enum.Declared.{tagOf}
+use Rattle.job.specs.Store.{taskOf}
+use Rattle.job.specs.declared.refusal.Refusal.{Refusal}
+use Rattle.semantics.specs.Verdict as S
+use Rattle.semantics.proofs.VerdictLaws.{plan-leads}
+use Rattle.domain.specs.Domain.{domainIn}
+use Rattle.domain.specs.Entries.{EntriesBelow}
+use Rattle.validate.specs.Verdict.{verdictOf}
+use Rattle.validate.specs.declared.verdict.Verdict.{Verdict}
+use Rattle.validate.proofs.verdict.Verdict.{the-type}
+use Rattle.layout.specs.Sheet.{sheetOf, sheetSize}
+use Rattle.layout.proofs.SheetLaws.{sheet-length}
+use Rattle.load.specs.Refusals.{Handed, Checked, passed, refused, Offer, loading}
+use Rattle.load.specs.Loaded.{Sized}
+use Rattle.load.specs.View.{View, viewOf, viewIn}
+use Rattle.load.specs.declared.loaded.LoadedJob.{LoadedJob}
+use Rattle.load.specs.declared.request.Sort.the-variants.{Moves}
+use Rattle.jesmovit.specs.Outcomes.{Written, wrote, said}
+use Rattle.jesmovit.specs.Compiling.{listAfter}
+use Rattle.jesmovit.specs.Checking.{Says}
+use Rattle.jesmovit.specs.Writing.{LentOutput, Writes, refuses, not-plan, too-short, writes, SheetIs}
+use Rattle.jesmovit.proofs.AnswerLaws.{viewed}
+use Rattle.jesmovit.proofs.JudgeLaws.{other-tag}
+
+module _ {Content : View → List ℕ → Type 0} {old : LentOutput} (h : Handed) where
+  pub write-refused : {number place : ℕ} → refused number place ≡ loading h → Writes Content old (viewIn h) (refused number place) old
+  write-refused {number} {place} e = subst (λ (c : Checked Offer). Writes Content old (viewed c) (refused number place) old) e refuses
+
+  pub write-passed : {o : Offer} → passed o ≡ loading h → {d : Checked Written} {new : LentOutput} → Writes Content old (passed (viewOf o)) d new
+      → Writes Content old (viewIn h) d new
+  write-passed e {d} {new} x = subst (λ (c : Checked Offer). Writes Content old (viewed c) d new) e x
+
+-- of a job that is stored and measured, and moves that it has
+module _ {l : LoadedJob} {rows plan : List ℕ} (sized : Sized l rows) (entries : EntriesBelow plan (domainIn (l .head) rows .moves)) (list out : List ℕ)
+    (v : Verdict) (s : Says Moves (viewOf (record { task = taskOf (l .head) rows; entries = plan })) (verdictOf v)) where
+  abbrev view : View
+  view = viewOf (record { task = taskOf (l .head) rows; entries = plan })
+
+  abbrev lent : LentOutput
+  lent = record { list = list; output = out }
+
+  -- a verdict of another tag: nothing is laid out
+  pub lay-none : OneOf (1 ∷ 2 ∷ 3 ∷ []) (tagOf the-type v) → {after : List ℕ} → after ≡ listAfter view list
+      → Writes SheetIs (record { list = list; output = out }) (passed view) (passed (said (verdictOf v))) (record { list = after; output = out })
+  lay-none o e = rw e (not-plan s (other-tag v o))
+
+  module _ {cost need : ℕ} (e : v ≡ Verdict.Plan cost) (n : need ≡ sheetSize (length plan)) where
+    planned : Says Moves view (S.plan cost)
+    planned = rw e at s
+
+    sheet-need : length (sheetOf (domainIn (l .head) rows) plan) ≡ need
+    sheet-need =
+        let m = plan-leads (view .domain) (view .program) planned in
+        sheet-length (l .head) rows plan (sized .stored) entries (m .1) ∙ sym n
+
+    pub lay-short : length out < need → {r : Refusal} → r ≡ record { number = 6; place = need }
+        → Writes SheetIs (record { list = list; output = out }) (passed view) (refused (r .number) (r .place)) (record { list = list; output = out })
+    lay-short h f = rw (f, ← sheet-need) (too-short planned refl (omega (arith, sheet-need)))
+
+    pub lay-sheet : need ≤ length out → {after filled : List ℕ} → after ≡ listAfter view list → filled ≡ sets out 0 (sheetOf (domainIn (l .head) rows) plan)
+        → Writes SheetIs (record { list = list; output = out }) (passed view) (passed (wrote need)) (record { list = after; output = filled })
+    lay-sheet h f g = rw (f, g, ← sheet-need) (writes planned refl (omega (arith, sheet-need)))
