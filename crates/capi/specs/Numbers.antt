@@ -7,12 +7,13 @@ use Rattle.semantics.specs.Verdict.{Verdict, plan, blocked, unfinished, missed}
 use Rattle.semantics.specs.Judgement.{Judgement, least, dearer, other}
 use Rattle.compile.specs.declared.sizes.Sizes.{Sizes}
 use Rattle.load.specs.Refusals.{Checked, passed, refused}
-use Rattle.jesmovit.specs.Outcomes.{readOutcome, compileOutcome, checkOutcome, leastOutcome, judgeOutcome}
+use Rattle.jesmovit.specs.Outcomes.{readOutcome, compileOutcome, checkOutcome, leastOutcome, judgeOutcome, Written, wrote, said, sheetOutcome}
 use Rattle.jesmovit.specs.declared.judging.JudgeAnswer.{JudgeAnswer}
 use Rattle.jesmovit.specs.declared.judging.LeastAnswer.{LeastAnswer}
 use Rattle.jesmovit.specs.declared.compiling.CompileAnswer.{CompileAnswer}
 use Rattle.jesmovit.specs.declared.checking.CheckAnswer.{CheckAnswer}
 use Rattle.jesmovit.specs.declared.job_text.ReadAnswer.{ReadAnswer}
+use Rattle.jesmovit.specs.declared.laying.SheetAnswer.{SheetAnswer}
 use Rattle.capi.specs.declared.numbers.Numbers.{Numbers}
 use Rattle.capi.specs.declared.numbers.Coded.{Coded}
 
@@ -60,6 +61,11 @@ abbrev pub costNumbers : Option ℕ → Numbers
 costNumbers (some cost) = done 6 cost 0 0 0
 costNumbers none = done 7 0 0 0 0
 
+-- and on: the bytes of a sheet; "A list that isn't a plan gives its verdict"
+abbrev pub laidNumbers : Written → Numbers
+laidNumbers (wrote bytes) = done 8 bytes 0 0 0
+laidNumbers (said v) = codeNumbers (verdictCode v)
+
 abbrev pub judgedNumbers : Sizes → Coded → Numbers
 judgedNumbers s o = done (s .positions) (s .steps) (o .number) (o .first) (o .second)
 
@@ -77,3 +83,6 @@ leastNumbers a = outcomeNumbers costNumbers (leastOutcome a)
 
 abbrev pub judgeNumbers : JudgeAnswer → Numbers
 judgeNumbers a = outcomeNumbers (λ g. judgedNumbers (g .sizes) (judgementCode (g .judgement))) (judgeOutcome a)
+
+abbrev pub sheetNumbers : SheetAnswer → Numbers
+sheetNumbers a = outcomeNumbers laidNumbers (sheetOutcome a)

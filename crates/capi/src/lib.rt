@@ -6,7 +6,8 @@ ghost use Rattle.jesmovit.specs.JobText.{Reads};
 ghost use Rattle.jesmovit.specs.Compiling.{Compiles};
 ghost use Rattle.jesmovit.specs.Checking.{Checks};
 ghost use Rattle.jesmovit.specs.Judging.{CostsLeast, Judges};
-ghost use Rattle.capi.specs.Numbers.{readNumbers, compileNumbers, checkNumbers, leastNumbers, judgeNumbers};
+ghost use Rattle.jesmovit.specs.Writing.{Sheets};
+ghost use Rattle.capi.specs.Numbers.{readNumbers, compileNumbers, checkNumbers, leastNumbers, judgeNumbers, sheetNumbers};
 ghost use Rattle.capi.specs.Given.{givenOf};
 ghost use Rattle.capi.specs.Calls.{Gives};
 
@@ -112,5 +113,28 @@ pub extern "C" fn jesmovit_judge(
     let g = given::given_in(given);
     let a = jesmovit::judge(text, plan, costs, g, list, table);
     let n = numbers::of_judge(a);
+    numbers::hand_out(n, answer)
+}
+
+// Lays out a list of moves: the bytes of the sheet that the output's front then holds, or the
+// verdict on what is no plan.
+#[no_mangle]
+pub extern "C" fn jesmovit_sheet(
+    text: &[u8],
+    plan: &[u8],
+    costs: &[u8],
+    given: u32,
+    list: &mut [u16],
+    out: &mut [u8],
+    answer: &mut [u64; 5],
+) -> u32
+    ensures { λ r. ⌜ Gives sheetNumbers (λ a. Sheets
+        (record { job = now (text .entry); plan = now (plan .entry); costs = now (costs .entry); given = givenOf given })
+        (record { list = now (list .entry); output = now (out .entry) }) a (record { list = now (list .exit); output = now (out .exit) }))
+        r (now (answer .exit)) ⌝ }
+{
+    let g = given::given_in(given);
+    let a = jesmovit::sheet(text, plan, costs, g, list, out);
+    let n = numbers::of_sheet(a);
     numbers::hand_out(n, answer)
 }

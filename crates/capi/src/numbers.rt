@@ -2,14 +2,15 @@
 ghost use mathlib.Core.Path.{_≡_};
 ghost use Rattle.validate.specs.Verdict.{verdictOf};
 ghost use Rattle.jesmovit.specs.Outcomes.{judgementOf};
-ghost use Rattle.capi.specs.Numbers.{verdictCode, judgementCode, refusalNumbers};
-ghost use Rattle.capi.specs.Numbers.{readNumbers, compileNumbers, checkNumbers, leastNumbers, judgeNumbers};
+ghost use Rattle.capi.specs.Numbers.{verdictCode, judgementCode, codeNumbers, refusalNumbers};
+ghost use Rattle.capi.specs.Numbers.{readNumbers, compileNumbers, checkNumbers, leastNumbers, judgeNumbers, sheetNumbers};
 use jesmovit::CheckAnswer;
 use jesmovit::CompileAnswer;
 use jesmovit::JudgeAnswer;
 use jesmovit::Judgement;
 use jesmovit::LeastAnswer;
 use jesmovit::ReadAnswer;
+use jesmovit::SheetAnswer;
 use job::refusal::Refusal;
 use validate::verdict::Verdict;
 
@@ -110,17 +111,22 @@ pub fn of_compile(a: CompileAnswer) -> Numbers
     }
 }
 
+// A verdict that is the whole answer.
+fn said(v: Verdict) -> Numbers
+    ensures { λ r. ⌜ r ≡ codeNumbers (verdictCode (verdictOf v)) ⌝ }
+{
+    let o = of_verdict(v);
+    Numbers {
+        number: 0,
+        values: [o.number, o.first, 0, 0, 0],
+    }
+}
+
 pub fn of_check(a: CheckAnswer) -> Numbers
     ensures { λ r. ⌜ r ≡ checkNumbers a ⌝ }
 {
     match a {
-        CheckAnswer::Said(v) => {
-            let o = of_verdict(v);
-            Numbers {
-                number: 0,
-                values: [o.number, o.first, 0, 0, 0],
-            }
-        }
+        CheckAnswer::Said(v) => said(v),
         CheckAnswer::Refused(r) => of_refusal(r),
     }
 }
@@ -153,6 +159,19 @@ pub fn of_judge(a: JudgeAnswer) -> Numbers
             }
         }
         JudgeAnswer::Refused(r) => of_refusal(r),
+    }
+}
+
+pub fn of_sheet(a: SheetAnswer) -> Numbers
+    ensures { λ r. ⌜ r ≡ sheetNumbers a ⌝ }
+{
+    match a {
+        SheetAnswer::Laid(bytes) => Numbers {
+            number: 0,
+            values: [8, bytes as u64, 0, 0, 0],
+        },
+        SheetAnswer::Said(v) => said(v),
+        SheetAnswer::Refused(r) => of_refusal(r),
     }
 }
 

@@ -1,12 +1,12 @@
 -- Text put into a buffer, one part after another.
 -- Assumes nothing.
 use Prim.Native.Nat.{ℕ, suc, _+_, _/_, _%_, _≤_, _<_}
-use mathlib.Core.Path.{_≡_, sym, _∙_, ap}
+use mathlib.Core.Path.{_≡_, refl, sym, _∙_, ap, subst}
 use mathlib.Core.List.{List, [], _∷_, _++_}
 use native.Mathlib.Omega.{arith}
 use native.Mathlib.Numerals.{add-one}
 use lib.ListN.{length, getD, take, drop, set, length-append}
-use lib.Seq.{take-suc, take-all, length-take-le, sets, sets-eq, length-sets, take-at}
+use lib.Seq.{take-suc, take-all, take-length, length-take-le, sets, sets-eq, length-sets, take-at}
 use Rattle.laws.proofs.Lists.{sets-append}
 use Rattle.text.specs.Written.{decimal}
 use Rattle.text.proofs.WrittenLaws.{decimal-digit, decimal-tens}
@@ -29,6 +29,22 @@ put-prints {m} {v} {old} {new} {p} h x =
     let f : new ≡ v ++ drop (0 + length v) old = x .laid .list ∙ sets-eq v old 0 (omega (arith, x .short)) in
     let g : p ≤ length new = omega (arith, x .short, ap length (x .laid .list), length-sets old 0 v) in
     record { shows = ap (take p) f ∙ take-at v (drop (0 + length v) old) p r; within = g; counts = sym (length-take-le p new g) }
+
+-- the same text, written otherwise
+pub prints-as : {v w buffer : List ℕ} {p : ℕ} → v ≡ w → Prints v buffer p → Prints w buffer p
+prints-as {buffer = buffer} {p} e x = subst (λ (t : List ℕ). Prints t buffer p) e x
+
+-- a text that stands in a buffer already, as far as the buffer goes
+module _ (buffer : List ℕ) (bytes : ℕ) where
+  pub held-within : bytes ≤ length buffer → Prints (take bytes buffer) buffer bytes
+  held-within h = record { shows = refl; within = h; counts = sym (length-take-le bytes buffer h) }
+
+  pub held-all : length buffer ≤ bytes → Prints (take bytes buffer) buffer (length buffer)
+  held-all h = record {
+    shows = take-length buffer ∙ sym (take-all bytes buffer h);
+    within = omega arith;
+    counts = sym (ap length (take-length buffer));
+  }
 
 -- a text, copied byte by byte
 module _ (old t : List ℕ) (at k : ℕ) where

@@ -10,12 +10,13 @@ use Rattle.job.specs.declared.head.Counts.{Counts}
 use Rattle.semantics.specs.Verdict.{Verdict, plan, blocked, unfinished, missed}
 use Rattle.semantics.specs.Judgement.{Judgement, least, dearer, other}
 use Rattle.load.specs.Refusals.{Checked, passed, refused}
-use Rattle.jesmovit.specs.Outcomes.{readOutcome, compileOutcome, checkOutcome, leastOutcome, judgeOutcome}
+use Rattle.jesmovit.specs.Outcomes.{readOutcome, compileOutcome, checkOutcome, leastOutcome, judgeOutcome, Written, wrote, said, sheetOutcome}
 use Rattle.jesmovit.specs.declared.judging.JudgeAnswer.{JudgeAnswer}
 use Rattle.jesmovit.specs.declared.judging.LeastAnswer.{LeastAnswer}
 use Rattle.jesmovit.specs.declared.compiling.CompileAnswer.{CompileAnswer}
 use Rattle.jesmovit.specs.declared.checking.CheckAnswer.{CheckAnswer}
 use Rattle.jesmovit.specs.declared.job_text.ReadAnswer.{ReadAnswer}
+use Rattle.jesmovit.specs.declared.laying.SheetAnswer.{SheetAnswer}
 
 -- `key=number`
 abbrev pub line : String → ℕ → List ℕ
@@ -70,6 +71,11 @@ abbrev pub leastLines : Option ℕ → List ℕ
 leastLines (some cost) = line "least" cost
 leastLines none = bytes "answer=none\n"
 
+-- the sheet, which stands at the output's front; or what a check says
+abbrev pub sheetLines : List ℕ → Written → List ℕ
+sheetLines output (wrote bytes) = take bytes output
+sheetLines output (said v) = verdictLines v
+
 -- a job's counts
 abbrev pub countLines : Counts → List ℕ
 countLines c =
@@ -92,3 +98,7 @@ checkPrintout a = printout verdictLines (checkOutcome a)
 
 abbrev pub readPrintout : ReadAnswer → List ℕ
 readPrintout a = printout countLines (readOutcome a)
+
+-- the output is the buffer that the sheet was written into
+abbrev pub sheetPrintout : SheetAnswer → List ℕ → List ℕ
+sheetPrintout a output = printout (sheetLines output) (sheetOutcome a)

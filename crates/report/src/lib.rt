@@ -8,3 +8,4 @@ pub use printouts::compile;
 pub use printouts::judge;
 pub use printouts::least_cost;
 pub use printouts::read;
+pub use printouts::sheet;

@@ -6,7 +6,7 @@ ghost use Rattle.limits.specs.Limits.{mostSteps};
 ghost use Rattle.jesmovit.specs.Outcomes.{judgementOf};
 ghost use Rattle.report.specs.Put.{Put, Prints};
 ghost use Rattle.report.specs.Printout.{costLines, judgementLines, compiledLines, countLines};
-ghost use Rattle.report.specs.Printout.{judgePrintout, leastPrintout, compilePrintout, checkPrintout, readPrintout};
+ghost use Rattle.report.specs.Printout.{judgePrintout, leastPrintout, compilePrintout, checkPrintout, readPrintout, sheetPrintout};
 use crate::lines;
 use crate::put;
 use jesmovit::CheckAnswer;
@@ -15,6 +15,7 @@ use jesmovit::JudgeAnswer;
 use jesmovit::Judgement;
 use jesmovit::LeastAnswer;
 use jesmovit::ReadAnswer;
+use jesmovit::SheetAnswer;
 use job::head::Counts;
 
 // The numbers of a list's first steps, as far as it goes.
@@ -130,5 +131,27 @@ pub fn read(answer: ReadAnswer, out: &mut [u8]) -> usize
     match answer {
         ReadAnswer::Read(c) => counts(out, c),
         ReadAnswer::Refused(r) => lines::refusal(out, 0, r),
+    }
+}
+
+// How many bytes of a buffer's front are the text that it holds, as far as it goes.
+fn held(out: &[u8], bytes: usize) -> usize
+    ensures { λ r. ⌜ Prints (take bytes (now (out .entry))) (now (out .entry)) r ⌝ }
+{
+    if bytes <= out.len() {
+        return bytes;
+    }
+    out.len()
+}
+
+// What laying out prints: the sheet stands in the buffer already.
+pub fn sheet(answer: SheetAnswer, out: &mut [u8]) -> usize
+    requires { ⌜ 64 ≤ length (now out) ⌝ }
+    ensures { λ r. ⌜ Prints (sheetPrintout answer (now (out .entry))) (now (out .exit)) r ⌝ }
+{
+    match answer {
+        SheetAnswer::Laid(bytes) => held(out, bytes),
+        SheetAnswer::Said(v) => lines::verdict(out, 0, v),
+        SheetAnswer::Refused(r) => lines::refusal(out, 0, r),
     }
 }
