@@ -1,13 +1,9 @@
 //! The six operations as they should answer, with what list and table should hold afterwards.
 
-use super::compiler::{compile_with, Compiled};
-use super::costs::cost_table;
-use super::domain::{state_count, Domain};
 use super::fault::Fault;
-use super::job::{ClassCosts, Job, Refusal, HOUSE_COSTS};
-use super::reader::{read_costs, read_job, read_plan};
-use super::runs::Runs;
-use super::steps::Steps;
+use super::job::{Job, Refusal};
+use super::known::{class_costs, Built, Known};
+use super::reader::read_job;
 use super::verdict::Verdict;
 use crate::answer::*;
 
@@ -32,21 +28,6 @@ pub struct Expected {
     built: Result<Built, Refusal>,
     known: Result<Known, Refusal>,
     fault: Fault,
-}
-
-/// A job that compiles: the list of its steps, and how many numbers its cost table has.
-struct Built {
-    compiled: Compiled,
-    list: Vec<u16>,
-    cells: usize,
-}
-
-/// All that is known of a job that compiles with its class costs, and the verdicts of the two plan texts.
-struct Known {
-    table: Vec<u64>,
-    least: Option<u64>,
-    moves: Result<Verdict, Refusal>,
-    steps: Result<Verdict, Refusal>,
 }
 
 impl Expected {
@@ -158,61 +139,9 @@ impl Expected {
     }
 }
 
-impl Built {
-    fn of(job: &Job, fault: Fault) -> Result<Built, Refusal> {
-        let compiled = compile_with(job, fault)?;
-        Ok(Built { list: compiled.steps.concat(), cells: state_count(job) * compiled.positions, compiled })
-    }
-
-    /// Positions and steps.
-    fn sizes(&self) -> [u64; 2] {
-        [self.compiled.positions, self.compiled.steps.len()].map(|number| number as u64)
-    }
-
-    fn fill_list(&self, list: &mut [u16]) {
-        list[..self.list.len()].copy_from_slice(&self.list);
-    }
-}
-
-impl Known {
-    fn of(job: &Job, built: &Built, costs: ClassCosts, texts: &Texts, fault: Fault) -> Known {
-        let compiled = &built.compiled;
-        let domain = Domain::new(job, costs, fault);
-        let mut runs = Runs::new(&domain, fault);
-        let moves = read_plan(texts.moves, b'm', job.moves.len()).map(|moves| runs.verdict(&moves));
-        let path = Steps::new(&domain, compiled);
-        let steps = read_plan(texts.steps, b't', compiled.steps.len()).map(|steps| path.verdict(&steps, fault));
-        Known { table: cost_table(&path, fault), least: runs.least(), moves, steps }
-    }
-
-    fn fill_table(&self, table: &mut [u64], fault: Fault) {
-        for (entry, cost) in table.iter_mut().zip(&self.table) {
-            *entry = match fault {
-                Fault::LowHalves => *entry >> 32 << 32 | cost & u64::from(u32::MAX),
-                _ => *cost,
-            };
-        }
-    }
-}
-
 /// What is there, or the same refusal.
 fn same<T>(result: &Result<T, Refusal>) -> Result<&T, Refusal> {
     result.as_ref().map_err(|refusal| *refusal)
-}
-
-/// The class costs of a costs text, or the house's where none is handed in; refusal 7.
-fn class_costs(text: Option<&[u8]>, fault: Fault) -> Result<ClassCosts, Refusal> {
-    match text {
-        None => Ok(HOUSE_COSTS),
-        Some([]) if fault == Fault::EmptyCosts => Ok(HOUSE_COSTS),
-        Some(text) => {
-            let costs = read_costs(text)?;
-            match costs.iter().position(|cost| *cost > 3600) {
-                Some(class) if fault == Fault::OldCosts => Err(Refusal { number: 7, place: class + 2 }),
-                _ => Ok(costs),
-            }
-        }
-    }
 }
 
 /// Refusal 6.
