@@ -1,11 +1,12 @@
-//! The six operations as they should answer, with what list and table should hold afterwards.
+//! The seven operations as they should answer, with what list, table and output should hold afterwards.
 
 use super::fault::Fault;
 use super::job::{Job, Refusal};
-use super::known::{class_costs, Built, Known};
+use super::known::{class_costs, same, Built, Known};
 use super::reader::read_job;
 use super::verdict::Verdict;
 use crate::answer::*;
+use crate::lent::Lengths;
 
 impl From<Refusal> for Answer {
     fn from(refusal: Refusal) -> Answer {
@@ -40,9 +41,11 @@ impl Expected {
         Expected { job, built, known, fault }
     }
 
-    /// The lengths that list and table need, where the job compiles.
-    pub fn lengths(&self) -> Option<(usize, usize)> {
-        self.built.as_ref().ok().map(|built| (built.list.len(), built.cells))
+    /// The lengths that list, table and output need, where the job compiles; an output is needed for a plan alone.
+    pub fn lengths(&self) -> Option<Lengths> {
+        let built = self.built.as_ref().ok()?;
+        let out = self.known.as_ref().map_or(0, |known| known.sheet.len());
+        Some(Lengths { list: built.list.len(), table: built.cells, out })
     }
 
     /// Reads the job text: facts, formulas, moves, effects, program rows.
@@ -75,6 +78,11 @@ impl Expected {
     /// Judges the list of moves.
     pub fn judge(&self, list: &mut [u16], table: &mut [u64]) -> Answer {
         finish(self.judged(list, table))
+    }
+
+    /// Lays out the list of moves.
+    pub fn sheet(&self, list: &mut [u16], out: &mut [u8]) -> Answer {
+        finish(self.laid(list, out))
     }
 
     fn compiled(&self, list: &mut [u16]) -> Result<[u64; 5], Refusal> {
@@ -126,6 +134,20 @@ impl Expected {
         Ok([positions, steps, number, value, least])
     }
 
+    /// The check's refusals and verdict; a sheet that finds no room leaves the list as it was.
+    fn laid(&self, list: &mut [u16], out: &mut [u8]) -> Result<[u64; 5], Refusal> {
+        let mut filled = list.to_vec();
+        let said = self.checked(|known| known.moves, &mut filled)?;
+        if self.fault == Fault::EarlyList {
+            list.copy_from_slice(&filled);
+        }
+        let sheet = &self.known()?.0.sheet;
+        room(out.len(), sheet.len())?;
+        list.copy_from_slice(&filled);
+        out[..sheet.len()].copy_from_slice(sheet);
+        Ok(if said[0] == PLAN { [LAID, sheet.len() as u64, 0, 0, 0] } else { said })
+    }
+
     fn known(&self) -> Result<(&Known, &Built), Refusal> {
         Ok((same(&self.known)?, same(&self.built)?))
     }
@@ -137,11 +159,6 @@ impl Expected {
         room(list, built.list.len())?;
         room(table, built.cells)
     }
-}
-
-/// What is there, or the same refusal.
-fn same<T>(result: &Result<T, Refusal>) -> Result<&T, Refusal> {
-    result.as_ref().map_err(|refusal| *refusal)
 }
 
 /// Refusal 6.

@@ -8,6 +8,7 @@ use super::fault::Fault;
 use super::job::{ClassCosts, Job, Refusal, HOUSE_COSTS};
 use super::reader::{read_costs, read_plan};
 use super::runs::Runs;
+use super::sheet::sheet;
 use super::steps::Steps;
 use super::verdict::Verdict;
 
@@ -18,12 +19,14 @@ pub struct Built {
     pub cells: usize,
 }
 
-/// All that is known of a job that compiles with its class costs, and the verdicts of the two plan texts.
+/// All that is known of a job that compiles with its class costs, and the verdicts of the two plan texts; the sheet of
+/// the moves, which is empty where they are no plan.
 pub struct Known {
     pub table: Vec<u64>,
     pub least: Option<u64>,
     pub moves: Result<Verdict, Refusal>,
     pub steps: Result<Verdict, Refusal>,
+    pub sheet: Vec<u8>,
 }
 
 impl Built {
@@ -47,10 +50,15 @@ impl Known {
         let compiled = &built.compiled;
         let domain = Domain::new(job, costs, fault);
         let mut runs = Runs::new(&domain, fault);
-        let moves = read_plan(texts.moves, b'm', job.moves.len()).map(|moves| runs.verdict(&moves));
+        let list = read_plan(texts.moves, b'm', job.moves.len());
+        let moves = same(&list).map(|list| runs.verdict(list));
+        let sheet = match (&list, moves) {
+            (Ok(list), Ok(Verdict::Plan(_))) => sheet(&domain, list, fault),
+            _ => Vec::new(),
+        };
         let path = Steps::new(&domain, compiled);
         let steps = read_plan(texts.steps, b't', compiled.steps.len()).map(|steps| path.verdict(&steps, fault));
-        Known { table: cost_table(&path, fault), least: runs.least(), moves, steps }
+        Known { table: cost_table(&path, fault), least: runs.least(), moves, steps, sheet }
     }
 
     pub fn fill_table(&self, table: &mut [u64], fault: Fault) {
@@ -61,6 +69,11 @@ impl Known {
             };
         }
     }
+}
+
+/// What is there, or the same refusal.
+pub fn same<T>(result: &Result<T, Refusal>) -> Result<&T, Refusal> {
+    result.as_ref().map_err(|refusal| *refusal)
 }
 
 /// The class costs of a costs text, or the house's where none is handed in; refusal 7.
