@@ -1,6 +1,6 @@
 //! What a function of the header gives back.
 
-/// The numbers of verdicts and of least costs, as in the header.
+/// The numbers of verdicts, of least costs and of a sheet, as in the header.
 pub const PLAN: u64 = 0;
 pub const BLOCKED: u64 = 1;
 pub const UNFINISHED: u64 = 2;
@@ -9,6 +9,7 @@ pub const LEAST: u64 = 4;
 pub const DEARER: u64 = 5;
 pub const COSTS: u64 = 6;
 pub const NONE: u64 = 7;
+pub const LAID: u64 = 8;
 
 /// 0 or the refusal's number, and five numbers.
 #[derive(Clone, Copy, Debug, PartialEq, Eq)]

@@ -69,6 +69,20 @@ extern "C" {
         table_length: usize,
         answer: *mut u64,
     ) -> u32;
+    fn jesmovit_sheet(
+        job: *const u8,
+        job_length: usize,
+        plan: *const u8,
+        plan_length: usize,
+        costs: *const u8,
+        costs_length: usize,
+        given: u32,
+        list: *mut u16,
+        list_length: usize,
+        out: *mut u8,
+        out_length: usize,
+        answer: *mut u64,
+    ) -> u32;
 }
 
 /// What the answer's numbers are before a call, so that one left unwritten is seen.
@@ -157,6 +171,25 @@ pub fn judge(job: &[u8], plan: &[u8], given: Given, list: &mut [u16], table: &mu
             list.len(),
             table.as_mut_ptr(),
             table.len(),
+            answer,
+        )
+    })
+}
+
+pub fn sheet(job: &[u8], plan: &[u8], given: Given, list: &mut [u16], out: &mut [u8]) -> Answer {
+    answered(|answer| unsafe {
+        jesmovit_sheet(
+            job.as_ptr(),
+            job.len(),
+            plan.as_ptr(),
+            plan.len(),
+            given.costs.as_ptr(),
+            given.costs.len(),
+            given.bits,
+            list.as_mut_ptr(),
+            list.len(),
+            out.as_mut_ptr(),
+            out.len(),
             answer,
         )
     })

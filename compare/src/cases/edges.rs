@@ -1,17 +1,22 @@
 //! Which limits of documents 01 and 02 a case meets, or passes by one; which costs texts it has, and which bad texts
-//! beside each other.
+//! beside each other; how its moves fill the pages of a sheet.
 
 use super::costs::GREATEST_COSTS;
 use super::Case;
 use crate::second::compiler::{program_size, Size, MOST_POSITIONS, MOST_STEPS};
+use crate::second::domain::Domain;
+use crate::second::fault::Fault;
 use crate::second::job::*;
 use crate::second::reader::{read_costs, read_job, read_plan};
+use crate::second::runs::Runs;
+use crate::second::sheet::PAGE_LINES;
+use crate::second::verdict::Verdict;
 
 /// A limit, and whether a case meets it.
 type Edge = (&'static str, fn(&Look) -> bool);
 
 /// The limits, in the order in which they are printed.
-pub const EDGES: [Edge; 47] = [
+pub const EDGES: [Edge; 52] = [
     ("0 facts", |look| look.job(|job| job.facts == 0)),
     ("12 facts", |look| look.job(|job| job.facts == MOST_FACTS)),
     ("13 facts", |look| look.refused_line == Some(b"facts=13")),
@@ -64,6 +69,11 @@ pub const EDGES: [Edge; 47] = [
     ("too large and bad costs", |look| look.size(|size, _| !size.fits()) && look.costs_are_bad()),
     ("bad costs and moves", |look| look.costs_are_bad() && matches!(look.moves(), Some(Err(_)))),
     ("bad costs and steps", |look| look.costs_are_bad() && matches!(look.steps(), Some(Err(_)))),
+    ("sheet of no page", |look| look.laid(|moves| moves == 0)),
+    ("sheet of several pages", |look| look.laid(|moves| moves > PAGE_LINES)),
+    ("last page full", |look| look.laid(|moves| moves > 0 && moves % PAGE_LINES == 0)),
+    ("last page of one move", |look| look.laid(|moves| moves > PAGE_LINES && moves % PAGE_LINES == 1)),
+    ("sheet of 4000 moves", |look| look.laid(|moves| moves == usize::from(MOST_ENTRIES))),
 ];
 
 /// A plan text as it is read.
@@ -105,6 +115,13 @@ fn line_of(text: &[u8], place: usize) -> Option<&[u8]> {
 /// Whether a plan that is read has as many entries as are allowed.
 fn is_longest(plan: Option<Plan>) -> bool {
     matches!(plan, Some(Ok(entries)) if entries.len() == usize::from(MOST_ENTRIES))
+}
+
+/// Whether a list of moves is a plan; costs don't matter.
+fn is_plan(job: &Job, moves: &[u16]) -> bool {
+    let domain = Domain::new(job, HOUSE_COSTS, Fault::None);
+    let verdict = Runs::new(&domain, Fault::None).verdict(moves);
+    matches!(verdict, Verdict::Plan(_))
 }
 
 /// Whether a line is of the form of a cost.
@@ -151,6 +168,14 @@ impl Look<'_> {
     /// The text of steps as it is read, where the job compiles.
     fn steps(&self) -> Option<Plan> {
         self.plan(&self.case.steps, b't', |own| own.size.steps as usize)
+    }
+
+    /// Whether the moves get a sheet, where there is room for it, and something holds of how many they are.
+    fn laid(&self, holds: impl Fn(usize) -> bool) -> bool {
+        let Some(Ok(moves)) = self.moves() else {
+            return false;
+        };
+        holds(moves.len()) && !self.costs_are_bad() && self.job(|job| is_plan(job, &moves))
     }
 
     fn plan(&self, text: &[u8], key: u8, bound: impl Fn(&Measured) -> usize) -> Option<Plan> {

@@ -10,6 +10,7 @@ use crate::second::fault::Fault;
 use crate::second::job::{Job, HOUSE_COSTS, MOST_ENTRIES};
 use crate::second::residual::{Residual, NIL};
 use crate::second::runs::Runs;
+use crate::second::sheet::PAGE_LINES;
 use crate::second::steps::Steps;
 
 /// A goal for a job, and the entries of a list of moves and of a list of steps.
@@ -75,6 +76,7 @@ enum PlanStyle {
     Random,
     Empty,
     AtLimit,
+    AtPage,
 }
 
 /// A random plan whose entries are below a bound.
@@ -85,14 +87,15 @@ fn random_plan<P: Copy + Eq + Hash>(
     bound: usize,
 ) -> Vec<u16> {
     let style = random.weighted(&[
-        (450, PlanStyle::Complete),
+        (420, PlanStyle::Complete),
         (100, PlanStyle::Missed),
         (100, PlanStyle::Cut),
         (90, PlanStyle::Continued),
         (90, PlanStyle::Changed),
         (125, PlanStyle::Random),
         (40, PlanStyle::Empty),
-        (5, PlanStyle::AtLimit),
+        (10, PlanStyle::AtLimit),
+        (25, PlanStyle::AtPage),
     ]);
     let wander = random.ranged(&[(300, (0, 2)), (500, (3, 12)), (188, (12, 60)), (10, (60, 600)), (2, (600, 4000))]);
     match style {
@@ -100,7 +103,10 @@ fn random_plan<P: Copy + Eq + Hash>(
         PlanStyle::Missed => graph.walk(random, |state| !is_goal(state), wander),
         PlanStyle::Random => random_list(random, wander, bound),
         PlanStyle::Empty => Vec::new(),
-        PlanStyle::AtLimit => at_limit(random, graph, is_goal, bound),
+        PlanStyle::AtLimit | PlanStyle::AtPage => {
+            let count = limit(random, style) - 1 + random.pick(&[0, 1, 1, 2]);
+            of_length(random, graph, is_goal, count, bound)
+        }
         PlanStyle::Cut | PlanStyle::Continued | PlanStyle::Changed => {
             let plan = graph.walk(random, |_| true, wander);
             altered(random, plan, bound, style)
@@ -122,16 +128,23 @@ fn altered(random: &mut Random, mut plan: Vec<u16>, bound: usize, style: PlanSty
     plan
 }
 
-/// A plan of as many entries as are allowed, or about as many.
-fn at_limit<P: Copy + Eq + Hash>(
+/// As many entries as are allowed, or as some pages of a sheet have.
+fn limit(random: &mut Random, style: PlanStyle) -> usize {
+    match style {
+        PlanStyle::AtPage => PAGE_LINES * random.between(1, 3),
+        _ => MOST_ENTRIES.into(),
+    }
+}
+
+/// A plan of so many entries.
+fn of_length<P: Copy + Eq + Hash>(
     random: &mut Random,
     graph: &Graph<P>,
     is_goal: &impl Fn(u16) -> bool,
+    count: usize,
     bound: usize,
 ) -> Vec<u16> {
-    let most = usize::from(MOST_ENTRIES);
-    let count = random.pick(&[most - 1, most, most, most + 1]);
-    let mut plan = if random.chance(700) { graph.walk(random, is_goal, count) } else { Vec::new() };
+    let mut plan = if random.chance(700) { graph.walk_of(random, is_goal, count) } else { Vec::new() };
     plan.truncate(count);
     let missing = count - plan.len();
     plan.extend(random_list(random, missing, bound));

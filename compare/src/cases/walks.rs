@@ -61,6 +61,20 @@ impl<P: Copy + Eq + Hash> Graph<P> {
         entries
     }
 
+    /// The entries of a walk that tries a few times for just so many.
+    pub fn walk_of(&self, random: &mut Random, wanted: impl Fn(u16) -> bool, count: usize) -> Vec<u16> {
+        let mut walk = Vec::new();
+        let mut wander = count;
+        for _ in 0..4 {
+            walk = self.walk(random, &wanted, wander);
+            if walk.len() == count {
+                break;
+            }
+            wander = (wander + count).saturating_sub(walk.len());
+        }
+        walk
+    }
+
     /// The next link of a walk; none at its end.
     fn way(&self, random: &mut Random, node: usize, far: &[usize], wander: bool) -> Option<Link> {
         let lost = far[node] == usize::MAX;

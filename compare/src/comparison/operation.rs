@@ -1,7 +1,8 @@
-//! The six operations, asked of the library and of the second implementation.
+//! The seven operations, asked of the library and of the second implementation.
 
 use crate::answer::Answer;
 use crate::cases::Case;
+use crate::lent::Lent;
 use crate::library;
 use crate::second::expected::Expected;
 
@@ -13,11 +14,12 @@ pub enum Operation {
     CheckSteps,
     LeastCost,
     Judge,
+    Sheet,
 }
 
 use Operation::*;
 
-pub const OPERATIONS: [Operation; 6] = [ReadJob, Compile, CheckMoves, CheckSteps, LeastCost, Judge];
+pub const OPERATIONS: [Operation; 7] = [ReadJob, Compile, CheckMoves, CheckSteps, LeastCost, Judge, Sheet];
 
 impl Operation {
     pub fn name(self) -> &'static str {
@@ -28,6 +30,7 @@ impl Operation {
             CheckSteps => "check_steps",
             LeastCost => "least_cost",
             Judge => "judge",
+            Sheet => "sheet",
         }
     }
 
@@ -39,6 +42,10 @@ impl Operation {
         matches!(self, LeastCost | Judge)
     }
 
+    pub fn takes_out(self) -> bool {
+        self == Sheet
+    }
+
     pub fn takes_costs(self) -> bool {
         !matches!(self, ReadJob | Compile)
     }
@@ -46,14 +53,14 @@ impl Operation {
     /// The plan text that the operation takes.
     pub fn plan(self, case: &Case) -> Option<&[u8]> {
         match self {
-            CheckMoves | Judge => Some(&case.moves),
+            CheckMoves | Judge | Sheet => Some(&case.moves),
             CheckSteps => Some(&case.steps),
             ReadJob | Compile | LeastCost => None,
         }
     }
 
     /// What the library answers.
-    pub fn ask_library(self, case: &Case, list: &mut [u16], table: &mut [u64]) -> Answer {
+    pub fn ask_library(self, case: &Case, Lent { list, table, out }: Lent) -> Answer {
         match self {
             ReadJob => library::read_job(&case.job),
             Compile => library::compile(&case.job, list),
@@ -61,11 +68,12 @@ impl Operation {
             CheckSteps => library::check_steps(&case.job, &case.steps, case.given(), list),
             LeastCost => library::least_cost(&case.job, case.given(), list, table),
             Judge => library::judge(&case.job, &case.moves, case.given(), list, table),
+            Sheet => library::sheet(&case.job, &case.moves, case.given(), list, out),
         }
     }
 
     /// What the second implementation answers.
-    pub fn ask_second(self, expected: &Expected, list: &mut [u16], table: &mut [u64]) -> Answer {
+    pub fn ask_second(self, expected: &Expected, Lent { list, table, out }: Lent) -> Answer {
         match self {
             ReadJob => expected.read_job(),
             Compile => expected.compile(list),
@@ -73,6 +81,7 @@ impl Operation {
             CheckSteps => expected.check_steps(list),
             LeastCost => expected.least_cost(list, table),
             Judge => expected.judge(list, table),
+            Sheet => expected.sheet(list, out),
         }
     }
 }

@@ -1,28 +1,34 @@
 //! Mismatches and texts, as they are printed.
 
+use std::fmt::Display;
+
 use super::calls::Mismatch;
 use crate::cases::Case;
+use crate::lent::Lengths;
 
 /// A mismatch as a text.
 pub fn mismatch_text(mismatch: &Mismatch, case: &Case, seed: u64, number: u64) -> String {
+    let Lengths { list, table, out } = mismatch.lengths;
     let mut lines = vec![
         format!("mismatch: {}, seed {seed}, case {number}", mismatch.operation.name()),
-        format!("lengths: list {}, table {}", mismatch.lengths.list, mismatch.lengths.table),
+        format!("lengths: list {list}, table {table}, output {out}"),
         format!("library: {:?}", mismatch.library),
         format!("second:  {:?}", mismatch.second),
     ];
-    if let Some((index, library, second)) = mismatch.list {
-        lines.push(format!("list at {index}: library {library}, second {second}"));
-    }
-    if let Some((index, library, second)) = mismatch.table {
-        lines.push(format!("table at {index}: library {library}, second {second}"));
-    }
+    lines.extend(difference_line("list", mismatch.list));
+    lines.extend(difference_line("table", mismatch.table));
+    lines.extend(difference_line("output", mismatch.out));
     lines.push(text_lines("job text", &case.job));
     lines.extend(mismatch.operation.plan(case).map(|plan| text_lines("plan text", plan)));
     if mismatch.operation.takes_costs() {
         lines.push(costs_lines(case));
     }
     lines.join("\n")
+}
+
+/// Where the two sides leave something else, and what.
+fn difference_line<T: Display>(name: &str, difference: Option<(usize, T, T)>) -> Option<String> {
+    difference.map(|(index, library, second)| format!("{name} at {index}: library {library}, second {second}"))
 }
 
 /// The bits of a case and the bytes of its costs text.

@@ -6,9 +6,10 @@ use super::operation::{Operation, OPERATIONS};
 use crate::answer::Answer;
 use crate::cases::edges::EDGES;
 
-/// What is counted apart: refusals by number, otherwise what is said.
+/// What is counted apart: refusals by number, but those by 6 by what is too short; otherwise what is said.
 const REFUSALS: [&str; 7] = ["refused 1", "refused 2", "refused 3", "refused 4", "refused 5", "refused 6", "refused 7"];
-const SAYINGS: [&str; 8] = ["plan", "blocked", "unfinished", "missed", "least", "dearer", "costs", "none"];
+const SHORT: [&str; 3] = ["list too short", "table too short", "output too short"];
+const SAYINGS: [&str; 9] = ["plan", "blocked", "unfinished", "missed", "least", "dearer", "costs", "none", "laid"];
 const DEAR: &str = "costs >2^32";
 const DONE: &str = "done";
 
@@ -24,8 +25,10 @@ impl Default for Tally {
 }
 
 impl Tally {
-    pub fn count(&mut self, operation: Operation, answer: Answer) {
-        *self.counts.entry((operation, outcome(operation, answer))).or_default() += 1;
+    /// Counts an answer to a call whose list was long enough, or wasn't.
+    pub fn count(&mut self, operation: Operation, answer: Answer, list_fits: bool) {
+        let outcome = if answer.number == 6 { short(operation, list_fits) } else { outcome(operation, answer) };
+        *self.counts.entry((operation, outcome)).or_default() += 1;
     }
 
     /// Counts the limits that a case meets.
@@ -45,7 +48,7 @@ impl Tally {
         let mut lines: Vec<String> = self.edges().map(|(name, count)| format!("{name:<24} {count:>9}")).collect();
         for operation in OPERATIONS {
             for outcome in outcomes(operation) {
-                lines.push(format!("{:<12} {outcome:<11} {:>9}", operation.name(), self.of(operation, outcome)));
+                lines.push(format!("{:<12} {outcome:<16} {:>9}", operation.name(), self.of(operation, outcome)));
             }
         }
         lines
@@ -83,6 +86,16 @@ fn outcome(operation: Operation, answer: Answer) -> &'static str {
     refusal(answer).unwrap_or_else(|| SAYINGS[said as usize])
 }
 
+/// What is too short in a call that is refused by 6.
+fn short(operation: Operation, list_fits: bool) -> &'static str {
+    let [list, table, out] = SHORT;
+    match (list_fits, operation.takes_table()) {
+        (false, _) => list,
+        (true, true) => table,
+        (true, false) => out,
+    }
+}
+
 fn refusal(answer: Answer) -> Option<&'static str> {
     let index = answer.number.checked_sub(1)?;
     Some(REFUSALS[index as usize])
@@ -90,15 +103,19 @@ fn refusal(answer: Answer) -> Option<&'static str> {
 
 /// All that an operation can answer.
 fn outcomes(operation: Operation) -> Vec<&'static str> {
-    let [one, two, three, four, five, six, seven] = REFUSALS;
-    let [plan, blocked, unfinished, missed, least, dearer, costs, none] = SAYINGS;
+    let [one, two, three, four, five, _, seven] = REFUSALS;
+    let [list, table, out] = SHORT;
+    let [plan, blocked, unfinished, missed, least, dearer, costs, none, laid] = SAYINGS;
     match operation {
         Operation::ReadJob => vec![DONE, one, two, three],
-        Operation::Compile => vec![DONE, one, two, three, four, six],
+        Operation::Compile => vec![DONE, one, two, three, four, list],
         Operation::CheckMoves | Operation::CheckSteps => {
-            vec![plan, blocked, unfinished, missed, one, two, three, four, seven, five, six]
+            vec![plan, blocked, unfinished, missed, one, two, three, four, seven, five, list]
         }
-        Operation::LeastCost => vec![costs, DEAR, none, one, two, three, four, seven, six],
-        Operation::Judge => vec![least, dearer, blocked, unfinished, missed, one, two, three, four, seven, five, six],
+        Operation::LeastCost => vec![costs, DEAR, none, one, two, three, four, seven, list, table],
+        Operation::Judge => {
+            vec![least, dearer, blocked, unfinished, missed, one, two, three, four, seven, five, list, table]
+        }
+        Operation::Sheet => vec![laid, blocked, unfinished, missed, one, two, three, four, seven, five, list, out],
     }
 }

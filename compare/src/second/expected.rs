@@ -1,15 +1,12 @@
-//! The six operations as they should answer, with what list and table should hold afterwards.
+//! The seven operations as they should answer, with what list, table and output should hold afterwards.
 
-use super::compiler::{compile_with, Compiled};
-use super::costs::cost_table;
-use super::domain::{state_count, Domain};
 use super::fault::Fault;
-use super::job::{ClassCosts, Job, Refusal, HOUSE_COSTS};
-use super::reader::{read_costs, read_job, read_plan};
-use super::runs::Runs;
-use super::steps::Steps;
+use super::job::{Job, Refusal};
+use super::known::{class_costs, same, Built, Known};
+use super::reader::read_job;
 use super::verdict::Verdict;
 use crate::answer::*;
+use crate::lent::Lengths;
 
 impl From<Refusal> for Answer {
     fn from(refusal: Refusal) -> Answer {
@@ -34,21 +31,6 @@ pub struct Expected {
     fault: Fault,
 }
 
-/// A job that compiles: the list of its steps, and how many numbers its cost table has.
-struct Built {
-    compiled: Compiled,
-    list: Vec<u16>,
-    cells: usize,
-}
-
-/// All that is known of a job that compiles with its class costs, and the verdicts of the two plan texts.
-struct Known {
-    table: Vec<u64>,
-    least: Option<u64>,
-    moves: Result<Verdict, Refusal>,
-    steps: Result<Verdict, Refusal>,
-}
-
 impl Expected {
     pub fn of(texts: &Texts, fault: Fault) -> Expected {
         let job = read_job(texts.job);
@@ -59,9 +41,11 @@ impl Expected {
         Expected { job, built, known, fault }
     }
 
-    /// The lengths that list and table need, where the job compiles.
-    pub fn lengths(&self) -> Option<(usize, usize)> {
-        self.built.as_ref().ok().map(|built| (built.list.len(), built.cells))
+    /// The lengths that list, table and output need, where the job compiles; an output is needed for a plan alone.
+    pub fn lengths(&self) -> Option<Lengths> {
+        let built = self.built.as_ref().ok()?;
+        let out = self.known.as_ref().map_or(0, |known| known.sheet.len());
+        Some(Lengths { list: built.list.len(), table: built.cells, out })
     }
 
     /// Reads the job text: facts, formulas, moves, effects, program rows.
@@ -94,6 +78,11 @@ impl Expected {
     /// Judges the list of moves.
     pub fn judge(&self, list: &mut [u16], table: &mut [u64]) -> Answer {
         finish(self.judged(list, table))
+    }
+
+    /// Lays out the list of moves.
+    pub fn sheet(&self, list: &mut [u16], out: &mut [u8]) -> Answer {
+        finish(self.laid(list, out))
     }
 
     fn compiled(&self, list: &mut [u16]) -> Result<[u64; 5], Refusal> {
@@ -145,6 +134,20 @@ impl Expected {
         Ok([positions, steps, number, value, least])
     }
 
+    /// The check's refusals and verdict; a sheet that finds no room leaves the list as it was.
+    fn laid(&self, list: &mut [u16], out: &mut [u8]) -> Result<[u64; 5], Refusal> {
+        let mut filled = list.to_vec();
+        let said = self.checked(|known| known.moves, &mut filled)?;
+        if self.fault == Fault::EarlyList {
+            list.copy_from_slice(&filled);
+        }
+        let sheet = &self.known()?.0.sheet;
+        room(out.len(), sheet.len())?;
+        list.copy_from_slice(&filled);
+        out[..sheet.len()].copy_from_slice(sheet);
+        Ok(if said[0] == PLAN { [LAID, sheet.len() as u64, 0, 0, 0] } else { said })
+    }
+
     fn known(&self) -> Result<(&Known, &Built), Refusal> {
         Ok((same(&self.known)?, same(&self.built)?))
     }
@@ -155,63 +158,6 @@ impl Expected {
         }
         room(list, built.list.len())?;
         room(table, built.cells)
-    }
-}
-
-impl Built {
-    fn of(job: &Job, fault: Fault) -> Result<Built, Refusal> {
-        let compiled = compile_with(job, fault)?;
-        Ok(Built { list: compiled.steps.concat(), cells: state_count(job) * compiled.positions, compiled })
-    }
-
-    /// Positions and steps.
-    fn sizes(&self) -> [u64; 2] {
-        [self.compiled.positions, self.compiled.steps.len()].map(|number| number as u64)
-    }
-
-    fn fill_list(&self, list: &mut [u16]) {
-        list[..self.list.len()].copy_from_slice(&self.list);
-    }
-}
-
-impl Known {
-    fn of(job: &Job, built: &Built, costs: ClassCosts, texts: &Texts, fault: Fault) -> Known {
-        let compiled = &built.compiled;
-        let domain = Domain::new(job, costs, fault);
-        let mut runs = Runs::new(&domain, fault);
-        let moves = read_plan(texts.moves, b'm', job.moves.len()).map(|moves| runs.verdict(&moves));
-        let path = Steps::new(&domain, compiled);
-        let steps = read_plan(texts.steps, b't', compiled.steps.len()).map(|steps| path.verdict(&steps, fault));
-        Known { table: cost_table(&path, fault), least: runs.least(), moves, steps }
-    }
-
-    fn fill_table(&self, table: &mut [u64], fault: Fault) {
-        for (entry, cost) in table.iter_mut().zip(&self.table) {
-            *entry = match fault {
-                Fault::LowHalves => *entry >> 32 << 32 | cost & u64::from(u32::MAX),
-                _ => *cost,
-            };
-        }
-    }
-}
-
-/// What is there, or the same refusal.
-fn same<T>(result: &Result<T, Refusal>) -> Result<&T, Refusal> {
-    result.as_ref().map_err(|refusal| *refusal)
-}
-
-/// The class costs of a costs text, or the house's where none is handed in; refusal 7.
-fn class_costs(text: Option<&[u8]>, fault: Fault) -> Result<ClassCosts, Refusal> {
-    match text {
-        None => Ok(HOUSE_COSTS),
-        Some([]) if fault == Fault::EmptyCosts => Ok(HOUSE_COSTS),
-        Some(text) => {
-            let costs = read_costs(text)?;
-            match costs.iter().position(|cost| *cost > 3600) {
-                Some(class) if fault == Fault::OldCosts => Err(Refusal { number: 7, place: class + 2 }),
-                _ => Ok(costs),
-            }
-        }
     }
 }
 

@@ -32,10 +32,16 @@ pub enum Fault {
     LowHalves,
     /// Sums in the cost table are cut to 32 bits.
     LowSums,
+    /// The last page of a sheet ends behind the last move.
+    OpenPage,
+    /// A row of a sheet has the total of the rows before it.
+    LateTotals,
+    /// The list is filled before an output that is too short is refused.
+    EarlyList,
 }
 
 /// The faults by their names on the command line.
-pub const FAULTS: [(&str, Fault); 14] = [
+pub const FAULTS: [(&str, Fault); 17] = [
     ("star", Fault::Star),
     ("effects", Fault::Effects),
     ("clear-last", Fault::ClearLast),
@@ -50,6 +56,9 @@ pub const FAULTS: [(&str, Fault); 14] = [
     ("old-unreached", Fault::OldUnreached),
     ("low-halves", Fault::LowHalves),
     ("low-sums", Fault::LowSums),
+    ("open-page", Fault::OpenPage),
+    ("late-totals", Fault::LateTotals),
+    ("early-list", Fault::EarlyList),
 ];
 
 impl Fault {

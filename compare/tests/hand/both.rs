@@ -5,28 +5,46 @@ use std::fmt::Debug;
 use jesmovit_compare::answer::Answer;
 use jesmovit_compare::cases::Case;
 use jesmovit_compare::comparison::operation::{Operation, OPERATIONS};
+use jesmovit_compare::lent::{Held, Lengths, Lent};
 use jesmovit_compare::library::COSTS_GIVEN;
 use jesmovit_compare::second::expected::Expected;
 use jesmovit_compare::second::fault::Fault;
 
-/// What every number of a list, and of a table, is before a call: a seven in each byte.
-const SEVENS: (u16, u64) = (0x0707, 0x0707_0707_0707_0707);
+/// What every number of a list, of a table, and of an output is before a call: a seven in each byte.
+const SEVENS: (u16, u64, u8) = (0x0707, 0x0707_0707_0707_0707, 7);
 
-/// How many numbers stand behind a list or table that is handed in.
+/// How many numbers stand behind a list, table or output that is handed in.
 const GUARDS: usize = 3;
 
-/// What a call answered, and what list and table hold afterwards, with the numbers behind them.
+/// Lengths of list, table and output, too short for the sample, just enough, and longer.
+#[rustfmt::skip]
+const LENGTHS: [(usize, usize, usize); 7] = [
+    (0, 0, 0), (7, 11, 1859), (7, 12, 1860), (8, 11, 1859), (8, 12, 1860), (9, 13, 1861), (4096, 6144, 124_620),
+];
+
+/// What a call answered, and what list, table and output hold afterwards, with the numbers behind them.
 pub struct Asked {
     pub answer: Answer,
-    list: Vec<u16>,
-    table: Vec<u64>,
+    held: Held,
 }
 
 impl Asked {
-    /// Demands that list and table start with these numbers and hold sevens behind them.
+    /// Demands that list and table start with these numbers and hold sevens behind them, and the output nothing else.
     pub fn holds(&self, list: &[u16], table: &[u64]) {
-        same("list", &self.list, &resized(list, self.list.len(), SEVENS.0));
-        same("table", &self.table, &resized(table, self.table.len(), SEVENS.1));
+        self.holds_all(list, table, b"");
+    }
+
+    /// A line of the output by its number from 1, where each has so many bytes.
+    pub fn line(&self, number: usize, bytes: usize) -> String {
+        String::from_utf8_lossy(&self.held.out[(number - 1) * bytes..number * bytes]).into_owned()
+    }
+
+    /// Demands that list, table and output start so, and hold sevens behind.
+    pub fn holds_all(&self, list: &[u16], table: &[u64], out: &[u8]) {
+        let Held { list: own_list, table: own_table, out: own_out } = &self.held;
+        same("list", own_list, &resized(list, own_list.len(), SEVENS.0));
+        same("table", own_table, &resized(table, own_table.len(), SEVENS.1));
+        same("output", own_out, &resized(out, own_out.len(), SEVENS.2));
     }
 }
 
@@ -66,33 +84,45 @@ pub fn ask(operation: Operation, job: &[u8], plan: &[u8], list: usize, table: us
     ask_with(operation, Handed { job, plan, costs: None }, list, table)
 }
 
-/// Asks both with a list and a table of these lengths.
+/// Asks both with a list and a table of these lengths, and no room for a sheet.
 pub fn ask_with(operation: Operation, handed: Handed, list: usize, table: usize) -> Asked {
+    ask_for(operation, handed, Lengths { list, table, out: 0 })
+}
+
+/// Asks both with a list, a table and an output of these lengths.
+pub fn ask_for(operation: Operation, handed: Handed, lengths: Lengths) -> Asked {
     let case = handed.case();
     let expected = Expected::of(&case.texts(), Fault::None);
-    let asked = |call: &dyn Fn(&mut [u16], &mut [u64]) -> Answer| {
-        let mut lists = resized(&[], list + GUARDS, SEVENS.0);
-        let mut tables = resized(&[], table + GUARDS, SEVENS.1);
-        let answer = call(&mut lists[..list], &mut tables[..table]);
-        Asked { answer, list: lists, table: tables }
+    let asked = |call: &dyn Fn(Lent) -> Answer| {
+        let mut held = sevens(lengths);
+        let answer = call(held.lend(lengths));
+        Asked { answer, held }
     };
-    let library = asked(&|list, table| operation.ask_library(&case, list, table));
-    let second = asked(&|list, table| operation.ask_second(&expected, list, table));
-    assert_eq!(library.answer, second.answer, "{operation:?}, lists of {list}, tables of {table}");
-    same("list", &library.list, &second.list);
-    same("table", &library.table, &second.table);
+    let library = asked(&|lent| operation.ask_library(&case, lent));
+    let second = asked(&|lent| operation.ask_second(&expected, lent));
+    assert_eq!(library.answer, second.answer, "{operation:?}, {lengths:?}");
+    library.holds_all(&second.held.list, &second.held.table, &second.held.out);
     library
 }
 
-/// Demands a refusal that leaves list and table as they were, whatever their lengths.
+/// Sevens in parts of these lengths, and behind them.
+fn sevens(Lengths { list, table, out }: Lengths) -> Held {
+    Held {
+        list: vec![SEVENS.0; list + GUARDS],
+        table: vec![SEVENS.1; table + GUARDS],
+        out: vec![SEVENS.2; out + GUARDS],
+    }
+}
+
+/// Demands a refusal that leaves list, table and output as they were, whatever their lengths.
 pub fn refused(operation: Operation, job: &[u8], plan: &[u8], number: u32, place: u64) {
     refused_with(operation, Handed { job, plan, costs: None }, number, place);
 }
 
 /// The same with a costs text.
 pub fn refused_with(operation: Operation, handed: Handed, number: u32, place: u64) {
-    for (list, table) in [(0, 0), (7, 11), (7, 12), (8, 11), (8, 12), (9, 13), (4096, 6144)] {
-        let asked = ask_with(operation, handed, list, table);
+    for (list, table, out) in LENGTHS {
+        let asked = ask_for(operation, handed, Lengths { list, table, out });
         assert_eq!(asked.answer, Answer::refused(number, place), "{operation:?}");
         asked.holds(&[], &[]);
     }

@@ -11,11 +11,12 @@ use crate::sample::{sample, sample_text, sample_with, star_of_or, X};
 use crate::worked::Worked;
 
 /// The operations that take costs, each with a plan text that the sample takes.
-const TAKERS: [(Operation, &[u8]); 4] = [
+const TAKERS: [(Operation, &[u8]); 5] = [
     (CheckMoves, b"plan=2\nm=0\nm=1\n"),
     (CheckSteps, b"plan=2\nt=0\nt=1\n"),
     (LeastCost, b""),
     (Judge, b"plan=2\nm=0\nm=1\n"),
+    (Sheet, b"plan=2\nm=0\nm=1\n"),
 ];
 
 /// The house's costs with others for some classes.
@@ -24,6 +25,13 @@ pub fn house_with(others: &[(usize, u16)]) -> Vec<u8> {
     for (class, cost) in others {
         costs[*class] = *cost;
     }
+    costs_text(&costs)
+}
+
+/// The text of this cost for all classes but class 0.
+pub fn all_at(cost: u16) -> Vec<u8> {
+    let mut costs = [cost; 16];
+    costs[0] = 0;
     costs_text(&costs)
 }
 
@@ -179,7 +187,7 @@ fn the_order_of_refusals() {
     }
     // With good costs the plan, and then list and table.
     let house = costs_text(&HOUSE_COSTS);
-    for operation in [CheckMoves, CheckSteps, Judge] {
+    for operation in [CheckMoves, CheckSteps, Judge, Sheet] {
         refused_with(operation, Handed { job: sample.as_bytes(), plan: b"", costs: Some(&house) }, 5, 1);
     }
     for (operation, plan) in TAKERS {

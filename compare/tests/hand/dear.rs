@@ -9,7 +9,7 @@ use jesmovit_compare::generator::writer::{costs_text, job_text, plan_text};
 use jesmovit_compare::second::job::{Job, HOUSE_COSTS};
 
 use crate::both::{ask_with, Handed};
-use crate::costs::{bad, house_with, is_least, sample_at};
+use crate::costs::{all_at, bad, house_with, is_least, sample_at};
 use crate::sample::{one_move_of, star_of_or, X};
 use crate::worked::Worked;
 
@@ -19,13 +19,6 @@ fn with_line(class: usize, line: &str) -> Vec<u8> {
     let mut lines: Vec<&str> = text.lines().collect();
     lines[1 + class] = line;
     (lines.join("\n") + "\n").into_bytes()
-}
-
-/// The text of this cost for all classes but class 0.
-fn all_at(cost: u16) -> Vec<u8> {
-    let mut costs = [cost; 16];
-    costs[0] = 0;
-    costs_text(&costs)
 }
 
 #[test]

@@ -40,4 +40,5 @@ fn a_bad_plan_comes_before_every_length() {
     refused(Operation::CheckMoves, sample_text().as_bytes(), b"plan=2\nm=0\nm=2\n", 5, 3);
     refused(Operation::CheckSteps, sample_text().as_bytes(), b"plan=2\nt=0\nt=2\n", 5, 3);
     refused(Operation::Judge, sample_text().as_bytes(), b"plan=2\nm=0\nm=2\n", 5, 3);
+    refused(Operation::Sheet, sample_text().as_bytes(), b"plan=2\nm=0\nm=2\n", 5, 3);
 }

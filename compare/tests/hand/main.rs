@@ -8,5 +8,6 @@ mod lengths;
 mod marked;
 mod refusals;
 mod sample;
+mod sheet;
 mod stack;
 mod worked;

@@ -27,6 +27,7 @@ fn is_plan(job: &Worked, moves: &[u16], cost: u64, least: u64) {
 fn is_no_plan(job: &Worked, moves: &[u16], [number, value]: [u64; 2]) {
     job.checks_moves(moves, [number, value]);
     job.judges(moves, [number, value, 0]);
+    job.lays_nothing(moves, [number, value]);
 }
 
 #[test]

@@ -50,13 +50,13 @@ fn bad_plan(operation: Operation, plan: &str, place: u64) {
 
 #[test]
 fn plans() {
-    for operation in [CheckMoves, Judge] {
+    for operation in [CheckMoves, Judge, Sheet] {
         bad_plan(operation, "plan=1\nt=0\n", 2);
         bad_plan(operation, "plan=1\nm=2\n", 2);
     }
     bad_plan(CheckSteps, "plan=1\nm=0\n", 2);
     bad_plan(CheckSteps, "plan=1\nt=2\n", 2);
-    for operation in [CheckMoves, CheckSteps, Judge] {
+    for operation in [CheckMoves, CheckSteps, Judge, Sheet] {
         bad_plan(operation, "", 1);
         bad_plan(operation, "plan=4001\n", 1);
         bad_plan(operation, "plan=4000\n", 2);

@@ -18,13 +18,14 @@ fn deep() -> String {
 }
 
 fn all_operations(job: &[u8], given: Given) {
-    let (mut list, mut table) = (vec![0; 4096], vec![0; 1024]);
+    let (mut list, mut table, mut out) = (vec![0; 4096], vec![0; 1024], vec![0; 1860]);
     library::read_job(job);
     library::compile(job, &mut list);
     library::check_moves(job, b"plan=1\nm=0\n", given, &mut list);
     library::check_steps(job, b"plan=1\nt=0\n", given, &mut list);
     library::least_cost(job, given, &mut list, &mut table);
     library::judge(job, b"plan=2\nm=0\nm=1\n", given, &mut list, &mut table);
+    library::sheet(job, b"plan=2\nm=0\nm=1\n", given, &mut list, &mut out);
 }
 
 #[test]
