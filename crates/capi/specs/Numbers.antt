@@ -7,7 +7,7 @@ use Rattle.semantics.specs.Verdict.{Verdict, plan, blocked, unfinished, missed}
 use Rattle.semantics.specs.Judgement.{Judgement, least, dearer, other}
 use Rattle.compile.specs.declared.sizes.Sizes.{Sizes}
 use Rattle.load.specs.Refusals.{Checked, passed, refused}
-use Rattle.jesmovit.specs.Outcomes.{readOutcome, compileOutcome, checkOutcome, leastOutcome, judgeOutcome, Written, wrote, said, sheetOutcome}
+use Rattle.jesmovit.specs.Outcomes.{readOutcome, compileOutcome, checkOutcome, leastOutcome, judgeOutcome, WriteOutcome, wrote, said, sheetOutcome}
 use Rattle.jesmovit.specs.declared.judging.JudgeAnswer.{JudgeAnswer}
 use Rattle.jesmovit.specs.declared.judging.LeastAnswer.{LeastAnswer}
 use Rattle.jesmovit.specs.declared.compiling.CompileAnswer.{CompileAnswer}
@@ -62,7 +62,7 @@ costNumbers (some cost) = done 6 cost 0 0 0
 costNumbers none = done 7 0 0 0 0
 
 -- and on: the bytes of a sheet; "A list that isn't a plan gives its verdict"
-abbrev pub laidNumbers : Written → Numbers
+abbrev pub laidNumbers : WriteOutcome → Numbers
 laidNumbers (wrote bytes) = done 8 bytes 0 0 0
 laidNumbers (said v) = codeNumbers (verdictCode v)
 

@@ -14,17 +14,18 @@ use Rattle.semantics.specs.Verdict as S
 use Rattle.semantics.proofs.VerdictLaws.{plan-leads}
 use Rattle.domain.specs.Domain.{domainIn}
 use Rattle.domain.specs.Entries.{EntriesBelow}
+use Rattle.domain.proofs.DomainLaws.{stored-bounded}
 use Rattle.validate.specs.Verdict.{verdictOf}
 use Rattle.validate.specs.declared.verdict.Verdict.{Verdict}
 use Rattle.validate.proofs.verdict.Verdict.{the-type}
 use Rattle.layout.specs.Sheet.{sheetOf, sheetSize}
-use Rattle.layout.proofs.SheetLaws.{sheet-length}
+use Rattle.layout.proofs.PlanLines.{sheet-length}
 use Rattle.load.specs.Refusals.{Handed, Checked, passed, refused, Offer, loading}
 use Rattle.load.specs.Loaded.{Sized}
 use Rattle.load.specs.View.{View, viewOf, viewIn}
 use Rattle.load.specs.declared.loaded.LoadedJob.{LoadedJob}
 use Rattle.load.specs.declared.request.Sort.the-variants.{Moves}
-use Rattle.jesmovit.specs.Outcomes.{Written, wrote, said}
+use Rattle.jesmovit.specs.Outcomes.{WriteOutcome, wrote, said}
 use Rattle.jesmovit.specs.Compiling.{listAfter}
 use Rattle.jesmovit.specs.Checking.{Says}
 use Rattle.jesmovit.specs.Writing.{LentOutput, Writes, refuses, not-plan, too-short, writes, SheetIs}
@@ -35,7 +36,7 @@ module _ {Content : View → List ℕ → Type 0} {old : LentOutput} (h : Handed
   pub write-refused : {number place : ℕ} → refused number place ≡ loading h → Writes Content old (viewIn h) (refused number place) old
   write-refused {number} {place} e = subst (λ (c : Checked Offer). Writes Content old (viewed c) (refused number place) old) e refuses
 
-  pub write-passed : {o : Offer} → passed o ≡ loading h → {d : Checked Written} {new : LentOutput} → Writes Content old (passed (viewOf o)) d new
+  pub write-passed : {o : Offer} → passed o ≡ loading h → {d : Checked WriteOutcome} {new : LentOutput} → Writes Content old (passed (viewOf o)) d new
       → Writes Content old (viewIn h) d new
   write-passed e {d} {new} x = subst (λ (c : Checked Offer). Writes Content old (viewed c) d new) e x
 
@@ -60,7 +61,7 @@ module _ {l : LoadedJob} {rows plan : List ℕ} (sized : Sized l rows) (entries 
     sheet-need : length (sheetOf (domainIn (l .head) rows) plan) ≡ need
     sheet-need =
         let m = plan-leads (view .domain) (view .program) planned in
-        sheet-length (l .head) rows plan (sized .stored) entries (m .1) ∙ sym n
+        sheet-length (view .domain) (stored-bounded (sized .stored)) (sized .stored .job .moves) plan entries (m .1) ∙ sym n
 
     pub lay-short : length out < need → {r : Refusal} → r ≡ record { number = 6; place = need }
         → Writes SheetIs (record { list = list; output = out }) (passed view) (refused (r .number) (r .place)) (record { list = list; output = out })

@@ -54,11 +54,11 @@ judgeOutcome (Judge.the-variants.Judged positions steps g) =
 judgeOutcome (Judge.the-variants.Refused r) = refused (r .number) (r .place)
 
 -- what is written for a plan: how much of it there is; of a list that isn't a plan the verdict
-pub data Written : Type 0 where
-  wrote : ℕ → Written
-  said : S.Verdict → Written
+pub data WriteOutcome : Type 0 where
+  wrote : ℕ → WriteOutcome
+  said : S.Verdict → WriteOutcome
 
-abbrev pub sheetOutcome : Sheet.SheetAnswer → Checked Written
+abbrev pub sheetOutcome : Sheet.SheetAnswer → Checked WriteOutcome
 sheetOutcome (Sheet.the-variants.Laid bytes) = passed (wrote bytes)
 sheetOutcome (Sheet.the-variants.Said v) = passed (said (verdictOf v))
 sheetOutcome (Sheet.the-variants.Refused r) = refused (r .number) (r .place)

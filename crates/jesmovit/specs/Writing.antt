@@ -10,7 +10,7 @@ use Rattle.load.specs.Refusals.{Checked, passed, refused}
 use Rattle.load.specs.View.{View, viewIn}
 use Rattle.load.specs.declared.request.Sort.the-variants.{Moves}
 use Rattle.jesmovit.specs.Texts.{Texts}
-use Rattle.jesmovit.specs.Outcomes.{Written, wrote, said, sheetOutcome}
+use Rattle.jesmovit.specs.Outcomes.{WriteOutcome, wrote, said, sheetOutcome}
 use Rattle.jesmovit.specs.Compiling.{listAfter}
 use Rattle.jesmovit.specs.Checking.{checking, Says}
 use Rattle.jesmovit.specs.declared.laying.SheetAnswer.{SheetAnswer}
@@ -21,7 +21,7 @@ pub record LentOutput : Type 0 where
   pub output : List ℕ
 
 -- `Content v x`: x is what is to be written for the plan of the view v
-pub data Writes (Content : View → List ℕ → Type 0) (old : LentOutput) : Checked View → Checked Written → LentOutput → Type 0 where
+pub data Writes (Content : View → List ℕ → Type 0) (old : LentOutput) : Checked View → Checked WriteOutcome → LentOutput → Type 0 where
   -- "A refusal returns its number and place and changes no list or table."
   refuses : {number place : ℕ} → Writes Content old (refused number place) (refused number place) old
   -- "A list that isn't a plan gives its verdict and writes nothing, which here and later is said of

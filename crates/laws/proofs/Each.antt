@@ -44,6 +44,10 @@ module _ {A : Type 0} where
     all-same zero a p = tt
     all-same (suc n) a p = (p, all-same n a p)
 
+  pub all-so : (P Q : A → Type 0) → ((a : A) → P a → Q a) → (l : List A) → All P l → All Q l
+  all-so P Q f [] h = tt
+  all-so P Q f (a ∷ l) h = (f a (h .0), all-so P Q f l (h .1))
+
   pub all-map : {B : Type 0} (f : A → B) (P : B → Type 0) (l : List A) → All (λ (a : A). P (f a)) l → All P (map f l)
   all-map f P [] h = tt
   all-map f P (a ∷ l) h = (h .0, all-map f P l (h .1))

@@ -1,3 +1,4 @@
 pub mod ColumnLaws
 pub mod LineLaws
-pub mod SheetLaws
+pub mod PlanLines
+pub mod LayingLaws

@@ -11,12 +11,12 @@ use Rattle.limits.specs.Limits.{mostMoves, mostCost, mostEntries}
 use Rattle.text.specs.Written.{decimal}
 use Rattle.text.proofs.DecimalLaws.{decimal-short}
 use Rattle.layout.specs.Column.{spaces, column}
-use Rattle.layout.specs.Sheet.{lineOf, Fits, blankLine}
+use Rattle.layout.specs.Sheet.{lineBytes, FitsColumns, blankLine}
 use Rattle.layout.specs.declared.line.SheetLine.{SheetLine}
 use Rattle.layout.proofs.ColumnLaws.{spaces-length, column-length, column-wider}
 
 -- each number fits its column, by the limits of plans, moves and costs
-pub within-fits : {l : SheetLine} → l .row ≤ mostEntries → l .made < mostMoves → l .cost ≤ mostCost → l .total ≤ mostEntries * mostCost → Fits l
+pub within-fits : {l : SheetLine} → l .row ≤ mostEntries → l .made < mostMoves → l .cost ≤ mostCost → l .total ≤ mostEntries * mostCost → FitsColumns l
 within-fits {l} r m c t = record {
   row = decimal-short 4 (l .row) (omega arith);
   made = decimal-short 2 (l .made) (omega arith);
@@ -28,7 +28,7 @@ within-fits {l} r m c t = record {
 gap : (v : List ℕ) (width n : ℕ) → length (decimal n) ≤ width → v ++ spaces 2 ++ column width n ≡ v ++ column (2 + width) n
 gap v width n h = append-assoc v (spaces 2) (column width n) ∙ ap (λ (w : List ℕ). v ++ w) (column-wider width n h)
 
-module _ (l : SheetLine) (f : Fits l) where
+module _ (l : SheetLine) (f : FitsColumns l) where
   abbrev two : List ℕ
   two = column 5 (l .row) ++ column 5 (l .made)
 
@@ -39,8 +39,8 @@ module _ (l : SheetLine) (f : Fits l) where
   four = column 5 (l .row) ++ column 5 (l .made) ++ column 9 (l .cost) ++ column 11 (l .total)
 
   -- the line, as the code writes it
-  as-written : four ++ (10 ∷ []) ≡ lineOf l
-  unfolding lineOf
+  as-written : four ++ (10 ∷ []) ≡ lineBytes l
+  unfolding lineBytes
   as-written = sym (ap (λ (v : List ℕ). v ++ (10 ∷ []))
       (ap (λ (v : List ℕ). v ++ spaces 2 ++ column 7 (l .cost) ++ spaces 2 ++ column 9 (l .total)) (gap (column 5 (l .row)) 3 (l .made) (f .made))
       ∙ ap (λ (v : List ℕ). v ++ spaces 2 ++ column 9 (l .total)) (gap two 7 (l .cost) (f .cost))
@@ -57,13 +57,13 @@ module _ (l : SheetLine) (f : Fits l) where
   four-length : length four ≡ 30
   four-length = length-append three (column 11 (l .total)) ∙ omega (arith, three-length, column-length 11 (l .total) (omega (arith, f .total)))
 
-  pub line-length : length (lineOf l) ≡ 31
+  pub line-length : length (lineBytes l) ≡ 31
   line-length = ap length (sym as-written) ∙ length-append four (10 ∷ []) ∙ omega (arith, four-length)
 
   -- four columns and the line feed, one after another
   pub line-laid : (old : List ℕ) (at : ℕ) {a b c d new : List ℕ} → a ≡ sets old at (column 5 (l .row)) → b ≡ sets a (at + 5) (column 5 (l .made))
       → c ≡ sets b (at + 10) (column 9 (l .cost)) → d ≡ sets c (at + 19) (column 11 (l .total)) → new ≡ set d (at + 30) 10
-      → new ≡ sets old at (lineOf l)
+      → new ≡ sets old at (lineBytes l)
   line-laid old at ea eb ec ed en =
       let x = sets-on old (column 5 (l .row)) (column 5 (l .made)) at (at + 5) ea (omega (arith, column-length 5 (l .row) (f .row))) eb in
       let y = sets-on old two (column 9 (l .cost)) at (at + 10) x (omega (arith, two-length)) ec in

@@ -10,12 +10,12 @@ use Rattle.layout.specs.declared.line.SheetLine.{SheetLine}
 
 -- "lines of exactly 30 bytes and a line feed" (byte 10): "row from 1 in 5 columns, two spaces, move
 -- in 3, two spaces, cost in 7, two spaces, running total in 9"
-unfoldable pub lineOf : SheetLine → List ℕ
-lineOf l =
+unfoldable pub lineBytes : SheetLine → List ℕ
+lineBytes l =
     column 5 (l .row) ++ spaces 2 ++ column 3 (l .made) ++ spaces 2 ++ column 7 (l .cost) ++ spaces 2 ++ column 9 (l .total) ++ (10 ∷ [])
 
 -- each number has room in its column, so that none is shifted
-pub record Fits (l : SheetLine) : Type 0 where
+pub record FitsColumns (l : SheetLine) : Type 0 where
   pub row : length (decimal (l .row)) ≤ 5
   pub made : length (decimal (l .made)) ≤ 3
   pub cost : length (decimal (l .cost)) ≤ 7
@@ -23,15 +23,15 @@ pub record Fits (l : SheetLine) : Type 0 where
 
 -- a line for each move that is made from state s on, with its cost in the state before it; n lines
 -- stand above, and their costs sum to `total`
-unfoldable pub linesFrom : Domain → ℕ → ℕ → ℕ → List ℕ → List SheetLine
-linesFrom D s n total [] = []
-linesFrom D s n total (m ∷ ms) =
+unfoldable pub planLinesFrom : Domain → ℕ → ℕ → ℕ → List ℕ → List SheetLine
+planLinesFrom D s n total [] = []
+planLinesFrom D s n total (m ∷ ms) =
     record { row = suc n; made = m; cost = D .cost m s; total = total + D .cost m s }
-    ∷ elim (D .successor m s) [ none ↦ [] | some t ↦ linesFrom D t (suc n) (total + D .cost m s) ms ]
+    ∷ elim (D .successor m s) [ none ↦ [] | some t ↦ planLinesFrom D t (suc n) (total + D .cost m s) ms ]
 
 -- of a plan, from the start on
-abbrev pub linesOf : Domain → List ℕ → List SheetLine
-linesOf D ms = linesFrom D (D .start) 0 0 ms
+abbrev pub planLines : Domain → List ℕ → List SheetLine
+planLines D ms = planLinesFrom D (D .start) 0 0 ms
 
 -- how many lines the pages of so many rows have: "A page has 60 lines", "an empty plan has no page"
 abbrev pub pageLines : ℕ → ℕ
@@ -42,12 +42,12 @@ unfoldable pub blankLine : List ℕ
 blankLine = spaces 30 ++ (10 ∷ [])
 
 -- "the last page filled with lines of spaces"
-unfoldable pub filled : List (List ℕ) → List (List ℕ)
-filled ls = ls ++ replicate (pageLines (length ls) - length ls) blankLine
+unfoldable pub pagesOf : List (List ℕ) → List (List ℕ)
+pagesOf ls = ls ++ replicate (pageLines (length ls) - length ls) blankLine
 
 -- the bytes of the sheet
 unfoldable pub sheetOf : Domain → List ℕ → List ℕ
-sheetOf D ms = flatten (filled (map lineOf (linesOf D ms)))
+sheetOf D ms = flatten (pagesOf (map lineBytes (planLines D ms)))
 
 -- how many there are, of so many moves
 abbrev pub sheetSize : ℕ → ℕ

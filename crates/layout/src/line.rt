@@ -3,7 +3,7 @@ ghost use mathlib.Core.Path.{_≡_};
 ghost use Prim.Native.Nat.{_+_, _≤_};
 ghost use lib.ListN.{length};
 ghost use lib.Seq.{sets};
-ghost use Rattle.layout.specs.Sheet.{lineOf, Fits, blankLine};
+ghost use Rattle.layout.specs.Sheet.{lineBytes, FitsColumns, blankLine};
 use crate::column;
 
 // Bytes of a line, its line feed among them.
@@ -19,8 +19,8 @@ pub struct SheetLine {
 
 // A move's line. Two spaces and a number set right behind them are a column that is two wider.
 pub fn put_line(out: &mut [u8], at: usize, line: SheetLine)
-    requires { ⌜ (at + 31 ≤ length (now out)) × Fits line ⌝ }
-    ensures { λ _. ⌜ now (out .exit) ≡ sets (now (out .entry)) at (lineOf line) ⌝ }
+    requires { ⌜ (at + 31 ≤ length (now out)) × FitsColumns line ⌝ }
+    ensures { λ _. ⌜ now (out .exit) ≡ sets (now (out .entry)) at (lineBytes line) ⌝ }
 {
     column::column(out, at, 5, line.row);
     column::column(out, at + 5, 5, line.made);

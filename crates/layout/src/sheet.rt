@@ -8,7 +8,7 @@ ghost use Rattle.limits.specs.Limits.{mostEntries};
 ghost use Rattle.job.specs.Stored.{Stored};
 ghost use Rattle.domain.specs.Domain.{domainIn};
 ghost use Rattle.domain.specs.Entries.{EntriesBelow};
-ghost use Rattle.layout.specs.Sheet.{lineOf, linesOf, pageLines, blankLine, sheetOf, sheetSize};
+ghost use Rattle.layout.specs.Sheet.{lineBytes, planLines, pageLines, blankLine, sheetOf, sheetSize};
 use crate::line::LINE;
 use crate::line::SheetLine;
 use crate::line::put_blank;
@@ -42,8 +42,8 @@ pub fn sheet_size(count: usize) -> usize
 fn put_lines(head: Head, rows: &[u16], plan: &[u16], out: &mut [u8]) -> usize
     requires { ⌜ Stored head (now rows) ⌝ }
     requires { ⌜ EntriesBelow (now plan) (domainIn head (now rows) .moves) × (length (now plan) * 31 ≤ length (now out)) ⌝ }
-    ensures { λ r. ⌜ (now (out .exit) ≡ sets (now (out .entry)) 0 (flatten (map lineOf (linesOf (domainIn head (now (rows .entry))) (now (plan .entry))))))
-        × (r ≡ length (linesOf (domainIn head (now (rows .entry))) (now (plan .entry)))) × (r ≤ length (now (plan .entry))) ⌝ }
+    ensures { λ r. ⌜ (now (out .exit) ≡ sets (now (out .entry)) 0 (flatten (map lineBytes (planLines (domainIn head (now (rows .entry))) (now (plan .entry))))))
+        × (r ≡ length (planLines (domainIn head (now (rows .entry))) (now (plan .entry)))) × (r ≤ length (now (plan .entry))) ⌝ }
 {
     let mut state = domain::states::start(head, rows);
     let mut total: u64 = 0;

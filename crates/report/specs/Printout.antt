@@ -10,7 +10,7 @@ use Rattle.job.specs.declared.head.Counts.{Counts}
 use Rattle.semantics.specs.Verdict.{Verdict, plan, blocked, unfinished, missed}
 use Rattle.semantics.specs.Judgement.{Judgement, least, dearer, other}
 use Rattle.load.specs.Refusals.{Checked, passed, refused}
-use Rattle.jesmovit.specs.Outcomes.{readOutcome, compileOutcome, checkOutcome, leastOutcome, judgeOutcome, Written, wrote, said, sheetOutcome}
+use Rattle.jesmovit.specs.Outcomes.{readOutcome, compileOutcome, checkOutcome, leastOutcome, judgeOutcome, WriteOutcome, wrote, said, sheetOutcome}
 use Rattle.jesmovit.specs.declared.judging.JudgeAnswer.{JudgeAnswer}
 use Rattle.jesmovit.specs.declared.judging.LeastAnswer.{LeastAnswer}
 use Rattle.jesmovit.specs.declared.compiling.CompileAnswer.{CompileAnswer}
@@ -72,9 +72,9 @@ leastLines (some cost) = line "least" cost
 leastLines none = bytes "answer=none\n"
 
 -- the sheet, which stands at the output's front; or what a check says
-abbrev pub sheetLines : List ℕ → Written → List ℕ
-sheetLines output (wrote bytes) = take bytes output
-sheetLines output (said v) = verdictLines v
+abbrev pub writtenLines : List ℕ → WriteOutcome → List ℕ
+writtenLines output (wrote bytes) = take bytes output
+writtenLines output (said v) = verdictLines v
 
 -- a job's counts
 abbrev pub countLines : Counts → List ℕ
@@ -101,4 +101,4 @@ readPrintout a = printout countLines (readOutcome a)
 
 -- the output is the buffer that the sheet was written into
 abbrev pub sheetPrintout : SheetAnswer → List ℕ → List ℕ
-sheetPrintout a output = printout (sheetLines output) (sheetOutcome a)
+sheetPrintout a output = printout (writtenLines output) (sheetOutcome a)

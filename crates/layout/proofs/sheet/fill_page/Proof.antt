@@ -5,7 +5,7 @@ use lib.ListN.{replicate}
 use lib.Seq.{sets}
 use Rattle.layout.specs.Sheet.{blankLine}
 use native.Mathlib.Omega.{arith}
-use Rattle.layout.proofs.SheetLaws.{Filling, filling-start, filling-more, filling-end}
+use Rattle.layout.proofs.LayingLaws.{Filling, filling-start, filling-more, filling-end}
 use borrow.Author.Needs.{needs}
 use Rattle.layout.proofs.sheet.fill_page.Statement.{statement}
 use Rattle.layout.proofs.sheet.fill_page.Tie as tie

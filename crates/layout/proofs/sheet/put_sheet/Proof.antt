@@ -1,4 +1,4 @@
-use Rattle.layout.proofs.SheetLaws.{sheet-laid}
+use Rattle.layout.proofs.LayingLaws.{sheet-laid}
 use borrow.Author.Needs.{needs}
 use Rattle.layout.proofs.sheet.put_sheet.Statement.{statement}
 use Rattle.layout.proofs.sheet.put_sheet.Tie as tie

@@ -1,31 +1,30 @@
--- Lines laid one behind another; the lines of a plan, and of its pages.
+-- Lines laid over an output, one behind another, as the code writes them.
 -- Assumes nothing.
-use Prim.Native.Nat.{ℕ, zero, suc, _+_, _-_, _*_, _≤_, _<_}
+use Prim.Native.Nat.{ℕ, suc, _+_, _-_, _*_, _≤_, _<_}
 use mathlib.Core.Path.{_≡_, refl, sym, _∙_, ap, subst}
-use mathlib.Core.Option.{Option, none, some}
+use mathlib.Core.Option.{none, some}
 use mathlib.Core.List.{List, [], _∷_, _++_, map, flatten}
 use native.Mathlib.Omega.{arith}
 use native.Mathlib.Numerals.{add-one}
-use lib.ListN.{length, getD, drop, replicate, length-append, length-map, length-replicate, drop-of-length-le}
+use lib.ListN.{length, getD, drop, replicate, length-map, drop-of-length-le}
 use lib.Seq.{drop-cons, sets, length-sets}
-use Rattle.laws.proofs.Tests.{never}
-use Rattle.laws.proofs.Lists.{sets-append, sets-on}
-use Rattle.laws.proofs.Each.{All, all-both, all-same, all-map, flatten-length, flatten-append}
-use Rattle.limits.specs.Limits.{mostMoves, mostCost, mostEntries}
+use Rattle.laws.proofs.Lists.{sets-on}
+use Rattle.laws.proofs.Each.{flatten-append}
+use Rattle.limits.specs.Limits.{mostCost}
 use Rattle.job.specs.Stored.{Stored}
 use Rattle.job.specs.declared.head.Head.{Head}
 use Rattle.semantics.specs.Domain.{Domain}
 use Rattle.semantics.proofs.Bounds.{Bounded}
-use Rattle.semantics.proofs.PathLaws.{stateAfter}
 use Rattle.domain.specs.Domain.{domainIn}
 use Rattle.domain.specs.Entries.{EntriesBelow}
 use Rattle.domain.specs.Successor.{successorIn}
 use Rattle.domain.specs.declared.Successor.{Successor}
 use Rattle.domain.specs.declared.Successor.the-variants.{To, Inapplicable}
 use Rattle.domain.proofs.DomainLaws.{stored-bounded}
-use Rattle.layout.specs.Sheet.{lineOf, Fits, linesFrom, linesOf, pageLines, blankLine, filled, sheetOf, sheetSize}
+use Rattle.layout.specs.Sheet.{lineBytes, FitsColumns, planLinesFrom, planLines, pageLines, blankLine, pagesOf, sheetOf}
 use Rattle.layout.specs.declared.line.SheetLine.{SheetLine}
-use Rattle.layout.proofs.LineLaws.{within-fits, line-length, blank-length}
+use Rattle.layout.proofs.LineLaws.{line-length, blank-length}
+use Rattle.layout.proofs.PlanLines.{linesAfter, line-fits, lines-bytes}
 
 -- what is to be written from line i on is what was to be written from the first line on
 pub record Laying (first : ℕ) (all rest : List (List ℕ)) (old out : List ℕ) (i : ℕ) : Type 0 where
@@ -52,58 +51,6 @@ pub laying-end : {first i : ℕ} {all : List (List ℕ)} {old out : List ℕ} �
     → (out ≡ sets old (first * 31) (flatten all)) × (i ≡ first + length all)
 unfolding flatten
 laying-end x = (x .laid, omega (arith, x .count))
-
--- the lines of the moves behind one, from the state after it, where there is one
-abbrev onward : Domain → ℕ → ℕ → List ℕ → Option ℕ → List SheetLine
-onward D n total ms o = elim o [ none ↦ [] | some t ↦ linesFrom D t n total ms ]
-
--- a list of moves that can be made has a line for each
-lines-count : (D : Domain) (ms : List ℕ) (s n total u : ℕ) → stateAfter D s ms ≡ some u → length (linesFrom D s n total ms) ≡ length ms
-unfolding linesFrom stateAfter
-lines-count D [] s n total u e = refl
-lines-count D (m ∷ ms) s n total u e = ap suc (by (D .successor m s) e (λ t f. lines-count D ms t (suc n) (total + D .cost m s) u f))
-  where
-    by : (o : Option ℕ) → elim o [ none ↦ none | some t ↦ stateAfter D t ms ] ≡ some u
-        → ((t : ℕ) → stateAfter D t ms ≡ some u → length (linesFrom D t (suc n) (total + D .cost m s) ms) ≡ length ms)
-        → length (onward D (suc n) (total + D .cost m s) ms o) ≡ length ms
-    by none f g = never (cc)
-    by (some t) f g = g t f
-
--- a domain whose moves and costs fit the columns
-module _ (D : Domain) (b : Bounded D mostCost) (few : D .moves ≤ mostMoves) where
-  -- the line of move m in state s, behind n lines
-  pub line-fits : (s n total m : ℕ) → n < mostEntries → m < D .moves → total ≤ n * mostCost
-      → Fits (record { row = suc n; made = m; cost = D .cost m s; total = total + D .cost m s })
-  line-fits s n total m h k t = within-fits (omega arith) (omega arith) (b .costs m s) (omega (arith, b .costs m s))
-
-  pub lines-fit : (ms : List ℕ) (s n total : ℕ) → ((i : ℕ) → i < length ms → getD ms i 0 < D .moves) → n + length ms ≤ mostEntries → total ≤ n * mostCost
-      → All Fits (linesFrom D s n total ms)
-  unfolding linesFrom
-  lines-fit [] s n total below h t = tt
-  lines-fit (m ∷ ms) s n total below h t = (
-    line-fits s n total m (omega arith) (below 0 (omega arith)) t,
-    by (D .successor m s)
-        (λ u. lines-fit ms u (suc n) (total + D .cost m s) (λ i g. below (suc i) (omega arith)) (omega arith) (omega (arith, b .costs m s))),
-  )
-    where
-      by : (o : Option ℕ) → ((u : ℕ) → All Fits (linesFrom D u (suc n) (total + D .cost m s) ms)) → All Fits (onward D (suc n) (total + D .cost m s) ms o)
-      by none f = tt
-      by (some u) f = f u
-
-  module _ (ms : List ℕ) (e : EntriesBelow ms (D .moves)) where
-    pub all-fit : All Fits (linesOf D ms)
-    all-fit = lines-fit ms (D .start) 0 0 (e .below) (omega (arith, e .few)) (omega arith)
-
-    -- each line of a sheet has 31 bytes
-    pub line-bytes : All (λ (l : List ℕ). length l ≡ 31) (map lineOf (linesOf D ms))
-    line-bytes = all-map lineOf (λ (l : List ℕ). length l ≡ 31) (linesOf D ms) (sized (linesOf D ms) all-fit)
-      where
-        sized : (ls : List SheetLine) → All Fits ls → All (λ (l : SheetLine). length (lineOf l) ≡ 31) ls
-        sized [] f = tt
-        sized (l ∷ ls) f = (line-length l (f .0), sized ls (f .1))
-
-    pub lines-bytes : length (flatten (map lineOf (linesOf D ms))) ≡ length (linesOf D ms) * 31
-    lines-bytes = flatten-length 31 (map lineOf (linesOf D ms)) line-bytes ∙ ap (λ (k : ℕ). k * 31) (length-map (linesOf D ms) lineOf)
 
 -- lines of spaces, up to the page's end
 module _ (first end : ℕ) where
@@ -139,7 +86,7 @@ module _ (head : Head) (rows plan : List ℕ) where
 
   -- i lines are written, whose costs sum to `total`, and the moves have led to this state
   pub record Lining (old out : List ℕ) (state total i : ℕ) : Type 0 where
-    pub laying : Laying 0 (map lineOf (linesOf (domainIn head rows) plan)) (map lineOf (linesFrom (domainIn head rows) state i total (drop i plan))) old out i
+    pub laying : Laying 0 (map lineBytes (planLines (domainIn head rows) plan)) (map lineBytes (planLinesFrom (domainIn head rows) state i total (drop i plan))) old out i
     pub state-below : state < domainIn head rows .states
     pub total-within : total ≤ i * mostCost
     pub within : i ≤ length plan
@@ -163,30 +110,30 @@ module _ (head : Head) (rows plan : List ℕ) where
         is-line : record { row = suc i; made = m; cost = E .cost m state; total = total + E .cost m state } ≡ line
         is-line = rw (c, add-one i) refl
 
-        pub lining-fits : Fits (record { row = i + 1; made = getD plan i 0; cost = spent; total = total + spent })
-        lining-fits = subst Fits is-line
+        pub lining-fits : FitsColumns (record { row = i + 1; made = getD plan i 0; cost = spent; total = total + spent })
+        lining-fits = subst FitsColumns is-line
             (line-fits E b (stored .job .moves) state i total m (omega (arith, entries .few)) (entries .below i h) (x .total-within))
 
         -- what is left then
         abbrev left : List SheetLine
-        left = onward E (suc i) (total + E .cost m state) (drop (suc i) plan) (E .successor m state)
+        left = linesAfter E (suc i) (total + E .cost m state) (drop (suc i) plan) (E .successor m state)
 
-        unfolded : linesFrom E state i total (drop i plan) ≡ line ∷ left
-        unfolding linesFrom
-        unfolded = ap (linesFrom E state i total) (drop-cons plan i 0 h) ∙ ap (λ (l : SheetLine). l ∷ left) is-line
+        unfolded : planLinesFrom E state i total (drop i plan) ≡ line ∷ left
+        unfolding planLinesFrom
+        unfolded = ap (planLinesFrom E state i total) (drop-cons plan i 0 h) ∙ ap (λ (l : SheetLine). l ∷ left) is-line
 
-        module _ {new : List ℕ} (e : new ≡ sets out (i * 31) (lineOf line)) where
-          put : Laying 0 (map lineOf (linesOf E plan)) (map lineOf left) old new (i + 1)
-          put = laying-more (lineOf line) (map lineOf left)
-              (subst (λ (ls : List SheetLine). Laying 0 (map lineOf (linesOf E plan)) (map lineOf ls) old out i) unfolded (x .laying)) (line-length line lining-fits) e
+        module _ {new : List ℕ} (e : new ≡ sets out (i * 31) (lineBytes line)) where
+          put : Laying 0 (map lineBytes (planLines E plan)) (map lineBytes left) old new (i + 1)
+          put = laying-more (lineBytes line) (map lineBytes left)
+              (subst (λ (ls : List SheetLine). Laying 0 (map lineBytes (planLines E plan)) (map lineBytes ls) old out i) unfolded (x .laying)) (line-length line lining-fits) e
 
           -- the move is not applicable, and its line the last
           pub lining-stop : {a : Successor} → a ≡ Inapplicable → successorIn a ≡ E .successor m state
-              → (new ≡ sets old 0 (flatten (map lineOf (linesOf E plan)))) × (i + 1 ≡ length (linesOf E plan)) × (i + 1 ≤ length plan)
+              → (new ≡ sets old 0 (flatten (map lineBytes (planLines E plan)))) × (i + 1 ≡ length (planLines E plan)) × (i + 1 ≤ length plan)
           lining-stop f g =
               let none-left : E .successor m state ≡ none = sym g ∙ ap successorIn f in
               let z = laying-end (rw none-left at put) in
-              (z .0, omega (arith, z .1, length-map (linesOf E plan) lineOf), omega arith)
+              (z .0, omega (arith, z .1, length-map (planLines E plan) lineBytes), omega arith)
 
           pub lining-more : {a : Successor} {next : ℕ} → a ≡ To next → successorIn a ≡ E .successor m state → Lining old new next (total + spent) (i + 1)
           lining-more {next = next} f g =
@@ -199,35 +146,23 @@ module _ (head : Head) (rows plan : List ℕ) where
               }
 
     pub lining-end : {old out : List ℕ} {state total i : ℕ} → Lining old out state total i → length plan ≤ i
-        → (out ≡ sets old 0 (flatten (map lineOf (linesOf E plan)))) × (i ≡ length (linesOf E plan)) × (i ≤ length plan)
-    unfolding linesFrom
+        → (out ≡ sets old 0 (flatten (map lineBytes (planLines E plan)))) × (i ≡ length (planLines E plan)) × (i ≤ length plan)
+    unfolding planLinesFrom
     lining-end {i = i} x h =
         let past : drop i plan ≡ [] = drop-of-length-le plan h in
         let z = laying-end (rw past at (x .laying)) in
-        (z .0, omega (arith, z .1, length-map (linesOf E plan) lineOf), x .within)
+        (z .0, omega (arith, z .1, length-map (planLines E plan) lineBytes), x .within)
 
-    -- and the last page filled behind them
+    -- and lines of spaces behind them, to the end of the last page
     module _ (entries : EntriesBelow plan (E .moves)) where
-      pub sheet-laid : (old : List ℕ) {mid new : List ℕ} {count : ℕ} → mid ≡ sets old 0 (flatten (map lineOf (linesOf E plan)))
-          → count ≡ length (linesOf E plan) → new ≡ sets mid (count * 31) (flatten (replicate (pageLines count - count) blankLine))
+      pub sheet-laid : (old : List ℕ) {mid new : List ℕ} {count : ℕ} → mid ≡ sets old 0 (flatten (map lineBytes (planLines E plan)))
+          → count ≡ length (planLines E plan) → new ≡ sets mid (count * 31) (flatten (replicate (pageLines count - count) blankLine))
           → new ≡ sets old 0 (sheetOf E plan)
-      unfolding sheetOf filled
+      unfolding sheetOf pagesOf
       sheet-laid old {count = count} e n f =
-          let ls : List (List ℕ) = map lineOf (linesOf E plan) in
-          let k : length (map lineOf (linesOf E plan)) ≡ count = length-map (linesOf E plan) lineOf ∙ sym n in
+          let ls : List (List ℕ) = map lineBytes (planLines E plan) in
+          let k : length (map lineBytes (planLines E plan)) ≡ count = length-map (planLines E plan) lineBytes ∙ sym n in
           sets-on old (flatten ls) (flatten (replicate (pageLines count - count) blankLine)) 0 (count * 31) e
           (omega (arith, lines-bytes E b (stored .job .moves) plan entries, n)) f
           ∙ ap (sets old 0) (sym (flatten-append ls (replicate (pageLines count - count) blankLine))
           ∙ ap (λ (j : ℕ). flatten (ls ++ replicate (pageLines j - j) blankLine)) (sym k))
-
-      -- of moves that can be made, it has the bytes that so many take
-      pub sheet-length : {u : ℕ} → stateAfter E (E .start) plan ≡ some u → length (sheetOf E plan) ≡ sheetSize (length plan)
-      unfolding sheetOf filled
-      sheet-length {u} e =
-          let ls : List (List ℕ) = map lineOf (linesOf E plan) in
-          let k : length (map lineOf (linesOf E plan)) ≡ length plan = length-map (linesOf E plan) lineOf ∙ lines-count E plan (E .start) 0 0 u e in
-          let fill : ℕ = pageLines (length ls) - length ls in
-          let bytes = all-both (λ (l : List ℕ). length l ≡ 31) ls (replicate fill blankLine) (line-bytes E b (stored .job .moves) plan entries)
-          (all-same (λ (l : List ℕ). length l ≡ 31) fill blankLine blank-length) in
-          flatten-length 31 (filled ls) bytes
-          ∙ ap (λ (j : ℕ). j * 31) (length-append ls (replicate fill blankLine) ∙ omega (arith, length-replicate fill blankLine, k))
