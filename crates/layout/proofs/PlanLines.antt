@@ -23,7 +23,7 @@ abbrev pub linesAfter : Domain → ℕ → ℕ → List ℕ → Option ℕ → L
 linesAfter D n total ms o = elim o [ none ↦ [] | some t ↦ planLinesFrom D t n total ms ]
 
 -- a list of moves that can be made has a line for each
-lines-count : (D : Domain) (ms : List ℕ) (s n total u : ℕ) → stateAfter D s ms ≡ some u → length (planLinesFrom D s n total ms) ≡ length ms
+pub lines-count : (D : Domain) (ms : List ℕ) (s n total u : ℕ) → stateAfter D s ms ≡ some u → length (planLinesFrom D s n total ms) ≡ length ms
 unfolding planLinesFrom stateAfter
 lines-count D [] s n total u e = refl
 lines-count D (m ∷ ms) s n total u e = ap suc (by (D .successor m s) e (λ t f. lines-count D ms t (suc n) (total + D .cost m s) u f))

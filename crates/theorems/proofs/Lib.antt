@@ -18,6 +18,7 @@ pub mod JudgedChecks
 pub mod JudgeDecides
 pub mod ComputedTable
 pub mod ComputedJudgement
+pub mod SheetLines
 pub mod MarkedCases
 pub mod OriginalStar
 pub mod JobExamples
