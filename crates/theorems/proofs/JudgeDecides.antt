@@ -31,11 +31,11 @@ use Rattle.theorems.proofs.Acceptance.{accepted-iff}
 use Rattle.theorems.proofs.JudgedChecks.{judged-is-checked}
 
 -- an allowed list is a plan, by its cost; and a plan is allowed
-allowed-plan : (D : Domain) (σ : Program) (ms : List ℕ) → Allowed D σ ms → Judged D (byRuns D σ) ms (plan (cost D (D .start) ms))
+pub allowed-plan : (D : Domain) (σ : Program) (ms : List ℕ) → Allowed D σ ms → Judged D (byRuns D σ) ms (plan (cost D (D .start) ms))
 unfolding byRuns
 allowed-plan D σ ms a = is-plan (a .run) (a .reached)
 
-plan-allowed : (D : Domain) (σ : Program) (ms : List ℕ) {c : ℕ} → Judged D (byRuns D σ) ms (plan c) → Allowed D σ ms
+pub plan-allowed : (D : Domain) (σ : Program) (ms : List ℕ) {c : ℕ} → Judged D (byRuns D σ) ms (plan c) → Allowed D σ ms
 unfolding byRuns
 plan-allowed D σ ms (is-plan run reached) = record { last = _; run = run; reached = reached }
 

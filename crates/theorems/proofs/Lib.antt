@@ -19,6 +19,8 @@ pub mod JudgeDecides
 pub mod ComputedTable
 pub mod ComputedJudgement
 pub mod SheetLines
+pub mod OneSheet
+pub mod SheetDecides
 pub mod MarkedCases
 pub mod OriginalStar
 pub mod JobExamples

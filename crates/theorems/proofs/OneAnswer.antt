@@ -36,7 +36,7 @@ use Rattle.jesmovit.specs.declared.judging.JudgeAnswer as G
 use Rattle.jesmovit.proofs.AnswerLaws.{OneWay, one-outcome}
 
 -- what each operation does, it does in one way
-one-says : (sort : Sort) (v : View) {w u : Verdict} → Says sort v w → Says sort v u → w ≡ u
+pub one-says : (sort : Sort) (v : View) {w u : Verdict} → Says sort v w → Says sort v u → w ≡ u
 one-says Moves v x y = one-move-verdict (v .domain) (v .program) (v .entries) _ _ x y
 one-says Steps v x y = one-step-verdict (v .domain) (viewSteps v) (finalOf v) (v .entries) _ _ x y
 
@@ -72,7 +72,7 @@ one-judged v g h x y p q =
     )
 
 -- one answer has an outcome
-refusal-same : {B : Type 0} (r q : Refusal) → _≡_ {A = Checked B} (refused (r .number) (r .place)) (refused (q .number) (q .place)) → r ≡ q
+pub refusal-same : {B : Type 0} (r q : Refusal) → _≡_ {A = Checked B} (refused (r .number) (r .place)) (refused (q .number) (q .place)) → r ≡ q
 refusal-same r q e = let f : r .number ≡ q .number = cc in let g : r .place ≡ q .place = cc in rw (f, g)
 
 read-injective : (a b : R.ReadAnswer) → readOutcome a ≡ readOutcome b → a ≡ b
