@@ -37,7 +37,7 @@ numberOf (refused number place) = number
 -- numbers of refusals that are not 0
 module _ (P : ℕ → Type 0) (positive : (number : ℕ) → P number → 1 ≤ number) where
   -- what passes has the number 0, and what does not has one of these
-  either-number : {Passes : Type 0} (n : ℕ) → (Passes × (n ≡ 0)) ⊎ (P n × (Passes → ⊥)) → CallNumber P Passes n
+  pub either-number : {Passes : Type 0} (n : ℕ) → (Passes × (n ≡ 0)) ⊎ (P n × (Passes → ⊥)) → CallNumber P Passes n
   either-number n (inl (p, e)) = record { zero-iff = (λ z. p, λ q. e); otherwise = inl e }
   either-number n (inr (r, f)) = record { zero-iff = (λ z. absurd (omega (arith, positive n r)), λ q. absurd (f q)); otherwise = inr r }
 
@@ -61,7 +61,7 @@ answer-number say zero (refused number place) d x = ap (λ (e : Checked _). outc
 up-to-positive : (last number : ℕ) → UpTo last number → 1 ≤ number
 up-to-positive last number x = x .0
 
-load-positive : (h : Handed) (number : ℕ) → LoadNumber h number → 1 ≤ number
+pub load-positive : (h : Handed) (number : ℕ) → LoadNumber h number → 1 ≤ number
 load-positive h number (of-text (of-job x)) = x .0
 load-positive h number (of-text (of-costs f)) = omega arith
 load-positive h number (of-text (of-plan f)) = omega arith

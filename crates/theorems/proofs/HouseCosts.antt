@@ -14,18 +14,22 @@ use Rattle.job.proofs.CostLaws.{house-within}
 use Rattle.lists.specs.CountedList.{listed}
 use Rattle.lists.specs.CostsText.{readCosts, costsText}
 use Rattle.load.specs.Refusals.{Handed, Checked, passed, refused, next, jobIn, withCosts, costsIn, taskIn, Offer, planIn, textsIn, loading}
-use Rattle.load.specs.View.{viewIn}
+use Rattle.load.specs.View.{View, viewIn}
 use Rattle.load.specs.declared.request.Given.{Given}
 use Rattle.load.specs.declared.request.Sort.{Sort}
+use Rattle.load.specs.declared.request.Sort.the-variants.{Moves}
 use Rattle.load.proofs.TaskLaws.{costs-by-given}
 use Rattle.load.proofs.LoadingLaws.{chain}
 use Rattle.jesmovit.specs.Texts.{Texts}
+use Rattle.jesmovit.specs.Outcomes.{checkOutcome, leastOutcome, judgeOutcome, sheetOutcome}
 use Rattle.jesmovit.specs.Answers.{Answers}
-use Rattle.jesmovit.specs.Checking.{checking, Checks}
-use Rattle.jesmovit.specs.Judging.{costing, judging, Lent, CostsLeast, Judges}
+use Rattle.jesmovit.specs.Checking.{checking, CheckDone, Checks}
+use Rattle.jesmovit.specs.Judging.{costing, judging, Lent, CostDone, CostsLeast, JudgeDone, Judges}
+use Rattle.jesmovit.specs.Writing.{LentOutput, Writes, SheetIs, Sheets}
 use Rattle.jesmovit.specs.declared.checking.CheckAnswer.{CheckAnswer}
 use Rattle.jesmovit.specs.declared.judging.LeastAnswer.{LeastAnswer}
 use Rattle.jesmovit.specs.declared.judging.JudgeAnswer.{JudgeAnswer}
+use Rattle.jesmovit.specs.declared.laying.SheetAnswer.{SheetAnswer}
 use Rattle.jesmovit.proofs.AnswerLaws.{viewed}
 use Rattle.theorems.specs.HouseCosts.{withHouseText, houseTexts}
 use Rattle.theorems.proofs.ListTexts.{costs-text-iff}
@@ -63,21 +67,26 @@ module _ (h : Handed) where
   house-view f = ap viewed (none-is-house f)
 
 -- what is promised of one is promised of the other
-same-promise : {A B C : Type 0} {Does : A → B → C → C → Type 0} {old new : C} {c d : Checked A} {e : Checked B} → c ≡ d
-    → Answers Does old c e new ↔ Answers Does old d e new
-same-promise {A} {B} {C} {Does} {old} {new} {c} {d} {e} f = (
-  subst (λ (x : Checked A). Answers Does old x e new) f,
-  subst (λ (x : Checked A). Answers Does old x e new) (sym f),
-)
+same-promise : {A : Type 0} (P : Checked A → Type 0) {c d : Checked A} → c ≡ d → P c ↔ P d
+same-promise P f = (subst P f, subst P (sym f))
 
 -- so, where none is given, the promises are those of the house's costs
 module _ (t : Texts) (none : t .given .costs ≡ false) where
   pub none-checks : (sort : Sort) (list : List ℕ) (a : CheckAnswer) (after : List ℕ) → Checks sort t list a after ↔ Checks sort (houseTexts t) list a after
-  none-checks sort list a after = same-promise (house-view (checking sort t (length list)) none)
+  none-checks sort list a after =
+      same-promise (λ (c : Checked View). Answers (CheckDone sort) list c (checkOutcome a) after) (house-view (checking sort t (length list)) none)
 
   module _ (old new : Lent) where
     pub none-costs-least : (a : LeastAnswer) → CostsLeast t old a new ↔ CostsLeast (houseTexts t) old a new
-    none-costs-least a = same-promise (house-view (costing t (length (old .list)) (length (old .table))) none)
+    none-costs-least a =
+        same-promise (λ (c : Checked View). Answers CostDone old c (leastOutcome a) new)
+        (house-view (costing t (length (old .list)) (length (old .table))) none)
 
     pub none-judges : (a : JudgeAnswer) → Judges t old a new ↔ Judges (houseTexts t) old a new
-    none-judges a = same-promise (house-view (judging t (length (old .list)) (length (old .table))) none)
+    none-judges a =
+        same-promise (λ (c : Checked View). Answers JudgeDone old c (judgeOutcome a) new)
+        (house-view (judging t (length (old .list)) (length (old .table))) none)
+
+  pub none-sheets : (old new : LentOutput) (a : SheetAnswer) → Sheets t old a new ↔ Sheets (houseTexts t) old a new
+  none-sheets old new a =
+      same-promise (λ (c : Checked View). Writes SheetIs old c (sheetOutcome a) new) (house-view (checking Moves t (length (old .list))) none)

@@ -21,10 +21,13 @@ pub mod ComputedJudgement
 pub mod SheetLines
 pub mod OneSheet
 pub mod SheetDecides
+pub mod SheetNumbers
 pub mod MarkedCases
 pub mod OriginalStar
 pub mod JobExamples
 pub mod OperationExamples
+pub mod SheetExamples
 pub mod CompiledPrintout
 pub mod JudgePrintout
+pub mod SheetPrintout
 pub mod PrintoutExamples

@@ -66,7 +66,7 @@ module _ (t : Texts) (old : LentOutput) (o : Offer) (accepted : Accepted (checki
     is-plan = allowed-plan (v .domain) (v .program) (o .entries) allowed
 
     -- the sheet has the bytes that its moves take
-    bytes-needed : length (sheetOf D (o .entries)) ≡ sheetSize (length (o .entries))
+    pub bytes-needed : length (sheetOf D (o .entries)) ≡ sheetSize (length (o .entries))
     bytes-needed =
         let task = accepted .texts .its-task in
         let p = accepted .texts .its-plan refl in
