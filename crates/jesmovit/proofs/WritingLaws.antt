@@ -1,6 +1,6 @@
 -- What is promised of what is written for a plan, from the chain of reasons and the verdict.
 -- Assumes nothing.
-use Prim.Native.Nat.{ℕ, _*_, _≤_, _<_}
+use Prim.Native.Nat.{ℕ, _≤_, _<_}
 use mathlib.Core.Path.{_≡_, refl, sym, _∙_, ap, subst}
 use mathlib.Core.List.{List, [], _∷_}
 use native.Mathlib.Omega.{arith}
@@ -28,7 +28,7 @@ use Rattle.load.specs.declared.request.Sort.the-variants.{Moves}
 use Rattle.jesmovit.specs.Outcomes.{WriteOutcome, wrote, said}
 use Rattle.jesmovit.specs.Compiling.{listAfter}
 use Rattle.jesmovit.specs.Checking.{Says}
-use Rattle.jesmovit.specs.Writing.{LentOutput, Writes, refuses, not-plan, too-short, writes, SheetIs}
+use Rattle.jesmovit.specs.Writing.{LentOutput, Writes, refuses, not-plan, too-short, writes, bytesFor, SheetIs}
 use Rattle.jesmovit.proofs.AnswerLaws.{viewed}
 use Rattle.jesmovit.proofs.JudgeLaws.{other-tag}
 
@@ -39,6 +39,16 @@ module _ {Content : View → List ℕ → Type 0} {old : LentOutput} (h : Handed
   pub write-passed : {o : Offer} → passed o ≡ loading h → {d : Checked WriteOutcome} {new : LentOutput} → Writes Content old (passed (viewOf o)) d new
       → Writes Content old (viewIn h) d new
   write-passed e {d} {new} x = subst (λ (c : Checked Offer). Writes Content old (viewed c) d new) e x
+
+-- what is no plan asks for no bytes
+none-asked : (w : S.Verdict) → ((c : ℕ) → w ≡ S.plan c → ⊥) → (count : ℕ) → 0 ≡ bytesFor w count
+none-asked (S.plan c) f count = absurd (f c refl)
+none-asked (S.blocked i) f count = refl
+none-asked S.unfinished f count = refl
+none-asked S.missed f count = refl
+
+pub other-asks : (v : Verdict) → OneOf (1 ∷ 2 ∷ 3 ∷ []) (tagOf the-type v) → (count : ℕ) → 0 ≡ bytesFor (verdictOf v) count
+other-asks v o = none-asked (verdictOf v) (other-tag v o)
 
 -- of a job that is stored and measured, and moves that it has
 module _ {l : LoadedJob} {rows plan : List ℕ} (sized : Sized l rows) (entries : EntriesBelow plan (domainIn (l .head) rows .moves)) (list out : List ℕ)
@@ -54,19 +64,38 @@ module _ {l : LoadedJob} {rows plan : List ℕ} (sized : Sized l rows) (entries 
       → Writes SheetIs (record { list = list; output = out }) (passed view) (passed (said (verdictOf v))) (record { list = after; output = out })
   lay-none o e = rw e (not-plan s (other-tag v o))
 
-  module _ {cost need : ℕ} (e : v ≡ Verdict.Plan cost) (n : need ≡ sheetSize (length plan)) where
-    planned : Says Moves view (S.plan cost)
-    planned = rw e at s
+  module _ {need : ℕ} (n : need ≡ bytesFor (verdictOf v) (length plan)) where
+    module _ {cost : ℕ} (e : v ≡ Verdict.Plan cost) where
+      planned : Says Moves view (S.plan cost)
+      planned = rw e at s
 
-    sheet-need : length (sheetOf (domainIn (l .head) rows) plan) ≡ need
-    sheet-need =
-        let m = plan-leads (view .domain) (view .program) planned in
-        sheet-length (view .domain) (stored-bounded (sized .stored)) (sized .stored .job .moves) plan entries (m .1) ∙ sym n
+      pub plan-need : need ≡ sheetSize (length plan)
+      plan-need = n ∙ ap (λ (w : Verdict). bytesFor (verdictOf w) (length plan)) e
 
+      sheet-need : length (sheetOf (domainIn (l .head) rows) plan) ≡ need
+      sheet-need =
+          let m = plan-leads (view .domain) (view .program) planned in
+          sheet-length (view .domain) (stored-bounded (sized .stored)) (sized .stored .job .moves) plan entries (m .1) ∙ sym plan-need
+
+      short-plan : length out < need
+          → Writes SheetIs (record { list = list; output = out }) (passed view) (refused 6 need) (record { list = list; output = out })
+      short-plan h = rw (← sheet-need) (too-short planned refl (omega (arith, sheet-need)))
+
+      pub lay-sheet : need ≤ length out → {after filled : List ℕ} → after ≡ listAfter view list → filled ≡ sets out 0 (sheetOf (domainIn (l .head) rows) plan)
+          → Writes SheetIs (record { list = list; output = out }) (passed view) (passed (wrote need)) (record { list = after; output = filled })
+      lay-sheet h f g = rw (f, g, ← sheet-need) (writes planned refl (omega (arith, sheet-need)))
+
+    -- only a plan needs any bytes
     pub lay-short : length out < need → {r : Refusal} → r ≡ record { number = 6; place = need }
         → Writes SheetIs (record { list = list; output = out }) (passed view) (refused (r .number) (r .place)) (record { list = list; output = out })
-    lay-short h f = rw (f, ← sheet-need) (too-short planned refl (omega (arith, sheet-need)))
+    lay-short h f = rw f (by v refl)
+      where
+        none-needed : {w : Verdict} → v ≡ w → bytesFor (verdictOf w) (length plan) ≡ 0 → ⊥
+        none-needed e z = omega (arith, h, n ∙ ap (λ (u : Verdict). bytesFor (verdictOf u) (length plan)) e, z)
 
-    pub lay-sheet : need ≤ length out → {after filled : List ℕ} → after ≡ listAfter view list → filled ≡ sets out 0 (sheetOf (domainIn (l .head) rows) plan)
-        → Writes SheetIs (record { list = list; output = out }) (passed view) (passed (wrote need)) (record { list = after; output = filled })
-    lay-sheet h f g = rw (f, g, ← sheet-need) (writes planned refl (omega (arith, sheet-need)))
+        by : (w : Verdict) → v ≡ w
+            → Writes SheetIs (record { list = list; output = out }) (passed view) (refused 6 need) (record { list = list; output = out })
+        by (Verdict.Plan c) e = short-plan e h
+        by (Verdict.Blocked i) e = absurd (none-needed e refl)
+        by Verdict.Unfinished e = absurd (none-needed e refl)
+        by Verdict.Missed e = absurd (none-needed e refl)

@@ -4,8 +4,8 @@ use mathlib.Core.Path.{_≡_}
 use mathlib.Core.List.{List}
 use lib.ListN.{length}
 use lib.Seq.{sets}
-use Rattle.semantics.specs.Verdict.{Verdict, plan}
-use Rattle.layout.specs.Sheet.{sheetOf}
+use Rattle.semantics.specs.Verdict.{Verdict, plan, blocked, unfinished, missed}
+use Rattle.layout.specs.Sheet.{sheetOf, sheetSize}
 use Rattle.load.specs.Refusals.{Checked, passed, refused}
 use Rattle.load.specs.View.{View, viewIn}
 use Rattle.load.specs.declared.request.Sort.the-variants.{Moves}
@@ -39,6 +39,13 @@ pub data Writes (Content : View → List ℕ → Type 0) (old : LentOutput) : Ch
 -- "Lay out an accepted plan"
 abbrev pub SheetIs : View → List ℕ → Type 0
 SheetIs v x = x ≡ sheetOf (v .domain) (v .entries)
+
+-- how many bytes of output so many moves ask for after this verdict: what is no plan asks for none
+abbrev pub bytesFor : Verdict → ℕ → ℕ
+bytesFor (plan c) count = sheetSize count
+bytesFor (blocked i) count = 0
+bytesFor unfinished count = 0
+bytesFor missed count = 0
 
 abbrev pub Sheets : Texts → LentOutput → SheetAnswer → LentOutput → Type 0
 Sheets t old answer new = Writes SheetIs old (viewIn (checking Moves t (length (old .list)))) (sheetOutcome answer) new

@@ -1,6 +1,8 @@
 // A plan text laid out as a sheet, by the class costs of a costs text where one is given.
+ghost use mathlib.Core.Path.{_≡_};
 ghost use Prim.Native.Nat.{_*_, _≤_};
 ghost use lib.ListN.{length};
+ghost use Rattle.limits.specs.Limits.{mostEntries};
 ghost use Rattle.job.specs.Store.{jobOf, taskOf};
 ghost use Rattle.domain.specs.Domain.{domainIn};
 ghost use Rattle.domain.specs.Entries.{EntriesBelow};
@@ -11,7 +13,7 @@ ghost use Rattle.load.specs.Loaded.{Sized};
 ghost use Rattle.load.specs.View.{viewOf};
 ghost use Rattle.jesmovit.specs.Outcomes.{sheetOutcome};
 ghost use Rattle.jesmovit.specs.Checking.{Says};
-ghost use Rattle.jesmovit.specs.Writing.{Writes, SheetIs, Sheets};
+ghost use Rattle.jesmovit.specs.Writing.{Writes, bytesFor, SheetIs, Sheets};
 use job::refusal::Refusal;
 use job::rows::STORE;
 use limits::ENTRIES;
@@ -48,6 +50,18 @@ fn move_verdict(job: LoadedJob, rows: &[u16], plan: &[u16]) -> Verdict
     validate::moves::check_moves(head, rows, &steps[0..need], job.sizes.positions, plan)
 }
 
+// How many bytes the output needs after the verdict on so many moves: none for what is no plan.
+fn bytes_needed(verdict: Verdict, count: usize) -> usize
+    requires { ⌜ count ≤ mostEntries ⌝ }
+    ensures { λ r. ⌜ r ≡ bytesFor (verdictOf verdict) count ⌝ }
+{
+    let size = layout::sheet::sheet_size(count);
+    match verdict {
+        Verdict::Plan(_) => size,
+        _ => 0,
+    }
+}
+
 // The sheet of a list of moves, if they are a plan and the output has room. The list is filled once
 // nothing is refused any more.
 fn lay_out(
@@ -65,16 +79,15 @@ fn lay_out(
 {
     let head = job.head;
     let verdict = move_verdict(job, rows, plan);
-    let Verdict::Plan(_) = verdict else {
-        compile::program::compile(head, rows, list);
-        return SheetAnswer::Said(verdict);
-    };
-    let need = layout::sheet::sheet_size(plan.len());
+    let need = bytes_needed(verdict, plan.len());
     if out.len() < need {
         let short = load::room::too_short(need);
         return SheetAnswer::Refused(short);
     }
     compile::program::compile(head, rows, list);
+    let Verdict::Plan(_) = verdict else {
+        return SheetAnswer::Said(verdict);
+    };
     layout::sheet::put_sheet(head, rows, plan, out);
     SheetAnswer::Laid(need)
 }
