@@ -1,28 +1,11 @@
 /* judge JOB PLAN [COSTS]: judges the plan in a file for the job in a file, by the class costs in a file or, where none is named, by the house's; by the
  * library's C interface. */
 #include "jesmovit.h"
+#include "read_file.h"
 #include <stdio.h>
-#include <stdlib.h>
 
 static uint16_t list[4096];
 static uint64_t table[1048576];
-
-/* The bytes of a file; a longer one is refused just as its first 65,536 bytes are. */
-static size_t read_file(const char *path, uint8_t text[65536])
-{
-    FILE *file = fopen(path, "rb");
-    if (!file) {
-        perror(path);
-        exit(2);
-    }
-    size_t length = fread(text, 1, 65536, file);
-    if (ferror(file)) {
-        perror(path);
-        exit(2);
-    }
-    fclose(file);
-    return length;
-}
 
 int main(int count, char **arguments)
 {

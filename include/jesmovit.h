@@ -1,8 +1,8 @@
 /* Jesmovit's operations for C, and for every language that calls C. The library is target/staticlib/libcapi.a, which `rt staticlib capi` builds.
  *
  * Texts are bytes, with no zero at their end; a length counts bytes, numbers of a list or numbers of a table. No pointer is null, not even beside a length
- * of 0; each points to as many numbers as its length says, aligned as C aligns them; and what a call may write (list, table, answer) overlaps nothing else
- * that it is handed. These rules are the caller's, and nothing tests them. No other is: any bytes and any lengths get their answer.
+ * of 0; each points to as many numbers as its length says, aligned as C aligns them; and what a call may write (list, table, output, answer) overlaps
+ * nothing else that it is handed. These rules are the caller's, and nothing tests them. No other is: any bytes and any lengths get their answer.
  *
  * A costs text, the line `costs=16` and a line `c=cost` for each class from 0 to 15, says what the moves of a class cost: 0 to 65,535 tenths of a second.
  * It may be left out: where `given` has the bit JESMOVIT_COSTS_GIVEN it is handed in, and then an empty one is refused; otherwise the house numbers hold, and
@@ -18,13 +18,16 @@
  *   5  the plan text is of wrong form, too long, or has an entry that the job lacks    the line of the plan text
  *   6  the list or the table is too short                              the length needed; where both are, the list's
  *
- * `answer` has room for five numbers, and all five are written. After a refusal they are the place and four zeros, and list and table hold what they held
- * before. Otherwise they are what the function's comment says, and zeros.
+ * The length of an output is looked at last, after the verdict: only for a plan, it is refused by 6 with the bytes needed where it is too short.
+ *
+ * `answer` has room for five numbers, and all five are written. After a refusal they are the place and four zeros, and list, table and output hold what they
+ * held before. Otherwise they are what the function's comment says, and zeros.
  *
  * The list, where there is one, is filled whenever nothing is refused: four numbers for each step of the compiled job, its kind (0 no-op, 1 formula arg
  * holds, 2 formula arg doesn't hold, 3 move arg), the positions that it leads from and to, and its arg. 4,096 numbers are enough for every job. The cost
  * table is filled by jesmovit_least_cost, and by jesmovit_judge for a plan: at state * positions + position the least cost of reaching it, in tenths of a
- * second, or JESMOVIT_UNREACHED. 1,048,576 numbers of 64 bits, 8 MB, are enough for every job. Numbers behind the filled ones keep what they held.
+ * second, or JESMOVIT_UNREACHED. 1,048,576 numbers of 64 bits, 8 MB, are enough for every job. The output of jesmovit_sheet is written for a plan alone;
+ * 124,620 bytes are enough for every plan. Numbers and bytes behind the filled ones keep what they held.
  *
  * Tables once had numbers of 32 bits, under the same names of functions. A caller of then compiles anew with this header, and one that has declarations of its
  * own, in C or another language, changes them: the numbers of a table take twice the bytes, and nothing notices an old declaration.
@@ -48,7 +51,7 @@ extern "C" {
 /* An entry of the cost table for a state and position that can't be reached: 18,446,744,073,709,551,615. */
 #define JESMOVIT_UNREACHED UINT64_MAX
 
-/* What is said of a plan, and of a job's least cost. */
+/* What is said of a plan, of a job's least cost, and of a sheet. */
 enum {
     JESMOVIT_PLAN = 0,       /* a plan, with its cost */
     JESMOVIT_BLOCKED = 1,    /* some run makes the first i entries, none the next one; with i */
@@ -57,7 +60,8 @@ enum {
     JESMOVIT_LEAST = 4,      /* a plan that costs as little as any, with its cost and the least cost, which are equal */
     JESMOVIT_DEARER = 5,     /* a plan that costs more than another, with its cost and the least cost */
     JESMOVIT_COSTS = 6,      /* a job that has plans, with the least cost of them all */
-    JESMOVIT_NONE = 7        /* a job that has no plan, of whatever length */
+    JESMOVIT_NONE = 7,       /* a job that has no plan, of whatever length */
+    JESMOVIT_LAID = 8        /* a plan that is laid out, with the bytes of its sheet */
 };
 
 /* Reads a job text. answer: facts, formulas, moves, effects of all moves, program rows. Refused by 1 to 3. */
@@ -84,6 +88,13 @@ uint32_t jesmovit_least_cost(const uint8_t *job, size_t job_length, const uint8_
  * plan, JESMOVIT_BLOCKED, i and 0, JESMOVIT_UNFINISHED and zeros, or JESMOVIT_MISSED and zeros. The table is filled for a plan alone. Refused by 1 to 7. */
 uint32_t jesmovit_judge(const uint8_t *job, size_t job_length, const uint8_t *plan, size_t plan_length, const uint8_t *costs, size_t costs_length,
                         uint32_t given, uint16_t *list, size_t list_length, uint64_t *table, size_t table_length, uint64_t answer[5]);
+
+/* Lays out a list of moves as a sheet, if it is a plan: lines of 30 bytes and a line feed, 60 to a page, the last page filled with lines of spaces. A line has
+ * the row, from 1, in 5 bytes, two spaces, the move in 3, two spaces, its cost in 7, two spaces, and the costs so far in 9, numbers set right. An empty plan
+ * has no page. answer: JESMOVIT_LAID and the bytes of the sheet; or, for what is no plan, its verdict as from jesmovit_check_moves, with the list filled and
+ * the output untouched; then zeros. Refused by 1 to 7. */
+uint32_t jesmovit_sheet(const uint8_t *job, size_t job_length, const uint8_t *plan, size_t plan_length, const uint8_t *costs, size_t costs_length,
+                        uint32_t given, uint16_t *list, size_t list_length, uint8_t *out, size_t out_length, uint64_t answer[5]);
 
 #ifdef __cplusplus
 }

@@ -1,6 +1,6 @@
 -- A number set right, from its last digit on; and runs of spaces.
 -- Assumes nothing.
-use Prim.Native.Nat.{ℕ, zero, suc, _+_, _-_, _/_, _%_, _≤_, _<_}
+use Prim.Native.Nat.{ℕ, suc, _+_, _-_, _/_, _%_, _≤_, _<_}
 use mathlib.Core.Path.{_≡_, refl, sym, _∙_, ap}
 use mathlib.Core.Bool.{cond}
 use mathlib.Core.List.{List, [], _∷_, _++_, append-assoc}
@@ -24,10 +24,6 @@ spaces-length k = length-replicate k 32
 spaces-more : (k : ℕ) → spaces k ++ (32 ∷ []) ≡ spaces (suc k)
 spaces-more k = replicate-append-replicate k 1 32 ∙ ap spaces (add-one k)
 
-pub column-length : (width n : ℕ) → length (decimal n) ≤ width → length (column width n) ≡ width
-unfolding column
-column-length width n h = length-append (spaces (width - length (decimal n))) (decimal n) ∙ omega (arith, spaces-length (width - length (decimal n)))
-
 -- two spaces in front make a column wider
 pub column-wider : (width n : ℕ) → length (decimal n) ≤ width → spaces 2 ++ column width n ≡ column (2 + width) n
 unfolding column
@@ -35,6 +31,10 @@ column-wider width n h =
     let e : 2 + (width - length (decimal n)) ≡ 2 + width - length (decimal n) = omega arith in
     sym (append-assoc (spaces 2) (spaces (width - length (decimal n))) (decimal n))
     ∙ ap (λ (l : List ℕ). l ++ decimal n) (replicate-append-replicate 2 (width - length (decimal n)) 32 ∙ ap spaces e)
+
+pub column-length : (width n : ℕ) → length (decimal n) ≤ width → length (column width n) ≡ width
+unfolding column
+column-length width n h = length-append (spaces (width - length (decimal n))) (decimal n) ∙ omega (arith, spaces-length (width - length (decimal n)))
 
 column-digit : (k n : ℕ) → n < 10 → column (suc k) n ≡ spaces k ++ ((48 + n) ∷ [])
 unfolding column

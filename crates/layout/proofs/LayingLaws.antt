@@ -21,7 +21,7 @@ use Rattle.domain.specs.Successor.{successorIn}
 use Rattle.domain.specs.declared.Successor.{Successor}
 use Rattle.domain.specs.declared.Successor.the-variants.{To, Inapplicable}
 use Rattle.domain.proofs.DomainLaws.{stored-bounded}
-use Rattle.layout.specs.Sheet.{lineBytes, FitsColumns, planLinesFrom, planLines, pageLines, blankLine, pagesOf, sheetOf}
+use Rattle.layout.specs.Sheet.{lineBytes, FitsColumns, lineAt, planLinesFrom, planLines, pageLines, blankLine, pagesOf, sheetOf}
 use Rattle.layout.specs.declared.line.SheetLine.{SheetLine}
 use Rattle.layout.proofs.LineLaws.{line-length, blank-length}
 use Rattle.layout.proofs.PlanLines.{linesAfter, line-fits, lines-bytes}
@@ -107,7 +107,7 @@ module _ (head : Head) (rows plan : List ℕ) where
         abbrev line : SheetLine
         line = record { row = i + 1; made = m; cost = spent; total = total + spent }
 
-        is-line : record { row = suc i; made = m; cost = E .cost m state; total = total + E .cost m state } ≡ line
+        is-line : lineAt E state i total m ≡ line
         is-line = rw (c, add-one i) refl
 
         pub lining-fits : FitsColumns (record { row = i + 1; made = getD plan i 0; cost = spent; total = total + spent })

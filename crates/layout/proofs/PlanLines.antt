@@ -14,7 +14,7 @@ use Rattle.semantics.specs.Domain.{Domain}
 use Rattle.semantics.proofs.Bounds.{Bounded}
 use Rattle.semantics.proofs.PathLaws.{stateAfter}
 use Rattle.domain.specs.Entries.{EntriesBelow}
-use Rattle.layout.specs.Sheet.{lineBytes, FitsColumns, planLinesFrom, planLines, pageLines, blankLine, pagesOf, sheetOf, sheetSize}
+use Rattle.layout.specs.Sheet.{lineBytes, FitsColumns, lineAt, planLinesFrom, planLines, pageLines, blankLine, pagesOf, sheetOf, sheetSize}
 use Rattle.layout.specs.declared.line.SheetLine.{SheetLine}
 use Rattle.layout.proofs.LineLaws.{within-fits, line-length, blank-length}
 
@@ -38,7 +38,7 @@ lines-count D (m ∷ ms) s n total u e = ap suc (by (D .successor m s) e (λ t f
 module _ (D : Domain) (b : Bounded D mostCost) (few : D .moves ≤ mostMoves) where
   -- the line of move m in state s, behind n lines
   pub line-fits : (s n total m : ℕ) → n < mostEntries → m < D .moves → total ≤ n * mostCost
-      → FitsColumns (record { row = suc n; made = m; cost = D .cost m s; total = total + D .cost m s })
+      → FitsColumns (lineAt D s n total m)
   line-fits s n total m h k t = within-fits (omega arith) (omega arith) (b .costs m s) (omega (arith, b .costs m s))
 
   pub lines-fit : (ms : List ℕ) (s n total : ℕ) → ((i : ℕ) → i < length ms → getD ms i 0 < D .moves) → n + length ms ≤ mostEntries → total ≤ n * mostCost

@@ -21,13 +21,15 @@ pub record FitsColumns (l : SheetLine) : Type 0 where
   pub cost : length (decimal (l .cost)) ≤ 7
   pub total : length (decimal (l .total)) ≤ 9
 
--- a line for each move that is made from state s on, with its cost in the state before it; n lines
--- stand above, and their costs sum to `total`
+-- the line of a move in the state before it: n lines stand above, and their costs sum to `total`
+abbrev pub lineAt : Domain → ℕ → ℕ → ℕ → ℕ → SheetLine
+lineAt D s n total m = record { row = suc n; made = m; cost = D .cost m s; total = total + D .cost m s }
+
+-- a line for each move that is made from state s on
 unfoldable pub planLinesFrom : Domain → ℕ → ℕ → ℕ → List ℕ → List SheetLine
 planLinesFrom D s n total [] = []
 planLinesFrom D s n total (m ∷ ms) =
-    record { row = suc n; made = m; cost = D .cost m s; total = total + D .cost m s }
-    ∷ elim (D .successor m s) [ none ↦ [] | some t ↦ planLinesFrom D t (suc n) (total + D .cost m s) ms ]
+    lineAt D s n total m ∷ elim (D .successor m s) [ none ↦ [] | some t ↦ planLinesFrom D t (suc n) (total + D .cost m s) ms ]
 
 -- of a plan, from the start on
 abbrev pub planLines : Domain → List ℕ → List SheetLine

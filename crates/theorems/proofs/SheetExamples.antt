@@ -1,7 +1,6 @@
 -- Sheets computed from the definitions: the sample's, from the bytes of its texts, and the bytes that
 -- sheets of some numbers of moves have.
 -- Assumes nothing.
-use Prim.Native.Nat.{ℕ}
 use mathlib.Core.Path.{_≡_, refl}
 use mathlib.Core.List.{List, [], _++_, flatten}
 use lib.ListN.{replicate}
@@ -21,11 +20,11 @@ use Rattle.compile.specs.Program.{build, programs}
 use Rattle.compile.specs.CompiledJob.{fits}
 use Rattle.lists.specs.CountedList.{entryIn, countIn, readEntries, readLines, readList}
 use Rattle.layout.specs.Column.{column}
-use Rattle.layout.specs.Sheet.{lineBytes, planLinesFrom, pageLines, blankLine, pagesOf, sheetOf, sheetSize}
+use Rattle.layout.specs.Sheet.{lineBytes, planLinesFrom, blankLine, pagesOf, sheetOf, sheetSize}
 use Rattle.load.specs.Refusals.{passed, next, jobIn, taskIn, textsIn, loading}
-use Rattle.load.specs.View.{View, viewIn}
+use Rattle.load.specs.View.{viewIn}
 use Rattle.load.specs.declared.request.Sort.the-variants.{Moves}
-use Rattle.jesmovit.specs.Texts.{Texts, withoutCosts}
+use Rattle.jesmovit.specs.Texts.{withoutCosts}
 use Rattle.jesmovit.specs.Checking.{checking}
 use Rattle.theorems.specs.MarkedCases.{sample}
 

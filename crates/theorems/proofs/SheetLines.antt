@@ -21,7 +21,7 @@ use Rattle.semantics.proofs.CostLaws.{cost-first, cost-one}
 use Rattle.semantics.proofs.PathLaws.{stateAfter}
 use Rattle.domain.specs.Entries.{EntriesBelow}
 use Rattle.layout.specs.Column.{spaces, column}
-use Rattle.layout.specs.Sheet.{lineBytes, planLinesFrom, planLines, pageLines, blankLine, pagesOf, sheetOf, sheetSize}
+use Rattle.layout.specs.Sheet.{lineBytes, lineAt, planLinesFrom, planLines, pageLines, blankLine, pagesOf, sheetOf, sheetSize}
 use Rattle.layout.specs.declared.line.SheetLine.{SheetLine}
 use Rattle.layout.proofs.PlanLines.{linesAfter, lines-count, page-bytes}
 use Rattle.theorems.specs.LaidOut.{Shows}
@@ -103,7 +103,7 @@ module _ (D : Domain) where
           → ((t : ℕ) → stateAfter D t ms ≡ some u → (j : ℕ) → j < length ms
           → ShowsFrom D t (suc n) (total + D .cost m s) ms j (getD (planLinesFrom D t (suc n) (total + D .cost m s) ms) j noLine))
           → ShowsFrom D s n total (m ∷ ms) i
-          (getD (record { row = suc n; made = m; cost = D .cost m s; total = total + D .cost m s } ∷ linesAfter D (suc n) (total + D .cost m s) ms o) i noLine)
+          (getD (lineAt D s n total m ∷ linesAfter D (suc n) (total + D .cost m s) ms o) i noLine)
       by none f e i h g = never (cc)
       by (some t) f e zero h g =
           let one : cost D s [] + D .cost m s ≡ cost D s (m ∷ []) = omega (arith, cost-none D s, cost-one D s t m f) in

@@ -12,7 +12,7 @@ use Rattle.load.specs.Refusals.{Handed, Checked, passed, refused, Offer, loadin
 use Rattle.load.specs.View.{View, viewOf, viewIn}
 use Rattle.load.specs.declared.request.Sort.the-variants.{Moves}
 use Rattle.jesmovit.specs.Texts.{Texts}
-use Rattle.jesmovit.specs.Outcomes.{WriteOutcome, sheetOutcome}
+use Rattle.jesmovit.specs.Outcomes.{WriteOutcome}
 use Rattle.jesmovit.specs.Checking.{checking}
 use Rattle.jesmovit.specs.Writing.{LentOutput, Writes, refuses, not-plan, too-short, writes, SheetIs, Sheets}
 use Rattle.jesmovit.proofs.AnswerLaws.{viewed, offer-of, view-of}

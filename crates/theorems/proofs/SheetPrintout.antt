@@ -11,7 +11,7 @@ use Rattle.semantics.specs.Plan.{Allowed}
 use Rattle.semantics.specs.Verdict.{Verdict}
 use Rattle.layout.specs.Sheet.{sheetOf, sheetSize}
 use Rattle.load.specs.Refusals.{Offer}
-use Rattle.load.specs.View.{viewOf, viewIn}
+use Rattle.load.specs.View.{viewOf}
 use Rattle.load.specs.declared.request.Sort.the-variants.{Moves}
 use Rattle.jesmovit.specs.Texts.{Texts}
 use Rattle.jesmovit.specs.Checking.{checking}

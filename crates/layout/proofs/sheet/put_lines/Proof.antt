@@ -1,8 +1,7 @@
-use Prim.Native.Nat.{_-_, _≤_}
-use mathlib.Core.Path.{_≡_, _∙_}
+use Prim.Native.Nat.{_-_}
+use mathlib.Core.Path.{_∙_}
 use native.Mathlib.Omega.{arith}
 use lib.ListN.{length}
-use Rattle.limits.specs.Limits.{mostFormulas}
 use Rattle.layout.proofs.LayingLaws.{Lining, lining-start, lining-fits, lining-stop, lining-more, lining-end}
 use borrow.Author.Needs.{needs}
 use Rattle.layout.proofs.sheet.put_lines.Statement.{statement}
