@@ -71,7 +71,8 @@ module _ (k rest : ℕ) where
 number-last : (k n : ℕ) → leading k (n / 10) ++ ((48 + n % 10) ∷ []) ≡ column (suc k) n
 number-last k n = elim (decLt n 10) [
   | yes h ↦ (let e : n % 10 ≡ n = omega arith in
-      ap (λ (l : List ℕ). l ++ ((48 + n % 10) ∷ [])) (leading-none k (n / 10) (omega arith)) ∙ ap (λ (d : ℕ). spaces k ++ ((48 + d) ∷ [])) e ∙ sym (column-digit k n h))
+      ap (λ (l : List ℕ). l ++ ((48 + n % 10) ∷ [])) (leading-none k (n / 10) (omega arith))
+      ∙ ap (λ (d : ℕ). spaces k ++ ((48 + d) ∷ [])) e ∙ sym (column-digit k n h))
   | no h ↦ ap (λ (l : List ℕ). l ++ ((48 + n % 10) ∷ [])) (leading-some k (n / 10) (omega arith)) ∙ sym (column-tens k n (omega arith))
 ]
 

@@ -21,15 +21,15 @@ use Rattle.domain.specs.Successor.{successorIn}
 use Rattle.domain.specs.declared.Successor.{Successor}
 use Rattle.domain.specs.declared.Successor.the-variants.{To, Inapplicable}
 use Rattle.domain.proofs.DomainLaws.{stored-bounded}
-use Rattle.layout.specs.Sheet.{lineBytes, FitsColumns, lineAt, planLinesFrom, planLines, pageLines, blankLine, pagesOf, sheetOf}
+use Rattle.layout.specs.Sheet.{lineSize, lineBytes, FitsColumns, lineAt, planLinesFrom, planLines, pageLines, blankLine, pagesOf, sheetOf}
 use Rattle.layout.specs.declared.line.SheetLine.{SheetLine}
-use Rattle.layout.proofs.LineLaws.{line-length, blank-length}
+use Rattle.layout.proofs.LineLaws.{WholeLine, line-length, blank-length}
 use Rattle.layout.proofs.PlanLines.{linesAfter, line-fits, lines-bytes}
 
 -- what is to be written from line i on is what was to be written from the first line on
 pub record Laying (first : ℕ) (all rest : List (List ℕ)) (old out : List ℕ) (i : ℕ) : Type 0 where
   pub size : length out ≡ length old
-  pub laid : sets out (i * 31) (flatten rest) ≡ sets old (first * 31) (flatten all)
+  pub laid : sets out (i * lineSize) (flatten rest) ≡ sets old (first * lineSize) (flatten all)
   pub count : i + length rest ≡ first + length all
 
 pub laying-start : (first : ℕ) (all : List (List ℕ)) (old : List ℕ) → Laying first all all old old first
@@ -37,18 +37,18 @@ laying-start first all old = record { size = refl; laid = refl; count = refl }
 
 -- one line of 31 bytes
 pub laying-more : {first i : ℕ} {all : List (List ℕ)} {old out new : List ℕ} (l : List ℕ) (rest : List (List ℕ)) → Laying first all (l ∷ rest) old out i
-    → length l ≡ 31 → new ≡ sets out (i * 31) l → Laying first all rest old new (i + 1)
+    → WholeLine l → new ≡ sets out (i * lineSize) l → Laying first all rest old new (i + 1)
 unfolding flatten
 laying-more {first} {i} {out = out} {new} l rest x h e =
-    let at : (i + 1) * 31 ≡ i * 31 + length l = omega (arith, h) in
+    let at : (i + 1) * lineSize ≡ i * lineSize + length l = omega (arith, h) in
     record {
-      size = ap length e ∙ length-sets out (i * 31) l ∙ x .size;
-      laid = sets-on out l (flatten rest) (i * 31) ((i + 1) * 31) e at refl ∙ x .laid;
+      size = ap length e ∙ length-sets out (i * lineSize) l ∙ x .size;
+      laid = sets-on out l (flatten rest) (i * lineSize) ((i + 1) * lineSize) e at refl ∙ x .laid;
       count = omega (arith, x .count);
     }
 
 pub laying-end : {first i : ℕ} {all : List (List ℕ)} {old out : List ℕ} → Laying first all [] old out i
-    → (out ≡ sets old (first * 31) (flatten all)) × (i ≡ first + length all)
+    → (out ≡ sets old (first * lineSize) (flatten all)) × (i ≡ first + length all)
 unfolding flatten
 laying-end x = (x .laid, omega (arith, x .count))
 
@@ -65,7 +65,7 @@ module _ (first end : ℕ) where
   filling-start old h = record { laying = laying-start first _ old; within = h }
 
   module _ {old out : List ℕ} {i : ℕ} (x : Filling old out i) where
-    pub filling-more : i < end → {new : List ℕ} → new ≡ sets out (i * 31) blankLine → Filling old new (i + 1)
+    pub filling-more : i < end → {new : List ℕ} → new ≡ sets out (i * lineSize) blankLine → Filling old new (i + 1)
     filling-more h e =
         let one : end - i ≡ suc (end - (i + 1)) = omega arith in
         record {
@@ -74,7 +74,7 @@ module _ (first end : ℕ) where
           within = omega arith;
         }
 
-    pub filling-end : end ≤ i → out ≡ sets old (first * 31) (flatten (replicate (end - first) blankLine))
+    pub filling-end : end ≤ i → out ≡ sets old (first * lineSize) (flatten (replicate (end - first) blankLine))
     filling-end h =
         let none-left : end - i ≡ 0 = omega arith in
         laying-end (subst (λ (k : ℕ). Laying first (blanks (end - first)) (blanks k) old out i) none-left (x .laying)) .0
@@ -86,7 +86,8 @@ module _ (head : Head) (rows plan : List ℕ) where
 
   -- i lines are written, whose costs sum to `total`, and the moves have led to this state
   pub record Lining (old out : List ℕ) (state total i : ℕ) : Type 0 where
-    pub laying : Laying 0 (map lineBytes (planLines (domainIn head rows) plan)) (map lineBytes (planLinesFrom (domainIn head rows) state i total (drop i plan))) old out i
+    pub laying : Laying 0 (map lineBytes (planLines (domainIn head rows) plan))
+        (map lineBytes (planLinesFrom (domainIn head rows) state i total (drop i plan))) old out i
     pub state-below : state < domainIn head rows .states
     pub total-within : total ≤ i * mostCost
     pub within : i ≤ length plan
@@ -122,10 +123,11 @@ module _ (head : Head) (rows plan : List ℕ) where
         unfolding planLinesFrom
         unfolded = ap (planLinesFrom E state i total) (drop-cons plan i 0 h) ∙ ap (λ (l : SheetLine). l ∷ left) is-line
 
-        module _ {new : List ℕ} (e : new ≡ sets out (i * 31) (lineBytes line)) where
+        module _ {new : List ℕ} (e : new ≡ sets out (i * lineSize) (lineBytes line)) where
           put : Laying 0 (map lineBytes (planLines E plan)) (map lineBytes left) old new (i + 1)
-          put = laying-more (lineBytes line) (map lineBytes left)
-              (subst (λ (ls : List SheetLine). Laying 0 (map lineBytes (planLines E plan)) (map lineBytes ls) old out i) unfolded (x .laying)) (line-length line lining-fits) e
+          put =
+              let here = subst (λ (ls : List SheetLine). Laying 0 (map lineBytes (planLines E plan)) (map lineBytes ls) old out i) unfolded (x .laying) in
+              laying-more (lineBytes line) (map lineBytes left) here (line-length line lining-fits) e
 
           -- the move is not applicable, and its line the last
           pub lining-stop : {a : Successor} → a ≡ Inapplicable → successorIn a ≡ E .successor m state
@@ -156,13 +158,13 @@ module _ (head : Head) (rows plan : List ℕ) where
     -- and lines of spaces behind them, to the end of the last page
     module _ (entries : EntriesBelow plan (E .moves)) where
       pub sheet-laid : (old : List ℕ) {mid new : List ℕ} {count : ℕ} → mid ≡ sets old 0 (flatten (map lineBytes (planLines E plan)))
-          → count ≡ length (planLines E plan) → new ≡ sets mid (count * 31) (flatten (replicate (pageLines count - count) blankLine))
+          → count ≡ length (planLines E plan) → new ≡ sets mid (count * lineSize) (flatten (replicate (pageLines count - count) blankLine))
           → new ≡ sets old 0 (sheetOf E plan)
       unfolding sheetOf pagesOf
       sheet-laid old {count = count} e n f =
           let ls : List (List ℕ) = map lineBytes (planLines E plan) in
           let k : length (map lineBytes (planLines E plan)) ≡ count = length-map (planLines E plan) lineBytes ∙ sym n in
-          sets-on old (flatten ls) (flatten (replicate (pageLines count - count) blankLine)) 0 (count * 31) e
+          sets-on old (flatten ls) (flatten (replicate (pageLines count - count) blankLine)) 0 (count * lineSize) e
           (omega (arith, lines-bytes E b (stored .job .moves) plan entries, n)) f
           ∙ ap (sets old 0) (sym (flatten-append ls (replicate (pageLines count - count) blankLine))
           ∙ ap (λ (j : ℕ). flatten (ls ++ replicate (pageLines j - j) blankLine)) (sym k))

@@ -11,9 +11,13 @@ use Rattle.limits.specs.Limits.{mostMoves, mostCost, mostEntries}
 use Rattle.text.specs.Written.{decimal}
 use Rattle.text.proofs.DecimalLaws.{decimal-short}
 use Rattle.layout.specs.Column.{spaces, column}
-use Rattle.layout.specs.Sheet.{lineBytes, FitsColumns, blankLine}
+use Rattle.layout.specs.Sheet.{lineSize, lineBytes, FitsColumns, blankLine}
 use Rattle.layout.specs.declared.line.SheetLine.{SheetLine}
 use Rattle.layout.proofs.ColumnLaws.{spaces-length, column-length, column-wider}
+
+-- "exactly 30 bytes and a line feed"
+abbrev pub WholeLine : List ℕ → Type 0
+WholeLine l = length l ≡ lineSize
 
 -- each number fits its column, by the limits of plans, moves and costs
 pub within-fits : {l : SheetLine} → l .row ≤ mostEntries → l .made < mostMoves → l .cost ≤ mostCost → l .total ≤ mostEntries * mostCost → FitsColumns l
@@ -57,7 +61,7 @@ module _ (l : SheetLine) (f : FitsColumns l) where
   four-length : length four ≡ 30
   four-length = length-append three (column 11 (l .total)) ∙ omega (arith, three-length, column-length 11 (l .total) (omega (arith, f .total)))
 
-  pub line-length : length (lineBytes l) ≡ 31
+  pub line-length : WholeLine (lineBytes l)
   line-length = ap length (sym as-written) ∙ length-append four (10 ∷ []) ∙ omega (arith, four-length)
 
   -- four columns and the line feed, one after another
@@ -71,7 +75,7 @@ module _ (l : SheetLine) (f : FitsColumns l) where
       sets-on old four (10 ∷ []) at (at + 30) z (omega (arith, four-length)) en ∙ ap (sets old at) as-written
 
 -- a line of spaces
-pub blank-length : length blankLine ≡ 31
+pub blank-length : WholeLine blankLine
 unfolding blankLine
 blank-length = refl
 

@@ -14,16 +14,16 @@ use Rattle.semantics.specs.Domain.{Domain}
 use Rattle.semantics.proofs.Bounds.{Bounded}
 use Rattle.semantics.proofs.PathLaws.{stateAfter}
 use Rattle.domain.specs.Entries.{EntriesBelow}
-use Rattle.layout.specs.Sheet.{lineBytes, FitsColumns, lineAt, planLinesFrom, planLines, pageLines, blankLine, pagesOf, sheetOf, sheetSize}
+use Rattle.layout.specs.Sheet.{lineSize, lineBytes, FitsColumns, lineAt, planLinesFrom, planLines, pageLines, blankLine, pagesOf, sheetOf, sheetSize}
 use Rattle.layout.specs.declared.line.SheetLine.{SheetLine}
-use Rattle.layout.proofs.LineLaws.{within-fits, line-length, blank-length}
+use Rattle.layout.proofs.LineLaws.{WholeLine, within-fits, line-length, blank-length}
 
 -- the lines of the moves behind one, from the state after it, where there is one
 abbrev pub linesAfter : Domain → ℕ → ℕ → List ℕ → Option ℕ → List SheetLine
 linesAfter D n total ms o = elim o [ none ↦ [] | some t ↦ planLinesFrom D t n total ms ]
 
 -- a list of moves that can be made has a line for each
-pub lines-count : (D : Domain) (ms : List ℕ) (s n total u : ℕ) → stateAfter D s ms ≡ some u → length (planLinesFrom D s n total ms) ≡ length ms
+lines-count : (D : Domain) (ms : List ℕ) (s n total u : ℕ) → stateAfter D s ms ≡ some u → length (planLinesFrom D s n total ms) ≡ length ms
 unfolding planLinesFrom stateAfter
 lines-count D [] s n total u e = refl
 lines-count D (m ∷ ms) s n total u e = ap suc (by (D .successor m s) e (λ t f. lines-count D ms t (suc n) (total + D .cost m s) u f))
@@ -34,14 +34,23 @@ lines-count D (m ∷ ms) s n total u e = ap suc (by (D .successor m s) e (λ t f
     by none f g = never (cc)
     by (some t) f g = g t f
 
+-- so its pages have the lines of each that is begun
+pub pages-count : (D : Domain) (ms : List ℕ) {u : ℕ} → stateAfter D (D .start) ms ≡ some u
+    → length (pagesOf (map lineBytes (planLines D ms))) ≡ pageLines (length ms)
+unfolding pagesOf
+pages-count D ms {u} made =
+    let ls : List (List ℕ) = map lineBytes (planLines D ms) in
+    let n : ℕ = pageLines (length ls) - length ls in
+    let k : length (map lineBytes (planLines D ms)) ≡ length ms = length-map (planLines D ms) lineBytes ∙ lines-count D ms (D .start) 0 0 u made in
+    length-append ls (replicate n blankLine) ∙ omega (arith, length-replicate n blankLine, k)
+
 -- a domain whose moves and costs fit the columns
 module _ (D : Domain) (b : Bounded D mostCost) (few : D .moves ≤ mostMoves) where
   -- the line of move m in state s, behind n lines
-  pub line-fits : (s n total m : ℕ) → n < mostEntries → m < D .moves → total ≤ n * mostCost
-      → FitsColumns (lineAt D s n total m)
+  pub line-fits : (s n total m : ℕ) → n < mostEntries → m < D .moves → total ≤ n * mostCost → FitsColumns (lineAt D s n total m)
   line-fits s n total m h k t = within-fits (omega arith) (omega arith) (b .costs m s) (omega (arith, b .costs m s))
 
-  pub lines-fit : (ms : List ℕ) (s n total : ℕ) → ((i : ℕ) → i < length ms → getD ms i 0 < D .moves) → n + length ms ≤ mostEntries → total ≤ n * mostCost
+  lines-fit : (ms : List ℕ) (s n total : ℕ) → ((i : ℕ) → i < length ms → getD ms i 0 < D .moves) → n + length ms ≤ mostEntries → total ≤ n * mostCost
       → All FitsColumns (planLinesFrom D s n total ms)
   unfolding planLinesFrom
   lines-fit [] s n total below h t = tt
@@ -57,31 +66,27 @@ module _ (D : Domain) (b : Bounded D mostCost) (few : D .moves ≤ mostMoves) wh
       by (some u) f = f u
 
   module _ (ms : List ℕ) (e : EntriesBelow ms (D .moves)) where
-    pub all-fit : All FitsColumns (planLines D ms)
+    all-fit : All FitsColumns (planLines D ms)
     all-fit = lines-fit ms (D .start) 0 0 (e .below) (omega (arith, e .few)) (omega arith)
 
     -- each line of a sheet has 31 bytes
-    pub line-bytes : All (λ (l : List ℕ). length l ≡ 31) (map lineBytes (planLines D ms))
-    line-bytes = all-map lineBytes (λ (l : List ℕ). length l ≡ 31) (planLines D ms)
-        (all-so FitsColumns (λ (l : SheetLine). length (lineBytes l) ≡ 31) line-length (planLines D ms) all-fit)
+    line-bytes : All WholeLine (map lineBytes (planLines D ms))
+    line-bytes = all-map lineBytes WholeLine (planLines D ms)
+        (all-so FitsColumns (λ (l : SheetLine). WholeLine (lineBytes l)) line-length (planLines D ms) all-fit)
 
-    pub lines-bytes : length (flatten (map lineBytes (planLines D ms))) ≡ length (planLines D ms) * 31
-    lines-bytes = flatten-length 31 (map lineBytes (planLines D ms)) line-bytes ∙ ap (λ (k : ℕ). k * 31) (length-map (planLines D ms) lineBytes)
+    pub lines-bytes : length (flatten (map lineBytes (planLines D ms))) ≡ length (planLines D ms) * lineSize
+    lines-bytes = flatten-length lineSize (map lineBytes (planLines D ms)) line-bytes ∙ ap (λ (k : ℕ). k * lineSize) (length-map (planLines D ms) lineBytes)
 
     -- with lines of spaces to the end of the last page
-    pub page-bytes : All (λ (l : List ℕ). length l ≡ 31) (pagesOf (map lineBytes (planLines D ms)))
+    pub page-bytes : All WholeLine (pagesOf (map lineBytes (planLines D ms)))
     unfolding pagesOf
     page-bytes =
         let ls : List (List ℕ) = map lineBytes (planLines D ms) in
         let n : ℕ = pageLines (length ls) - length ls in
-        all-both (λ (l : List ℕ). length l ≡ 31) ls (replicate n blankLine) line-bytes (all-same (λ (l : List ℕ). length l ≡ 31) n blankLine blank-length)
+        all-both WholeLine ls (replicate n blankLine) line-bytes (all-same WholeLine n blankLine blank-length)
 
     -- of moves that can be made, a sheet has the bytes that so many take
     pub sheet-length : {u : ℕ} → stateAfter D (D .start) ms ≡ some u → length (sheetOf D ms) ≡ sheetSize (length ms)
-    unfolding sheetOf pagesOf
-    sheet-length {u} made =
-        let ls : List (List ℕ) = map lineBytes (planLines D ms) in
-        let n : ℕ = pageLines (length ls) - length ls in
-        let k : length (map lineBytes (planLines D ms)) ≡ length ms = length-map (planLines D ms) lineBytes ∙ lines-count D ms (D .start) 0 0 u made in
-        flatten-length 31 (pagesOf ls) page-bytes
-        ∙ ap (λ (j : ℕ). j * 31) (length-append ls (replicate n blankLine) ∙ omega (arith, length-replicate n blankLine, k))
+    unfolding sheetOf
+    sheet-length made =
+        flatten-length lineSize (pagesOf (map lineBytes (planLines D ms))) page-bytes ∙ ap (λ (j : ℕ). j * lineSize) (pages-count D ms made)

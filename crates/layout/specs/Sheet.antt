@@ -8,8 +8,16 @@ use Rattle.semantics.specs.Domain.{Domain}
 use Rattle.layout.specs.Column.{spaces, column}
 use Rattle.layout.specs.declared.line.SheetLine.{SheetLine}
 
--- "lines of exactly 30 bytes and a line feed" (byte 10): "row from 1 in 5 columns, two spaces, move
--- in 3, two spaces, cost in 7, two spaces, running total in 9"
+-- "lines of exactly 30 bytes and a line feed"
+abbrev pub lineSize : ℕ
+lineSize = 31
+
+-- "A page has 60 lines"
+abbrev pub pageSize : ℕ
+pageSize = 60
+
+-- "row from 1 in 5 columns, two spaces, move in 3, two spaces, cost in 7, two spaces, running total
+-- in 9", and the line feed (byte 10)
 unfoldable pub lineBytes : SheetLine → List ℕ
 lineBytes l =
     column 5 (l .row) ++ spaces 2 ++ column 3 (l .made) ++ spaces 2 ++ column 7 (l .cost) ++ spaces 2 ++ column 9 (l .total) ++ (10 ∷ [])
@@ -35,9 +43,10 @@ planLinesFrom D s n total (m ∷ ms) =
 abbrev pub planLines : Domain → List ℕ → List SheetLine
 planLines D ms = planLinesFrom D (D .start) 0 0 ms
 
--- how many lines the pages of so many rows have: "A page has 60 lines", "an empty plan has no page"
+-- how many lines the pages of so many rows have: those of each page that is begun; "an empty plan
+-- has no page"
 abbrev pub pageLines : ℕ → ℕ
-pageLines n = (n + 59) / 60 * 60
+pageLines n = (n + (pageSize - 1)) / pageSize * pageSize
 
 -- a line of spaces
 unfoldable pub blankLine : List ℕ
@@ -53,4 +62,4 @@ sheetOf D ms = flatten (pagesOf (map lineBytes (planLines D ms)))
 
 -- how many there are, of so many moves
 abbrev pub sheetSize : ℕ → ℕ
-sheetSize n = pageLines n * 31
+sheetSize n = pageLines n * lineSize

@@ -8,7 +8,7 @@ ghost use Rattle.limits.specs.Limits.{mostEntries};
 ghost use Rattle.job.specs.Stored.{Stored};
 ghost use Rattle.domain.specs.Domain.{domainIn};
 ghost use Rattle.domain.specs.Entries.{EntriesBelow};
-ghost use Rattle.layout.specs.Sheet.{lineBytes, planLines, pageLines, blankLine, sheetOf, sheetSize};
+ghost use Rattle.layout.specs.Sheet.{lineSize, lineBytes, planLines, pageLines, blankLine, sheetOf, sheetSize};
 use crate::line::LINE;
 use crate::line::SheetLine;
 use crate::line::put_blank;
@@ -41,7 +41,7 @@ pub fn sheet_size(count: usize) -> usize
 // Writes a line for each move, as long as moves are applicable, and answers how many.
 fn put_lines(head: Head, rows: &[u16], plan: &[u16], out: &mut [u8]) -> usize
     requires { ⌜ Stored head (now rows) ⌝ }
-    requires { ⌜ EntriesBelow (now plan) (domainIn head (now rows) .moves) × (length (now plan) * 31 ≤ length (now out)) ⌝ }
+    requires { ⌜ EntriesBelow (now plan) (domainIn head (now rows) .moves) × (length (now plan) * lineSize ≤ length (now out)) ⌝ }
     ensures { λ r. ⌜ (now (out .exit) ≡ sets (now (out .entry)) 0 (flatten (map lineBytes (planLines (domainIn head (now (rows .entry))) (now (plan .entry))))))
         × (r ≡ length (planLines (domainIn head (now (rows .entry))) (now (plan .entry)))) × (r ≤ length (now (plan .entry))) ⌝ }
 {
@@ -74,7 +74,7 @@ fn put_lines(head: Head, rows: &[u16], plan: &[u16], out: &mut [u8]) -> usize
 // Fills the last page of so many lines with lines of spaces.
 fn fill_page(out: &mut [u8], count: usize)
     requires { ⌜ (count ≤ mostEntries) × (sheetSize count ≤ length (now out)) ⌝ }
-    ensures { λ _. ⌜ now (out .exit) ≡ sets (now (out .entry)) (count * 31) (flatten (replicate (pageLines count - count) blankLine)) ⌝ }
+    ensures { λ _. ⌜ now (out .exit) ≡ sets (now (out .entry)) (count * lineSize) (flatten (replicate (pageLines count - count) blankLine)) ⌝ }
 {
     let end = page_lines(count);
     let mut i = count;

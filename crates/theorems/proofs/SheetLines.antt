@@ -7,7 +7,7 @@ use mathlib.Core.Bool.{true}
 use mathlib.Core.Option.{Option, none, some}
 use mathlib.Core.List.{List, [], _∷_, _++_, map, flatten}
 use native.Mathlib.Omega.{arith}
-use lib.ListN.{length, getD, take, replicate, length-append, length-map, length-replicate}
+use lib.ListN.{length, getD, take, replicate}
 use Rattle.laws.proofs.Tests.{never}
 use Rattle.laws.proofs.Each.{All, all-any, all-both, all-same, all-map}
 use Rattle.limits.specs.Limits.{mostMoves, mostCost, mostEntries}
@@ -23,7 +23,8 @@ use Rattle.domain.specs.Entries.{EntriesBelow}
 use Rattle.layout.specs.Column.{spaces, column}
 use Rattle.layout.specs.Sheet.{lineBytes, lineAt, planLinesFrom, planLines, pageLines, blankLine, pagesOf, sheetOf, sheetSize}
 use Rattle.layout.specs.declared.line.SheetLine.{SheetLine}
-use Rattle.layout.proofs.PlanLines.{linesAfter, lines-count, page-bytes}
+use Rattle.layout.proofs.LineLaws.{WholeLine}
+use Rattle.layout.proofs.PlanLines.{linesAfter, pages-count, page-bytes}
 use Rattle.theorems.specs.LaidOut.{Shows}
 use Rattle.theorems.proofs.TextLaws.{Once, lines-flatten}
 
@@ -65,17 +66,12 @@ module _ (D : Domain) (ms : List ℕ) where
 
   module _ (b : Bounded D mostCost) (few : D .moves ≤ mostMoves) (e : EntriesBelow ms (D .moves)) where
     -- "lines of exactly 30 bytes and a line feed"
-    pub sheet-line-bytes : All (λ (l : List ℕ). length l ≡ 31) (lines (sheetOf D ms))
-    sheet-line-bytes = subst (All (λ (l : List ℕ). length l ≡ 31)) (sym sheet-lines) (page-bytes D b few ms e)
+    pub sheet-line-bytes : All WholeLine (lines (sheetOf D ms))
+    sheet-line-bytes = subst (All WholeLine) (sym sheet-lines) (page-bytes D b few ms e)
 
   -- "A page has 60 lines"
   pub sheet-pages : {u : ℕ} → stateAfter D (D .start) ms ≡ some u → length (lines (sheetOf D ms)) ≡ pageLines (length ms)
-  unfolding pagesOf
-  sheet-pages {u} made =
-      let ls : List (List ℕ) = map lineBytes (planLines D ms) in
-      let k : length (map lineBytes (planLines D ms)) ≡ length ms = length-map (planLines D ms) lineBytes ∙ lines-count D ms (D .start) 0 0 u made in
-      let n : ℕ = pageLines (length ls) - length ls in
-      ap length sheet-lines ∙ length-append ls (replicate n blankLine) ∙ omega (arith, length-replicate n blankLine, k)
+  sheet-pages made = ap length sheet-lines ∙ pages-count D ms made
 
 -- the lines of moves that are made from state s on, behind n lines whose costs sum to `total`
 record ShowsFrom (D : Domain) (s n total : ℕ) (ms : List ℕ) (i : ℕ) (l : SheetLine) : Type 0 where

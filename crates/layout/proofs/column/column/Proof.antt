@@ -9,7 +9,9 @@ sub-last : tie.Need-sub-last
 sub-last c = omega (arith, decimal-some (c .before .args .n))
 
 leading-requires : tie.Need-leading-requires
-leading-requires c κs = (omega (arith, c .before .before .pre .0), tenth-within (c .before .before .args .width) (c .before .before .args .n) (c .before .before .pre .1))
+leading-requires c κs =
+    let at2 = c .before .before in
+    (omega (arith, at2 .pre .0), tenth-within (at2 .args .width) (at2 .args .n) (at2 .pre .1))
 
 slice-write-out : tie.Need-slice-write-out
 slice-write-out c = omega (arith, c .before .before .leading .kept .0, decimal-some (c .before .before .before .before .before .args .n))

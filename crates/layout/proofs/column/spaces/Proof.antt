@@ -19,16 +19,19 @@ loop-holds : tie.Need-loop-holds Inv-loop μ-loop
 loop-holds c = (omega arith, refl, refl)
 
 loop-again : tie.Need-loop-again Inv-loop μ-loop
-loop-again c = (
-  omega arith,
-  simp length-set (c .before .loop .inv .1),
-  ap (λ x. set x (c .before .before .args .at + c .before .loop .k) 32) (c .before .loop .inv .2) ∙ spaced-more (c .before .before .args .out .now) (c .before .before .args .at) (c .before .loop .k),
-)
+loop-again c =
+    let o = c .before .before .args in
+    let l = c .before .loop in (
+      omega arith,
+      simp length-set (l .inv .1),
+      ap (λ x. set x (o .at + l .k) 32) (l .inv .2) ∙ spaced-more (o .out .now) (o .at) (l .k),
+    )
 
 returns : tie.Need-returns Inv-loop μ-loop
 returns c =
-    let e : c .before .loop .k ≡ c .before .before .args .count = omega arith in
-    c .before .loop .inv .2 ∙ ap (λ j. sets (c .before .before .args .out .now) (c .before .before .args .at) (spaces j)) e
+    let o = c .before .before .args in
+    let e : c .before .loop .k ≡ o .count = omega arith in
+    c .before .loop .inv .2 ∙ ap (λ j. sets (o .out .now) (o .at) (spaces j)) e
 
 pub spaces-spec : {M : Type 1} → statement M
 spaces-spec =

@@ -18,7 +18,8 @@ returns c =
     let at10 = at6 .before .before .before .before in
     let at14 = at10 .before .before .before .before in
     let at17 = at14 .before .before .before in
-    line-laid (at17 .args .line) (at17 .pre .1) (at17 .args .out .now) (at17 .args .at) (at14 .column .ensures) (at10 .column2 .ensures) (at6 .column3 .ensures) (c .before .before .column4 .ensures) refl
+    line-laid (at17 .args .line) (at17 .pre .1) (at17 .args .out .now) (at17 .args .at)
+    (at14 .column .ensures) (at10 .column2 .ensures) (at6 .column3 .ensures) (c .before .before .column4 .ensures) refl
 
 pub put-line-spec : {M : Type 1} → statement M
 put-line-spec =

@@ -3,7 +3,7 @@ use mathlib.Core.Path.{_∙_, ap}
 use mathlib.Core.List.{flatten}
 use lib.ListN.{replicate}
 use lib.Seq.{sets}
-use Rattle.layout.specs.Sheet.{blankLine}
+use Rattle.layout.specs.Sheet.{lineSize, blankLine}
 use native.Mathlib.Omega.{arith}
 use Rattle.layout.proofs.LayingLaws.{Filling, filling-start, filling-more, filling-end}
 use borrow.Author.Needs.{needs}
@@ -17,7 +17,9 @@ abbrev μ-loop : tie.MeasureT-loop
 μ-loop out₀ count end i₀ out i = end - i
 
 loop-holds : tie.Need-loop-holds Inv-loop μ-loop
-loop-holds c = filling-start (c .before .before .args .count) (c .page-lines .result) (c .before .before .args .out .now) (omega (arith, c .page-lines .ensures))
+loop-holds c =
+    let o = c .before .before .args in
+    filling-start (o .count) (c .page-lines .result) (o .out .now) (omega (arith, c .page-lines .ensures))
 
 mul-put-blank : tie.Need-mul-put-blank Inv-loop μ-loop
 mul-put-blank c = omega (arith, c .before .before .before .page-lines .ensures, c .before .before .before .before .before .pre .0)
@@ -46,9 +48,10 @@ same-length c = c .before .loop .inv .laying .size
 
 returns : tie.Need-returns Inv-loop μ-loop
 returns c =
-    let at4 = c .before .before .before .before in
-    filling-end (at4 .args .count) (c .before .before .page-lines .result) (c .before .loop .inv) (omega arith)
-    ∙ ap (λ e. sets (at4 .args .out .now) (at4 .args .count * 31) (flatten (replicate (e - at4 .args .count) blankLine))) (c .before .before .page-lines .ensures)
+    let at2 = c .before .before in
+    let o = at2 .before .before .args in
+    filling-end (o .count) (at2 .page-lines .result) (c .before .loop .inv) (omega arith)
+    ∙ ap (λ e. sets (o .out .now) (o .count * lineSize) (flatten (replicate (e - o .count) blankLine))) (at2 .page-lines .ensures)
 
 pub fill-page-spec : {M : Type 1} → statement M
 fill-page-spec =

@@ -15,13 +15,15 @@ returns-2 : tie.Need-returns-2
 returns-2 c =
     let at5 = c .before .before .before .before .before in
     let at8 = at5 .before .before .before in
-    put-prints (omega arith) (put-as 64 (sym (ap (λ a. sheetPrintout a (at8 .args .out .now)) (at5 .answer2 .given .1))) (omega arith) (c .before .before .verdict .ensures))
+    put-prints (omega arith)
+    (put-as 64 (sym (ap (λ a. sheetPrintout a (at8 .args .out .now)) (at5 .answer2 .given .1))) (omega arith) (c .before .before .verdict .ensures))
 
 returns-3 : tie.Need-returns-3
 returns-3 c =
     let at5 = c .before .before .before .before .before in
     let at8 = at5 .before .before .before in
-    put-prints (omega arith) (put-as 64 (sym (ap (λ a. sheetPrintout a (at8 .args .out .now)) (at5 .answer3 .given .1))) (omega arith) (c .before .before .refusal .ensures))
+    put-prints (omega arith)
+    (put-as 64 (sym (ap (λ a. sheetPrintout a (at8 .args .out .now)) (at5 .answer3 .given .1))) (omega arith) (c .before .before .refusal .ensures))
 
 pub sheet-spec : {M : Type 1} → statement M
 sheet-spec =
