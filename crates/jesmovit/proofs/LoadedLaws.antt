@@ -13,10 +13,10 @@ use Rattle.job.specs.Stored.{Stored}
 use Rattle.job.specs.declared.refusal.Refusal.{Refusal}
 use Rattle.semantics.specs.CompilingTable.{flat}
 use Rattle.domain.specs.Domain.{domainIn}
+use Rattle.domain.specs.Entries.{EntriesBelow}
 use Rattle.compile.specs.CompiledJob.{stepsOf, stepCount, fits}
 use Rattle.lists.proofs.ListTold.{plan-told}
 use Rattle.compiled.specs.Ready.{Ready}
-use Rattle.domain.specs.Entries.{EntriesBelow}
 use Rattle.load.specs.Refusals.{Handed, passed, refused, Offer, keyFor, boundFor, textsIn, listNeed, tableNeed, loading}
 use Rattle.load.specs.Loaded.{loadedAs, Sized, Fitting, Loads, loadRefusal}
 use Rattle.load.specs.View.{View, viewOf, viewIn}

@@ -15,11 +15,11 @@ use Rattle.semantics.specs.StepVerdict.{stepVerdict}
 use Rattle.semantics.proofs.CheckLaws.{verdict-by-judged}
 use Rattle.semantics.proofs.StepVerdictLaws.{step-verdict-judged}
 use Rattle.domain.specs.Domain.{domainIn}
+use Rattle.domain.specs.Entries.{EntriesBelow}
 use Rattle.compile.specs.Program.{programOf}
 use Rattle.compile.specs.CompiledJob.{stepsOf}
 use Rattle.compiled.specs.Ready.{Ready}
 use Rattle.compiled.proofs.ReadyLaws.{final-below}
-use Rattle.domain.specs.Entries.{EntriesBelow}
 use Rattle.load.specs.Refusals.{boundFor}
 use Rattle.load.specs.View.{viewOf}
 use Rattle.load.specs.declared.request.Sort.{Sort}

@@ -1,7 +1,7 @@
 // Plan texts checked against job texts, by the class costs of a costs text where one is given.
 ghost use Rattle.job.specs.Store.{jobOf, taskOf};
-ghost use Rattle.compiled.specs.Ready.{Ready};
 ghost use Rattle.domain.specs.Entries.{EntriesBelow};
+ghost use Rattle.compiled.specs.Ready.{Ready};
 ghost use Rattle.validate.specs.Verdict.{verdictOf};
 ghost use Rattle.load.specs.Refusals.{boundFor};
 ghost use Rattle.load.specs.View.{viewOf};

@@ -1,5 +1,5 @@
-use Rattle.jesmovit.proofs.WritingLaws.{lay-none, plan-need, lay-short, lay-sheet}
 use native.Mathlib.Omega.{arith}
+use Rattle.jesmovit.proofs.WritingLaws.{lay-none, plan-need, lay-short, lay-sheet}
 use borrow.Author.Needs.{needs}
 use Rattle.jesmovit.proofs.laying.lay_out.Statement.{statement}
 use Rattle.jesmovit.proofs.laying.lay_out.Tie as tie

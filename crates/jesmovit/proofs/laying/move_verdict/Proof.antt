@@ -1,6 +1,6 @@
 use mathlib.Core.Path.{refl}
-use Rattle.jesmovit.proofs.FrontLaws.{own-room, own-fits, own-ready}
 use native.Mathlib.Omega.{arith}
+use Rattle.jesmovit.proofs.FrontLaws.{own-room, own-fits, own-ready}
 use Rattle.jesmovit.proofs.SaysLaws.{says-moves}
 use borrow.Author.Needs.{needs}
 use Rattle.jesmovit.proofs.laying.move_verdict.Statement.{statement}

@@ -1,6 +1,6 @@
-use Rattle.layout.proofs.ColumnLaws.{decimal-some, tenth-within, column-laid}
-use native.Mathlib.Omega.{arith}
 use mathlib.Core.Path.{refl}
+use native.Mathlib.Omega.{arith}
+use Rattle.layout.proofs.ColumnLaws.{decimal-some, tenth-within, column-laid}
 use borrow.Author.Needs.{needs}
 use Rattle.layout.proofs.column.column.Statement.{statement}
 use Rattle.layout.proofs.column.column.Tie as tie

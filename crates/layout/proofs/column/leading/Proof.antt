@@ -1,5 +1,5 @@
-use Rattle.layout.proofs.ColumnLaws.{Setting, setting-start, setting-more, setting-end}
 use native.Mathlib.Omega.{arith}
+use Rattle.layout.proofs.ColumnLaws.{Setting, setting-start, setting-more, setting-end}
 use borrow.Author.Needs.{needs}
 use Rattle.layout.proofs.column.leading.Statement.{statement}
 use Rattle.layout.proofs.column.leading.Tie as tie

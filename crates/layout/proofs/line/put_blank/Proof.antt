@@ -1,5 +1,5 @@
-use Rattle.layout.proofs.LineLaws.{blank-laid}
 use mathlib.Core.Path.{refl}
+use Rattle.layout.proofs.LineLaws.{blank-laid}
 use borrow.Author.Needs.{needs}
 use Rattle.layout.proofs.line.put_blank.Statement.{statement}
 use Rattle.layout.proofs.line.put_blank.Tie as tie

@@ -1,5 +1,5 @@
-use lib.ListN.{length-set}
 use mathlib.Core.Path.{refl, _∙_}
+use lib.ListN.{length-set}
 use Rattle.layout.proofs.LineLaws.{line-laid}
 use borrow.Author.Needs.{needs}
 use Rattle.layout.proofs.line.put_line.Statement.{statement}

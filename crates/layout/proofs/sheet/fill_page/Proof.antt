@@ -1,10 +1,10 @@
 use Prim.Native.Nat.{_-_, _*_}
 use mathlib.Core.Path.{_∙_, ap}
 use mathlib.Core.List.{flatten}
+use native.Mathlib.Omega.{arith}
 use lib.ListN.{replicate}
 use lib.Seq.{sets}
 use Rattle.layout.specs.Sheet.{lineSize, blankLine}
-use native.Mathlib.Omega.{arith}
 use Rattle.layout.proofs.LayingLaws.{Filling, filling-start, filling-more, filling-end}
 use borrow.Author.Needs.{needs}
 use Rattle.layout.proofs.sheet.fill_page.Statement.{statement}

@@ -1,5 +1,5 @@
-use Rattle.report.proofs.PutLaws.{held-within, held-all}
 use native.Mathlib.Omega.{arith}
+use Rattle.report.proofs.PutLaws.{held-within, held-all}
 use Rattle.report.proofs.printouts.held.Statement.{statement}
 use Rattle.report.proofs.printouts.held.Tie as tie
 

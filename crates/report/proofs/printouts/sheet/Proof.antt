@@ -1,7 +1,7 @@
-use native.Mathlib.Omega.{arith}
 use mathlib.Core.Path.{sym, ap}
-use Rattle.report.proofs.PutLaws.{put-as, put-prints, prints-as}
+use native.Mathlib.Omega.{arith}
 use Rattle.report.specs.Printout.{sheetPrintout}
+use Rattle.report.proofs.PutLaws.{put-as, put-prints, prints-as}
 use borrow.Author.Needs.{needs}
 use Rattle.report.proofs.printouts.sheet.Statement.{statement}
 use Rattle.report.proofs.printouts.sheet.Tie as tie
