@@ -26,8 +26,15 @@ int main(int count, char **arguments)
         return 1;
     }
     if (answer[0] != JESMOVIT_LAID) {
-        fprintf(stderr, "no plan: %s\n", words[answer[0]]);
+        fprintf(stderr, "no plan: %s", words[answer[0]]);
+        if (answer[0] == JESMOVIT_BLOCKED)
+            fprintf(stderr, " at %llu", (unsigned long long)answer[1]);
+        fprintf(stderr, "\n");
         return 1;
     }
-    return fwrite(sheet, 1, answer[1], stdout) == answer[1] ? 0 : 2;
+    if (fwrite(sheet, 1, answer[1], stdout) != answer[1] || fflush(stdout)) {
+        perror("standard output");
+        return 2;
+    }
+    return 0;
 }

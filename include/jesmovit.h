@@ -18,7 +18,7 @@
  *   5  the plan text is of wrong form, too long, or has an entry that the job lacks    the line of the plan text
  *   6  the list or the table is too short                              the length needed; where both are, the list's
  *
- * The length of an output is looked at last, after the verdict: only for a plan, it is refused by 6 with the bytes needed where it is too short.
+ * An output's length is looked at last, after the verdict and for a plan alone: one that is too short is refused by 6 too, with the bytes needed.
  *
  * `answer` has room for five numbers, and all five are written. After a refusal they are the place and four zeros, and list, table and output hold what they
  * held before. Otherwise they are what the function's comment says, and zeros.
@@ -94,7 +94,7 @@ uint32_t jesmovit_judge(const uint8_t *job, size_t job_length, const uint8_t *pl
  * has no page. answer: JESMOVIT_LAID and the bytes of the sheet; or, for what is no plan, its verdict as from jesmovit_check_moves, with the list filled and
  * the output untouched; then zeros. Refused by 1 to 7. */
 uint32_t jesmovit_sheet(const uint8_t *job, size_t job_length, const uint8_t *plan, size_t plan_length, const uint8_t *costs, size_t costs_length,
-                        uint32_t given, uint16_t *list, size_t list_length, uint8_t *out, size_t out_length, uint64_t answer[5]);
+                        uint32_t given, uint16_t *list, size_t list_length, uint8_t *output, size_t output_length, uint64_t answer[5]);
 
 #ifdef __cplusplus
 }

@@ -7,7 +7,7 @@ use crate::lent::Lengths;
 /// By how many numbers a list or table may be longer than needed.
 const MORE: usize = 8;
 
-/// By how many bytes an output may be: two pages have room in it.
+/// By how many bytes an output may be longer than needed; two pages have room in them.
 const MORE_BYTES: usize = 4000;
 
 /// A cost table of more numbers is filled once only by each operation.

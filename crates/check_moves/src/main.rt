@@ -1,10 +1,8 @@
 // check_moves JOB PLAN [COSTS]: the verdict on a list of moves against the program of the job, each
 // text in the file that its argument names (job.txt and plan.txt without one), or the refusal.
 // Without COSTS, or with `-`, the house's class costs hold.
+use limits::LIST;
 use load::request::Given;
-
-// How many numbers the list of steps holds.
-const LIST: usize = limits::STEPS * 4;
 
 fn main() {
     let mut text = io::large_buffer();

@@ -1,10 +1,8 @@
 // check_steps JOB PLAN [COSTS]: the verdict on a list of steps against the compiled job, each text
 // in the file that its argument names (job.txt and plan.txt without one), or the refusal. Without
 // COSTS, or with `-`, the house's class costs hold.
+use limits::LIST;
 use load::request::Given;
-
-// How many numbers the list of steps holds.
-const LIST: usize = limits::STEPS * 4;
 
 fn main() {
     let mut text = io::large_buffer();

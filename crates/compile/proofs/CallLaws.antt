@@ -12,7 +12,7 @@ use Rattle.semantics.specs.Program.{Program}
 use Rattle.compile.specs.Program.{rowProgram}
 use Rattle.compile.specs.Construct.{RowSays}
 use Rattle.compile.specs.Size.{sizesOf, sizesIn}
-use Rattle.compile.specs.Laid.{Wrote, Enough}
+use Rattle.compile.specs.Laid.{StepsLaid, Enough}
 use Rattle.compile.specs.declared.rows.Simple.{Simple}
 use Rattle.compile.specs.declared.rows.Guard.{Guard}
 use Rattle.compile.specs.declared.rows.Construct.{Construct}
@@ -20,7 +20,7 @@ use Rattle.compile.specs.declared.rows.Construct.the-variants.{Leaf, Any
 use Rattle.compile.specs.declared.sizes.Sizes.{Sizes}
 use Rattle.compile.specs.declared.steps.Cursor.{Cursor}
 use Rattle.compile.proofs.SizeLaws.{row-sizes}
-use Rattle.compile.proofs.WroteLaws.{next, wrote-end}
+use Rattle.compile.proofs.StepsLaidLaws.{next, wrote-end}
 
 module _ (h : Head) (l : List ℕ) where
   abbrev pub of : ℕ → Program
@@ -63,7 +63,7 @@ module _ {h : Head} {l : List ℕ} {i t places : ℕ} {from : Cursor} (p : (i �
     pub seq-first : (a < t) × Fit h l a from places
     seq-first = let q = room (Seq a b) s in call (s .earlier .0) refl (record { positions = omega (arith, q .0); room = omega (arith, q .1) })
 
-    pub seq-second : {old mid : List ℕ} {x : Cursor} {z : ℕ} → z ≡ places → Wrote (h .counts .moves) (of h l a) old from mid x → (b < t) × Fit h l b x z
+    pub seq-second : {old mid : List ℕ} {x : Cursor} {z : ℕ} → z ≡ places → StepsLaid (h .counts .moves) (of h l a) old from mid x → (b < t) × Fit h l b x z
     seq-second e w =
         let q = room (Seq a b) s in
         let v = wrote-end w in
@@ -73,7 +73,7 @@ module _ {h : Head} {l : List ℕ} {i t places : ℕ} {from : Cursor} (p : (i �
     pub branch-first : (a < t) × Fit h l a (next from) places
     branch-first = let q = room (Branch g a b) s in call (s .earlier .0) refl (record { positions = omega (arith, q .0); room = omega (arith, q .1) })
 
-    module _ {old mid : List ℕ} {c : Cursor} (w : Wrote (h .counts .moves) (of h l a) old (next from) mid c) where
+    module _ {old mid : List ℕ} {c : Cursor} (w : StepsLaid (h .counts .moves) (of h l a) old (next from) mid c) where
       pub branch-next : c .position < 65535
       branch-next = omega (arith, room (Branch g a b) s .0, wrote-end w .0)
 
@@ -83,7 +83,7 @@ module _ {h : Head} {l : List ℕ} {i t places : ℕ} {from : Cursor} (p : (i �
           let v = wrote-end w in
           call (s .earlier .1) e (record { positions = omega (arith, q .0, v .0); room = omega (arith, q .1, v .1) })
 
-      pub branch-ok : {new : List ℕ} {d : Cursor} {z : ℕ} → z ≡ places → Wrote (h .counts .moves) (of h l b) mid (next c) new d
+      pub branch-ok : {new : List ℕ} {d : Cursor} {z : ℕ} → z ≡ places → StepsLaid (h .counts .moves) (of h l b) mid (next c) new d
           → (d .at + 16 ≤ z) × (from .position < 65535) × (c .position < 65535) × (d .position < 65535)
       branch-ok e u =
           let q = room (Branch g a b) s in
@@ -95,7 +95,7 @@ module _ {h : Head} {l : List ℕ} {i t places : ℕ} {from : Cursor} (p : (i �
     pub loop-first : (a < t) × Fit h l a (next from) places
     loop-first = let q = room (Loop g a) s in call (s .earlier) refl (record { positions = omega (arith, q .0); room = omega (arith, q .1) })
 
-    pub loop-ok : {old mid : List ℕ} {c : Cursor} {z : ℕ} → z ≡ places → Wrote (h .counts .moves) (of h l a) old (next from) mid c
+    pub loop-ok : {old mid : List ℕ} {c : Cursor} {z : ℕ} → z ≡ places → StepsLaid (h .counts .moves) (of h l a) old (next from) mid c
         → (c .at + 12 ≤ z) × (from .position < 65535) × (c .position < 65535)
     loop-ok e w =
         let q = room (Loop g a) s in

@@ -20,7 +20,7 @@ use Rattle.semantics.specs.CompilingTable.{end, steps, flat}
 use Rattle.compile.specs.Program.{rowProgram, programOf}
 use Rattle.compile.specs.CompiledJob.{stepsOf, positionCount, stepCount, fits}
 use Rattle.compile.specs.Size.{sizesOf, capped, cappedSizes, listed}
-use Rattle.compile.specs.Laid.{Wrote, Enough}
+use Rattle.compile.specs.Laid.{StepsLaid, Enough}
 use Rattle.compile.specs.declared.sizes.Sizes.{Sizes}
 use Rattle.compile.specs.declared.steps.Cursor.{Cursor}
 use Rattle.compile.proofs.SizeLaws.{Listed, listed-last}
@@ -64,7 +64,7 @@ module _ (h : Head) (l : List ℕ) where
     room = omega (arith, g, step-count);
   })
 
-  pub all-written : {old new : List ℕ} {to : Cursor} → Wrote M (rowProgram (j .program) (h .counts .program - 1)) old start new to
+  pub all-written : {old new : List ℕ} {to : Cursor} → StepsLaid M (rowProgram (j .program) (h .counts .program - 1)) old start new to
       → new ≡ sets old 0 (flat (stepsOf j))
   all-written {old} {new} {to} w =
       w .laid .list ∙ ap (λ (σ : Program). sets old 0 (flat (steps M σ 0))) (sym last-row)

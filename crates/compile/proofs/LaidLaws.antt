@@ -12,17 +12,17 @@ use Rattle.semantics.specs.Label as L
 use Rattle.semantics.proofs.FlatLaws.{flat-append, flat-length}
 use Rattle.semantics.specs.CompilingTable.{Step, arc, flat, moveSteps, branchSteps, whileSteps, starSteps}
 use Rattle.compile.specs.Construct.{firstLabel, secondLabel}
-use Rattle.compile.specs.Laid.{labelNumbers, guardNumbers, Laid}
+use Rattle.compile.specs.Laid.{labelNumbers, guardNumbers, LaidOver}
 use Rattle.compile.specs.declared.rows.Guard.{Guard}
 use Rattle.compile.specs.declared.rows.Guard.the-variants.{Free, On}
 use Rattle.compile.specs.declared.steps.StepLabel.{StepLabel}
 use Rattle.compile.specs.declared.steps.Labels.{Labels}
 use Rattle.compile.proofs.SizeLaws.{moves-count}
 
-pub laid-none : (l : List ℕ) (at : ℕ) → Laid [] l at l at
+pub laid-none : (l : List ℕ) (at : ℕ) → LaidOver [] l at l at
 laid-none l at = record { list = refl; place = omega arith }
 
-pub laid-append : {v w old mid new : List ℕ} {at at₁ at₂ : ℕ} → Laid v old at mid at₁ → Laid w mid at₁ new at₂ → Laid (v ++ w) old at new at₂
+pub laid-append : {v w old mid new : List ℕ} {at at₁ at₂ : ℕ} → LaidOver v old at mid at₁ → LaidOver w mid at₁ new at₂ → LaidOver (v ++ w) old at new at₂
 laid-append {v} {w} {old} {mid} {new} {at} {at₁} {at₂} x y = record {
   list = y .list ∙ ap (λ (l : List ℕ). sets l at₁ w) (x .list) ∙ ap (λ (k : ℕ). sets (sets old at v) k w) (x .place) ∙ sym (sets-append old at v w);
   place = omega (arith, x .place, y .place, length-append v w);

@@ -2,6 +2,6 @@ pub mod ProgramLaws
 pub mod SizeLaws
 pub mod LaidLaws
 pub mod Shapes
-pub mod WroteLaws
+pub mod StepsLaidLaws
 pub mod CallLaws
 pub mod FitLaws

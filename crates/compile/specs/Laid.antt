@@ -23,14 +23,14 @@ abbrev pub guardNumbers : Guard → Labels
 guardNumbers g = record { first = kindOf (firstLabel g); second = kindOf (secondLabel g); arg = argOf (firstLabel g) }
 
 -- v over the list from a place on; then comes the next place
-pub record Laid (v old : List ℕ) (at : ℕ) (new : List ℕ) (next : ℕ) : Type 0 where
+pub record LaidOver (v old : List ℕ) (at : ℕ) (new : List ℕ) (next : ℕ) : Type 0 where
   pub list : new ≡ sets old at v
   pub place : next ≡ at + length v
 
 -- the steps of a program that is compiled from the cursor's position, at its place; then comes the
 -- cursor after them
-pub record Wrote (moves : ℕ) (σ : Program) (old : List ℕ) (from : Cursor) (new : List ℕ) (to : Cursor) : Type 0 where
-  pub laid : Laid (flat (steps moves σ (from .position))) old (from .at) new (to .at)
+pub record StepsLaid (moves : ℕ) (σ : Program) (old : List ℕ) (from : Cursor) (new : List ℕ) (to : Cursor) : Type 0 where
+  pub laid : LaidOver (flat (steps moves σ (from .position))) old (from .at) new (to .at)
   pub ends : to .position ≡ end σ (from .position)
 
 -- there are positions and places left for all of them

@@ -9,7 +9,7 @@ ghost use Rattle.job.specs.Stored.{Stored};
 ghost use Rattle.semantics.specs.CompilingTable.{flat};
 ghost use Rattle.compile.specs.Program.{rowProgram};
 ghost use Rattle.compile.specs.CompiledJob.{stepsOf, stepCount, fits};
-ghost use Rattle.compile.specs.Laid.{Wrote, Enough};
+ghost use Rattle.compile.specs.Laid.{StepsLaid, Enough};
 use crate::rows::Construct;
 use crate::steps::Cursor;
 use job::head::Head;
@@ -19,7 +19,7 @@ fn compile_row(head: Head, rows: &[u16], i: u16, list: &mut [u16], from: Cursor)
     requires { ⌜ Stored head (now rows) ⌝ }
     requires { ⌜ i < head .counts .program ⌝ }
     requires { ⌜ Enough (head .counts .moves) (rowProgram (jobOf head (now rows) .program) i) from (length (now list)) ⌝ }
-    ensures { λ r. ⌜ Wrote (head .counts .moves) (rowProgram (jobOf head (now (rows .entry)) .program) i) (now (list .entry)) from (now (list .exit)) r ⌝ }
+    ensures { λ r. ⌜ StepsLaid (head .counts .moves) (rowProgram (jobOf head (now (rows .entry)) .program) i) (now (list .entry)) from (now (list .exit)) r ⌝ }
 {
     let construct = crate::rows::construct_at(head, rows, i);
     let n = from.position;

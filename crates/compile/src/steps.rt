@@ -5,7 +5,7 @@ ghost use Prim.Native.Nat.{_+_, _*_, _≤_, _<_};
 ghost use lib.ListN.{length};
 ghost use Rattle.semantics.specs.CompilingTable.{arc, flat, moveSteps, branchSteps, whileSteps, starSteps};
 ghost use Rattle.compile.specs.Construct.{leafLabel, firstLabel, secondLabel, loopSteps};
-ghost use Rattle.compile.specs.Laid.{labelNumbers, guardNumbers, Laid};
+ghost use Rattle.compile.specs.Laid.{labelNumbers, guardNumbers, LaidOver};
 use crate::rows::Guard;
 use crate::rows::Simple;
 
@@ -17,7 +17,7 @@ pub struct Cursor {
 
 fn put_step(list: &mut [u16], at: usize, kind: u16, from: u16, to: u16, arg: u16) -> usize
     requires { ⌜ at + 4 ≤ length (now list) ⌝ }
-    ensures { λ r. ⌜ Laid (kind ∷ from ∷ to ∷ arg ∷ []) (now (list .entry)) at (now (list .exit)) r ⌝ }
+    ensures { λ r. ⌜ LaidOver (kind ∷ from ∷ to ∷ arg ∷ []) (now (list .entry)) at (now (list .exit)) r ⌝ }
 {
     list[at] = kind;
     list[at + 1] = from;
@@ -69,7 +69,7 @@ fn guard_labels(guard: Guard) -> Labels
 // One step to the next position.
 pub fn leaf_step(list: &mut [u16], from: Cursor, simple: Simple) -> Cursor
     requires { ⌜ (from .at + 4 ≤ length (now list)) × (from .position < 65535) ⌝ }
-    ensures { λ r. ⌜ Laid (flat (arc (leafLabel simple) (from .position) (from .position + 1) ∷ [])) (now (list .entry)) (from .at) (now (list .exit))
+    ensures { λ r. ⌜ LaidOver (flat (arc (leafLabel simple) (from .position) (from .position + 1) ∷ [])) (now (list .entry)) (from .at) (now (list .exit))
         (r .at) × (r .position ≡ from .position + 1) ⌝ }
 {
     let n = from.position;
@@ -84,7 +84,7 @@ pub fn leaf_step(list: &mut [u16], from: Cursor, simple: Simple) -> Cursor
 // A step to the next position for each move.
 pub fn any_steps(list: &mut [u16], from: Cursor, moves: u16) -> Cursor
     requires { ⌜ (from .at + moves * 4 ≤ length (now list)) × (from .position < 65535) ⌝ }
-    ensures { λ r. ⌜ Laid (flat (moveSteps moves 0 (from .position))) (now (list .entry)) (from .at) (now (list .exit)) (r .at) ×
+    ensures { λ r. ⌜ LaidOver (flat (moveSteps moves 0 (from .position))) (now (list .entry)) (from .at) (now (list .exit)) (r .at) ×
         (r .position ≡ from .position + 1) ⌝ }
 {
     let n = from.position;
@@ -103,7 +103,7 @@ pub fn any_steps(list: &mut [u16], from: Cursor, moves: u16) -> Cursor
 // The steps after two branches, which end at p and at q.
 pub fn branch_steps(list: &mut [u16], at: usize, n: u16, p: u16, q: u16, guard: Guard) -> Cursor
     requires { ⌜ (at + 16 ≤ length (now list)) × (n < 65535) × (p < 65535) × (q < 65535) ⌝ }
-    ensures { λ r. ⌜ Laid (flat (branchSteps (firstLabel guard) (secondLabel guard) n p q)) (now (list .entry)) at (now (list .exit)) (r .at) ×
+    ensures { λ r. ⌜ LaidOver (flat (branchSteps (firstLabel guard) (secondLabel guard) n p q)) (now (list .entry)) at (now (list .exit)) (r .at) ×
         (r .position ≡ q + 1) ⌝ }
 {
     let x = guard_labels(guard);
@@ -120,7 +120,7 @@ pub fn branch_steps(list: &mut [u16], at: usize, n: u16, p: u16, q: u16, guard: 
 // The steps of a while after its body, which ends at p.
 fn while_steps(list: &mut [u16], at: usize, n: u16, p: u16, a: u16) -> Cursor
     requires { ⌜ (at + 12 ≤ length (now list)) × (n < 65535) × (p < 65535) ⌝ }
-    ensures { λ r. ⌜ Laid (flat (whileSteps a n p)) (now (list .entry)) at (now (list .exit)) (r .at) × (r .position ≡ p + 1) ⌝ }
+    ensures { λ r. ⌜ LaidOver (flat (whileSteps a n p)) (now (list .entry)) at (now (list .exit)) (r .at) × (r .position ≡ p + 1) ⌝ }
 {
     let at1 = put_step(list, at, 1, n, n + 1, a);
     let at2 = put_step(list, at1, 2, n, p + 1, a);
@@ -134,7 +134,7 @@ fn while_steps(list: &mut [u16], at: usize, n: u16, p: u16, a: u16) -> Cursor
 // The steps of a star after its body, which ends at p.
 fn star_steps(list: &mut [u16], at: usize, n: u16, p: u16) -> Cursor
     requires { ⌜ (at + 12 ≤ length (now list)) × (n < 65535) × (p < 65535) ⌝ }
-    ensures { λ r. ⌜ Laid (flat (starSteps n p)) (now (list .entry)) at (now (list .exit)) (r .at) × (r .position ≡ p + 1) ⌝ }
+    ensures { λ r. ⌜ LaidOver (flat (starSteps n p)) (now (list .entry)) at (now (list .exit)) (r .at) × (r .position ≡ p + 1) ⌝ }
 {
     let at1 = put_step(list, at, 0, n, n + 1, 0);
     let at2 = put_step(list, at1, 0, p, n, 0);
@@ -148,7 +148,7 @@ fn star_steps(list: &mut [u16], at: usize, n: u16, p: u16) -> Cursor
 // The steps of a loop after its part, which ends at p.
 pub fn loop_steps(list: &mut [u16], at: usize, n: u16, p: u16, guard: Guard) -> Cursor
     requires { ⌜ (at + 12 ≤ length (now list)) × (n < 65535) × (p < 65535) ⌝ }
-    ensures { λ r. ⌜ Laid (flat (loopSteps guard n p)) (now (list .entry)) at (now (list .exit)) (r .at) × (r .position ≡ p + 1) ⌝ }
+    ensures { λ r. ⌜ LaidOver (flat (loopSteps guard n p)) (now (list .entry)) at (now (list .exit)) (r .at) × (r .position ≡ p + 1) ⌝ }
 {
     match guard {
         Guard::Free => star_steps(list, at, n, p),

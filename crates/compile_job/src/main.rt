@@ -1,8 +1,6 @@
 // compile_job JOB: the positions and steps of the compiled job in the file that the argument names
 // (job.txt without one), or its refusal.
-
-// How many numbers the list of steps holds.
-const LIST: usize = limits::STEPS * 4;
+use limits::LIST;
 
 fn main() {
     let mut text = io::large_buffer();

@@ -12,12 +12,16 @@ use Rattle.jesmovit.specs.Answers.{Answers, does, refuses}
 abbrev pub viewed : Checked Offer → Checked View
 viewed c = next c (λ o. passed (viewOf o))
 
+-- what holds of what was loaded holds of its view
+pub of-loaded : (h : Handed) (P : Checked View → Type 0) {c : Checked Offer} → c ≡ loading h → P (viewed c) → P (viewIn h)
+of-loaded h P e x = subst (λ (c : Checked Offer). P (viewed c)) e x
+
 module _ {B C : Type 0} {Does : View → B → C → C → Type 0} {old : C} (h : Handed) where
   pub answer-refused : {number place : ℕ} → refused number place ≡ loading h → Answers Does old (viewIn h) (refused number place) old
-  answer-refused {number} {place} e = subst (λ (c : Checked Offer). Answers Does old (viewed c) (refused number place) old) e refuses
+  answer-refused {number} {place} e = of-loaded h (λ (c : Checked View). Answers Does old c (refused number place) old) e refuses
 
   pub answer-done : {o : Offer} → passed o ≡ loading h → {b : B} {new : C} → Does (viewOf o) b old new → Answers Does old (viewIn h) (passed b) new
-  answer-done e {b} {new} x = subst (λ (c : Checked Offer). Answers Does old (viewed c) (passed b) new) e (does x)
+  answer-done e {b} {new} x = of-loaded h (λ (c : Checked View). Answers Does old c (passed b) new) e (does x)
 
 -- what an answer to something that passes is
 pub record Answered {A B C : Type 0} (Does : A → B → C → C → Type 0) (a : A) (old : C) (outcome : Checked B) (new : C) : Type 0 where

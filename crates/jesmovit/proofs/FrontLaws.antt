@@ -1,11 +1,12 @@
 -- The front of a list that is filled with a job's steps is what checks and the search ask for.
 -- Assumes nothing.
-use Prim.Native.Nat.{ℕ, _+_, _-_, _*_, _≤_}
+use Prim.Native.Nat.{ℕ, _-_, _*_, _≤_}
 use mathlib.Core.Path.{_≡_, _∙_, ap}
 use mathlib.Core.List.{List}
 use native.Mathlib.Omega.{arith}
-use lib.ListN.{length, take, drop, replicate, length-replicate}
-use lib.Seq.{sets, sets-eq, take-append-seam}
+use lib.ListN.{length, take, replicate, length-replicate}
+use lib.Seq.{sets}
+use Rattle.laws.proofs.Lists.{sets-front}
 use Rattle.limits.specs.Limits.{mostSteps}
 use Rattle.job.specs.Store.{jobOf}
 use Rattle.semantics.specs.CompilingTable.{Step, flat}
@@ -22,11 +23,10 @@ pub part-front : (k : ℕ) (l : List ℕ) → take (k - 0) l ≡ take k l
 part-front k l = let e : k - 0 ≡ k = omega arith in ap (λ (i : ℕ). take i l) e
 
 -- a list's front after filling: the steps, and nothing else
-front-flat : (L : List Step) (list : List ℕ) {after : List ℕ} {need : ℕ} → need ≡ length L * 4 → need ≤ length list → after ≡ sets list 0 (flat L)
+pub front-flat : (L : List Step) (list : List ℕ) {after : List ℕ} {need : ℕ} → need ≡ length L * 4 → need ≤ length list → after ≡ sets list 0 (flat L)
     → take need after ≡ flat L
 front-flat L list {need = need} e long f =
-    let g : need ≡ length (flat L) = omega (arith, flat-length L) in
-    rw (f, g, sets-eq (flat L) list 0 (omega (arith, g))) (take-append-seam (flat L) (drop (0 + length (flat L)) list))
+    let g : need ≡ length (flat L) = omega (arith, flat-length L) in rw (f, g) (sets-front (flat L) list (omega (arith, g)))
 
 -- of a job that is stored and measured
 module _ {l : LoadedJob} {rows : List ℕ} (sized : Sized l rows) (list : List ℕ) (long : stepCount (jobOf (l .head) rows) * 4 ≤ length list)

@@ -1,7 +1,7 @@
 -- What is promised of what is written for a plan, from the chain of reasons and the verdict.
 -- Assumes nothing.
 use Prim.Native.Nat.{ℕ, _≤_, _<_}
-use mathlib.Core.Path.{_≡_, refl, sym, _∙_, ap, subst}
+use mathlib.Core.Path.{_≡_, refl, sym, _∙_, ap}
 use mathlib.Core.List.{List, [], _∷_}
 use native.Mathlib.Omega.{arith}
 use lib.ListN.{length}
@@ -29,16 +29,16 @@ use Rattle.jesmovit.specs.Outcomes.{WriteOutcome, wrote, said}
 use Rattle.jesmovit.specs.Compiling.{listAfter}
 use Rattle.jesmovit.specs.Checking.{Says}
 use Rattle.jesmovit.specs.Writing.{LentOutput, Writes, refuses, not-plan, too-short, writes, bytesFor, SheetIs}
-use Rattle.jesmovit.proofs.AnswerLaws.{viewed}
+use Rattle.jesmovit.proofs.AnswerLaws.{of-loaded}
 use Rattle.jesmovit.proofs.JudgeLaws.{other-tag}
 
 module _ {Content : View → List ℕ → Type 0} {old : LentOutput} (h : Handed) where
   pub write-refused : {number place : ℕ} → refused number place ≡ loading h → Writes Content old (viewIn h) (refused number place) old
-  write-refused {number} {place} e = subst (λ (c : Checked Offer). Writes Content old (viewed c) (refused number place) old) e refuses
+  write-refused {number} {place} e = of-loaded h (λ (c : Checked View). Writes Content old c (refused number place) old) e refuses
 
   pub write-passed : {o : Offer} → passed o ≡ loading h → {d : Checked WriteOutcome} {new : LentOutput} → Writes Content old (passed (viewOf o)) d new
       → Writes Content old (viewIn h) d new
-  write-passed e {d} {new} x = subst (λ (c : Checked Offer). Writes Content old (viewed c) d new) e x
+  write-passed e {d} {new} x = of-loaded h (λ (c : Checked View). Writes Content old c d new) e x
 
 -- what is no plan asks for no bytes
 none-asked : (w : S.Verdict) → ((c : ℕ) → w ≡ S.plan c → ⊥) → (count : ℕ) → 0 ≡ bytesFor w count
@@ -55,9 +55,6 @@ module _ {l : LoadedJob} {rows plan : List ℕ} (sized : Sized l rows) (entries 
     (v : Verdict) (s : Says Moves (viewOf (record { task = taskOf (l .head) rows; entries = plan })) (verdictOf v)) where
   abbrev view : View
   view = viewOf (record { task = taskOf (l .head) rows; entries = plan })
-
-  abbrev lent : LentOutput
-  lent = record { list = list; output = out }
 
   -- a verdict of another tag: nothing is laid out
   pub lay-none : OneOf (1 ∷ 2 ∷ 3 ∷ []) (tagOf the-type v) → {after : List ℕ} → after ≡ listAfter view list

@@ -40,12 +40,13 @@ pub data Writes (Content : View → List ℕ → Type 0) (old : LentOutput) : Ch
 abbrev pub SheetIs : View → List ℕ → Type 0
 SheetIs v x = x ≡ sheetOf (v .domain) (v .entries)
 
--- how many bytes of output so many moves ask for after this verdict: what is no plan asks for none
+abbrev pub Sheets : Texts → LentOutput → SheetAnswer → LentOutput → Type 0
+Sheets t old answer new = Writes SheetIs old (viewIn (checking Moves t (length (old .list)))) (sheetOutcome answer) new
+
+-- in the code: how many bytes so many moves ask for after this verdict; what is no plan asks for
+-- none
 abbrev pub bytesFor : Verdict → ℕ → ℕ
 bytesFor (plan c) count = sheetSize count
 bytesFor (blocked i) count = 0
 bytesFor unfinished count = 0
 bytesFor missed count = 0
-
-abbrev pub Sheets : Texts → LentOutput → SheetAnswer → LentOutput → Type 0
-Sheets t old answer new = Writes SheetIs old (viewIn (checking Moves t (length (old .list)))) (sheetOutcome answer) new

@@ -17,7 +17,7 @@ ghost use Rattle.jesmovit.specs.Writing.{Writes, bytesFor, SheetIs, Shee
 use job::refusal::Refusal;
 use job::rows::STORE;
 use limits::ENTRIES;
-use limits::STEPS;
+use limits::LIST;
 use load::loaded::Loaded;
 use load::loaded::LoadedJob;
 use load::request::Given;
@@ -33,9 +33,6 @@ pub enum SheetAnswer {
     Refused(Refusal),
 }
 
-// Numbers of the greatest step list.
-const PLACES: usize = STEPS * 4;
-
 // The verdict on a list of moves. The compiled job's steps stand in an array of its own, so that
 // the list which is lent may still hold what it held.
 fn move_verdict(job: LoadedJob, rows: &[u16], plan: &[u16]) -> Verdict
@@ -45,7 +42,7 @@ fn move_verdict(job: LoadedJob, rows: &[u16], plan: &[u16]) -> Verdict
 {
     let head = job.head;
     let need = load::room::list_need(job);
-    let mut steps = [0u16; PLACES];
+    let mut steps = [0u16; LIST];
     compile::program::compile(head, rows, &mut steps);
     validate::moves::check_moves(head, rows, &steps[0..need], job.sizes.positions, plan)
 }

@@ -1,4 +1,4 @@
-// The public operations, on any texts, lists and tables. None has a `requires`.
+// The public operations, on any texts, lists, tables and outputs. None has a `requires`.
 mod checking;
 mod compiling;
 mod job_text;

@@ -1,11 +1,10 @@
 // judge JOB PLAN [COSTS]: the compiled job, and what the list of moves is among the plans that the
 // job's program allows, each text in the file that its argument names (job.txt and plan.txt without
 // one), or the refusal. Without COSTS, or with `-`, the house's class costs hold.
+use limits::LIST;
 use load::request::Given;
 
-// How many numbers the list of steps and the cost table hold.
-const LIST: usize = limits::STEPS * 4;
-
+// How many numbers the cost table holds.
 const TABLE: usize = 6144;
 
 fn main() {

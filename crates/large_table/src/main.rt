@@ -1,10 +1,9 @@
 // large_table JOB [COSTS]: what least_cost JOB [COSTS] prints, with a cost table of 4 MB, which has
 // room for twelve facts and 128 positions.
+use limits::LIST;
 use load::request::Given;
 
-// How many numbers the list of steps and the cost table hold.
-const LIST: usize = limits::STEPS * 4;
-
+// How many numbers the cost table holds.
 const TABLE: usize = limits::STATES * 128;
 
 fn print_cost(text: &[u8], costs: &[u8], given: Given, table: &mut [u64]) {

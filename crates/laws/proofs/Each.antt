@@ -52,6 +52,12 @@ module _ {A : Type 0} where
   all-map f P [] h = tt
   all-map f P (a ∷ l) h = (h .0, all-map f P l (h .1))
 
+  -- an element of a list that is mapped, whatever stands for what is past the last
+  pub map-at : {B : Type 0} (f : A → B) (l : List A) (i : ℕ) (a : A) (b : B) → i < length l → getD (map f l) i b ≡ f (getD l i a)
+  map-at f [] i a b h = absurd (omega arith)
+  map-at f (x ∷ l) zero a b h = refl
+  map-at f (x ∷ l) (suc i) a b h = map-at f l i a b (omega arith)
+
   -- lists of one length, joined
   pub flatten-length : (n : ℕ) (ls : List (List A)) → All (λ (l : List A). length l ≡ n) ls → length (flatten ls) ≡ length ls * n
   unfolding flatten

@@ -50,7 +50,7 @@ column-tens k n h =
     (ap (λ (l : List ℕ). spaces (k - length (decimal (n / 10))) ++ l) (decimal-tens n h)
     ∙ sym (append-assoc (spaces (k - length (decimal (n / 10)))) (decimal (n / 10)) ((48 + n % 10) ∷ [])))
 
--- its last byte
+-- the last byte of what stands in front of a number's last digit
 abbrev last : ℕ → ℕ
 last rest = cond (eqb rest 0) 32 (48 + rest % 10)
 
@@ -67,7 +67,7 @@ module _ (k rest : ℕ) where
     | no h ↦ ap length (leading-none (omega arith)) ∙ spaces-length k
   ]
 
--- the last digit of a number that has one, and what stands before
+-- a number: its last digit, behind what stands in front
 number-last : (k n : ℕ) → leading k (n / 10) ++ ((48 + n % 10) ∷ []) ≡ column (suc k) n
 number-last k n = elim (decLt n 10) [
   | yes h ↦ (let e : n % 10 ≡ n = omega arith in

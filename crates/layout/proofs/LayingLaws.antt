@@ -21,10 +21,10 @@ use Rattle.domain.specs.Successor.{successorIn}
 use Rattle.domain.specs.declared.Successor.{Successor}
 use Rattle.domain.specs.declared.Successor.the-variants.{To, Inapplicable}
 use Rattle.domain.proofs.DomainLaws.{stored-bounded}
-use Rattle.layout.specs.Sheet.{lineSize, lineBytes, FitsColumns, lineAt, planLinesFrom, planLines, pageLines, blankLine, pagesOf, sheetOf}
+use Rattle.layout.specs.Sheet.{lineSize, lineBytes, FitsColumns, lineAt, planLinesFrom, planLines, pageLines, blankLine, pagedLines, sheetOf}
 use Rattle.layout.specs.declared.line.SheetLine.{SheetLine}
 use Rattle.layout.proofs.LineLaws.{WholeLine, line-length, blank-length}
-use Rattle.layout.proofs.PlanLines.{linesAfter, line-fits, lines-bytes}
+use Rattle.layout.proofs.PlanLines.{linesAfter, line-fits, lines-length}
 
 -- what is to be written from line i on is what was to be written from the first line on
 pub record Laying (first : ℕ) (all rest : List (List ℕ)) (old out : List ℕ) (i : ℕ) : Type 0 where
@@ -35,7 +35,7 @@ pub record Laying (first : ℕ) (all rest : List (List ℕ)) (old out : List ℕ
 pub laying-start : (first : ℕ) (all : List (List ℕ)) (old : List ℕ) → Laying first all all old old first
 laying-start first all old = record { size = refl; laid = refl; count = refl }
 
--- one line of 31 bytes
+-- one line
 pub laying-more : {first i : ℕ} {all : List (List ℕ)} {old out new : List ℕ} (l : List ℕ) (rest : List (List ℕ)) → Laying first all (l ∷ rest) old out i
     → WholeLine l → new ≡ sets out (i * lineSize) l → Laying first all rest old new (i + 1)
 unfolding flatten
@@ -106,12 +106,12 @@ module _ (head : Head) (rows plan : List ℕ) where
       -- the line of move i
       module _ {spent : ℕ} (c : spent ≡ E .cost m state) where
         abbrev line : SheetLine
-        line = record { row = i + 1; made = m; cost = spent; total = total + spent }
+        line = record { row = i + 1; action = m; cost = spent; total = total + spent }
 
         is-line : lineAt E state i total m ≡ line
         is-line = rw (c, add-one i) refl
 
-        pub lining-fits : FitsColumns (record { row = i + 1; made = getD plan i 0; cost = spent; total = total + spent })
+        pub lining-fits : FitsColumns (record { row = i + 1; action = getD plan i 0; cost = spent; total = total + spent })
         lining-fits = subst FitsColumns is-line
             (line-fits E b (stored .job .moves) state i total m (omega (arith, entries .few)) (entries .below i h) (x .total-within))
 
@@ -160,11 +160,11 @@ module _ (head : Head) (rows plan : List ℕ) where
       pub sheet-laid : (old : List ℕ) {mid new : List ℕ} {count : ℕ} → mid ≡ sets old 0 (flatten (map lineBytes (planLines E plan)))
           → count ≡ length (planLines E plan) → new ≡ sets mid (count * lineSize) (flatten (replicate (pageLines count - count) blankLine))
           → new ≡ sets old 0 (sheetOf E plan)
-      unfolding sheetOf pagesOf
+      unfolding sheetOf pagedLines
       sheet-laid old {count = count} e n f =
           let ls : List (List ℕ) = map lineBytes (planLines E plan) in
           let k : length (map lineBytes (planLines E plan)) ≡ count = length-map (planLines E plan) lineBytes ∙ sym n in
           sets-on old (flatten ls) (flatten (replicate (pageLines count - count) blankLine)) 0 (count * lineSize) e
-          (omega (arith, lines-bytes E b (stored .job .moves) plan entries, n)) f
+          (omega (arith, lines-length E b (stored .job .moves) plan entries, n)) f
           ∙ ap (sets old 0) (sym (flatten-append ls (replicate (pageLines count - count) blankLine))
           ∙ ap (λ (j : ℕ). flatten (ls ++ replicate (pageLines j - j) blankLine)) (sym k))

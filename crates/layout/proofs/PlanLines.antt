@@ -1,5 +1,4 @@
--- The lines of a list of moves: each fits its columns and has 31 bytes, and a plan has one for each
--- move.
+-- The lines of a list of moves: each fits its columns and is whole, and a plan has one for each move.
 -- Assumes nothing.
 use Prim.Native.Nat.{ℕ, suc, _+_, _-_, _*_, _≤_, _<_}
 use mathlib.Core.Path.{_≡_, refl, _∙_, ap}
@@ -14,7 +13,7 @@ use Rattle.semantics.specs.Domain.{Domain}
 use Rattle.semantics.proofs.Bounds.{Bounded}
 use Rattle.semantics.proofs.PathLaws.{stateAfter}
 use Rattle.domain.specs.Entries.{EntriesBelow}
-use Rattle.layout.specs.Sheet.{lineSize, lineBytes, FitsColumns, lineAt, planLinesFrom, planLines, pageLines, blankLine, pagesOf, sheetOf, sheetSize}
+use Rattle.layout.specs.Sheet.{lineSize, lineBytes, FitsColumns, lineAt, planLinesFrom, planLines, pageLines, blankLine, pagedLines, sheetOf, sheetSize}
 use Rattle.layout.specs.declared.line.SheetLine.{SheetLine}
 use Rattle.layout.proofs.LineLaws.{WholeLine, within-fits, line-length, blank-length}
 
@@ -22,8 +21,8 @@ use Rattle.layout.proofs.LineLaws.{WholeLine, within-fits, line-length,
 abbrev pub linesAfter : Domain → ℕ → ℕ → List ℕ → Option ℕ → List SheetLine
 linesAfter D n total ms o = elim o [ none ↦ [] | some t ↦ planLinesFrom D t n total ms ]
 
--- a list of moves that can be made has a line for each
-lines-count : (D : Domain) (ms : List ℕ) (s n total u : ℕ) → stateAfter D s ms ≡ some u → length (planLinesFrom D s n total ms) ≡ length ms
+-- a list of moves that leads somewhere has a line for each
+pub lines-count : (D : Domain) (ms : List ℕ) (s n total u : ℕ) → stateAfter D s ms ≡ some u → length (planLinesFrom D s n total ms) ≡ length ms
 unfolding planLinesFrom stateAfter
 lines-count D [] s n total u e = refl
 lines-count D (m ∷ ms) s n total u e = ap suc (by (D .successor m s) e (λ t f. lines-count D ms t (suc n) (total + D .cost m s) u f))
@@ -36,12 +35,12 @@ lines-count D (m ∷ ms) s n total u e = ap suc (by (D .successor m s) e (λ t f
 
 -- so its pages have the lines of each that is begun
 pub pages-count : (D : Domain) (ms : List ℕ) {u : ℕ} → stateAfter D (D .start) ms ≡ some u
-    → length (pagesOf (map lineBytes (planLines D ms))) ≡ pageLines (length ms)
-unfolding pagesOf
-pages-count D ms {u} made =
+    → length (pagedLines (map lineBytes (planLines D ms))) ≡ pageLines (length ms)
+unfolding pagedLines
+pages-count D ms {u} leads =
     let ls : List (List ℕ) = map lineBytes (planLines D ms) in
     let n : ℕ = pageLines (length ls) - length ls in
-    let k : length (map lineBytes (planLines D ms)) ≡ length ms = length-map (planLines D ms) lineBytes ∙ lines-count D ms (D .start) 0 0 u made in
+    let k : length (map lineBytes (planLines D ms)) ≡ length ms = length-map (planLines D ms) lineBytes ∙ lines-count D ms (D .start) 0 0 u leads in
     length-append ls (replicate n blankLine) ∙ omega (arith, length-replicate n blankLine, k)
 
 -- a domain whose moves and costs fit the columns
@@ -69,24 +68,24 @@ module _ (D : Domain) (b : Bounded D mostCost) (few : D .moves ≤ mostMoves) wh
     all-fit : All FitsColumns (planLines D ms)
     all-fit = lines-fit ms (D .start) 0 0 (e .below) (omega (arith, e .few)) (omega arith)
 
-    -- each line of a sheet has 31 bytes
-    line-bytes : All WholeLine (map lineBytes (planLines D ms))
-    line-bytes = all-map lineBytes WholeLine (planLines D ms)
+    -- each line is whole
+    lines-whole : All WholeLine (map lineBytes (planLines D ms))
+    lines-whole = all-map lineBytes WholeLine (planLines D ms)
         (all-so FitsColumns (λ (l : SheetLine). WholeLine (lineBytes l)) line-length (planLines D ms) all-fit)
 
-    pub lines-bytes : length (flatten (map lineBytes (planLines D ms))) ≡ length (planLines D ms) * lineSize
-    lines-bytes = flatten-length lineSize (map lineBytes (planLines D ms)) line-bytes ∙ ap (λ (k : ℕ). k * lineSize) (length-map (planLines D ms) lineBytes)
+    pub lines-length : length (flatten (map lineBytes (planLines D ms))) ≡ length (planLines D ms) * lineSize
+    lines-length = flatten-length lineSize (map lineBytes (planLines D ms)) lines-whole ∙ ap (λ (k : ℕ). k * lineSize) (length-map (planLines D ms) lineBytes)
 
     -- with lines of spaces to the end of the last page
-    pub page-bytes : All WholeLine (pagesOf (map lineBytes (planLines D ms)))
-    unfolding pagesOf
-    page-bytes =
+    pub pages-whole : All WholeLine (pagedLines (map lineBytes (planLines D ms)))
+    unfolding pagedLines
+    pages-whole =
         let ls : List (List ℕ) = map lineBytes (planLines D ms) in
         let n : ℕ = pageLines (length ls) - length ls in
-        all-both WholeLine ls (replicate n blankLine) line-bytes (all-same WholeLine n blankLine blank-length)
+        all-both WholeLine ls (replicate n blankLine) lines-whole (all-same WholeLine n blankLine blank-length)
 
-    -- of moves that can be made, a sheet has the bytes that so many take
+    -- of moves that lead somewhere, a sheet has the bytes that so many take
     pub sheet-length : {u : ℕ} → stateAfter D (D .start) ms ≡ some u → length (sheetOf D ms) ≡ sheetSize (length ms)
     unfolding sheetOf
-    sheet-length made =
-        flatten-length lineSize (pagesOf (map lineBytes (planLines D ms))) page-bytes ∙ ap (λ (j : ℕ). j * lineSize) (pages-count D ms made)
+    sheet-length leads =
+        flatten-length lineSize (pagedLines (map lineBytes (planLines D ms))) pages-whole ∙ ap (λ (j : ℕ). j * lineSize) (pages-count D ms leads)

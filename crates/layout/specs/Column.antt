@@ -14,7 +14,7 @@ spaces n = replicate n 32
 unfoldable pub column : ℕ → ℕ → List ℕ
 column width n = spaces (width - length (decimal n)) ++ decimal n
 
--- what stands in front of a number's last digit, whose tenth is `rest`: spaces where no digit is
--- left
+-- what stands in front of the last digit of a number whose tenth is `rest`: spaces where no digit
+-- is left
 abbrev pub leading : ℕ → ℕ → List ℕ
 leading width rest = cond (eqb rest 0) (spaces width) (column width rest)

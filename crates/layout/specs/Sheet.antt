@@ -9,8 +9,11 @@ use Rattle.layout.specs.Column.{spaces, column}
 use Rattle.layout.specs.declared.line.SheetLine.{SheetLine}
 
 -- "lines of exactly 30 bytes and a line feed"
+abbrev pub lineWidth : ℕ
+lineWidth = 30
+
 abbrev pub lineSize : ℕ
-lineSize = 31
+lineSize = lineWidth + 1
 
 -- "A page has 60 lines"
 abbrev pub pageSize : ℕ
@@ -20,20 +23,20 @@ pageSize = 60
 -- in 9", and the line feed (byte 10)
 unfoldable pub lineBytes : SheetLine → List ℕ
 lineBytes l =
-    column 5 (l .row) ++ spaces 2 ++ column 3 (l .made) ++ spaces 2 ++ column 7 (l .cost) ++ spaces 2 ++ column 9 (l .total) ++ (10 ∷ [])
+    column 5 (l .row) ++ spaces 2 ++ column 3 (l .action) ++ spaces 2 ++ column 7 (l .cost) ++ spaces 2 ++ column 9 (l .total) ++ (10 ∷ [])
 
 -- each number has room in its column, so that none is shifted
 pub record FitsColumns (l : SheetLine) : Type 0 where
   pub row : length (decimal (l .row)) ≤ 5
-  pub made : length (decimal (l .made)) ≤ 3
+  pub action : length (decimal (l .action)) ≤ 3
   pub cost : length (decimal (l .cost)) ≤ 7
   pub total : length (decimal (l .total)) ≤ 9
 
 -- the line of a move in the state before it: n lines stand above, and their costs sum to `total`
 abbrev pub lineAt : Domain → ℕ → ℕ → ℕ → ℕ → SheetLine
-lineAt D s n total m = record { row = suc n; made = m; cost = D .cost m s; total = total + D .cost m s }
+lineAt D s n total m = record { row = suc n; action = m; cost = D .cost m s; total = total + D .cost m s }
 
--- a line for each move that is made from state s on
+-- a line for each move from state s on, up to the first that is not applicable
 unfoldable pub planLinesFrom : Domain → ℕ → ℕ → ℕ → List ℕ → List SheetLine
 planLinesFrom D s n total [] = []
 planLinesFrom D s n total (m ∷ ms) =
@@ -50,15 +53,15 @@ pageLines n = (n + (pageSize - 1)) / pageSize * pageSize
 
 -- a line of spaces
 unfoldable pub blankLine : List ℕ
-blankLine = spaces 30 ++ (10 ∷ [])
+blankLine = spaces lineWidth ++ (10 ∷ [])
 
 -- "the last page filled with lines of spaces"
-unfoldable pub pagesOf : List (List ℕ) → List (List ℕ)
-pagesOf ls = ls ++ replicate (pageLines (length ls) - length ls) blankLine
+unfoldable pub pagedLines : List (List ℕ) → List (List ℕ)
+pagedLines ls = ls ++ replicate (pageLines (length ls) - length ls) blankLine
 
--- the bytes of the sheet
+-- the bytes of the sheet of a list of moves
 unfoldable pub sheetOf : Domain → List ℕ → List ℕ
-sheetOf D ms = flatten (pagesOf (map lineBytes (planLines D ms)))
+sheetOf D ms = flatten (pagedLines (map lineBytes (planLines D ms)))
 
 -- how many there are, of so many moves
 abbrev pub sheetSize : ℕ → ℕ

@@ -6,13 +6,15 @@ ghost use lib.Seq.{sets};
 ghost use Rattle.layout.specs.Sheet.{lineSize, lineBytes, FitsColumns, blankLine};
 use crate::column;
 
-// Bytes of a line, its line feed among them.
-pub const LINE: usize = 31;
+// Bytes of a line, without its line feed and with it.
+const WIDTH: usize = 30;
 
-// A move's line: its row, counted from 1, the move, its cost, and the costs so far.
+pub const LINE: usize = WIDTH + 1;
+
+// A move's line: its row, counted from 1, the move, its cost, and the costs up to it.
 pub struct SheetLine {
     pub row: u64,
-    pub made: u64,
+    pub action: u64,
     pub cost: u64,
     pub total: u64,
 }
@@ -23,10 +25,10 @@ pub fn put_line(out: &mut [u8], at: usize, line: SheetLine)
     ensures { λ _. ⌜ now (out .exit) ≡ sets (now (out .entry)) at (lineBytes line) ⌝ }
 {
     column::column(out, at, 5, line.row);
-    column::column(out, at + 5, 5, line.made);
+    column::column(out, at + 5, 5, line.action);
     column::column(out, at + 10, 9, line.cost);
     column::column(out, at + 19, 11, line.total);
-    out[at + 30] = 10;
+    out[at + WIDTH] = 10;
 }
 
 // A line of spaces.
@@ -34,6 +36,6 @@ pub fn put_blank(out: &mut [u8], at: usize)
     requires { ⌜ at + lineSize ≤ length (now out) ⌝ }
     ensures { λ _. ⌜ now (out .exit) ≡ sets (now (out .entry)) at blankLine ⌝ }
 {
-    column::spaces(out, at, 30);
-    out[at + 30] = 10;
+    column::spaces(out, at, WIDTH);
+    out[at + WIDTH] = 10;
 }

@@ -38,7 +38,7 @@ pub fn sheet_size(count: usize) -> usize
     page_lines(count) * LINE
 }
 
-// Writes a line for each move, as long as moves are applicable, and answers how many.
+// Writes a line for each move, up to the first that is not applicable, and answers how many.
 fn put_lines(head: Head, rows: &[u16], plan: &[u16], out: &mut [u8]) -> usize
     requires { ⌜ Stored head (now rows) ⌝ }
     requires { ⌜ EntriesBelow (now plan) (domainIn head (now rows) .moves) × (length (now plan) * lineSize ≤ length (now out)) ⌝ }
@@ -58,7 +58,7 @@ fn put_lines(head: Head, rows: &[u16], plan: &[u16], out: &mut [u8]) -> usize
         i += 1;
         let line = SheetLine {
             row: i as u64,
-            made: m as u64,
+            action: m as u64,
             cost: spent,
             total: total,
         };

@@ -1,11 +1,10 @@
 // least_cost JOB [COSTS]: the least cost of all plans that the program of the job allows, or that
 // there is none, each text in the file that its argument names (job.txt without one), or the
 // refusal. Without COSTS, or with `-`, the house's class costs hold.
+use limits::LIST;
 use load::request::Given;
 
-// How many numbers the list of steps and the cost table hold.
-const LIST: usize = limits::STEPS * 4;
-
+// How many numbers the cost table holds.
 const TABLE: usize = 6144;
 
 fn main() {

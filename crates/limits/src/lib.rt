@@ -28,5 +28,8 @@ pub const POSITIONS: usize = 256;
 
 pub const STEPS: usize = 1024;
 
+// Numbers of the longest step list.
+pub const LIST: usize = STEPS * 4;
+
 // Entries of a plan.
 pub const ENTRIES: usize = 4000;

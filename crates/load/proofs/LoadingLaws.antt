@@ -1,4 +1,4 @@
--- The chain of all reasons: what it refuses, what passes it, and what a caller of loading knows.
+-- The chain of reasons: what it refuses, what passes it, and what a caller of loading knows.
 -- Assumes nothing.
 use Prim.Native.Nat.{ℕ, _*_, _≤_, _<_}
 use mathlib.Core.Path.{_≡_, sym, _∙_, ap, subst}

@@ -104,7 +104,8 @@ tableSize t = domainOf t .states * positionCount (t .job)
 abbrev pub tableNeed : Request → Task → ℕ
 tableNeed r t = cond (r .table) (tableSize t) 0
 
--- all reasons: "Where it and a cost table are both too short, it decides."
+-- all reasons that come before a verdict: "Where it and a cost table are both too short, it
+-- decides."
 unfoldable pub loading : Handed → Checked Offer
 loading h =
     next (next (textsIn h) (λ o. longEnough (h .request .places) (listNeed (o .task .job)) o))

@@ -1,4 +1,4 @@
-// Texts loaded: every reason to refuse what is handed in, in its order.
+// Texts loaded: every reason to refuse what is handed in before a verdict, in its order.
 pub mod loaded;
 pub mod loading;
 mod offer;

@@ -1,4 +1,4 @@
-// All reasons to refuse, in their order.
+// All reasons to refuse that come before a verdict, in their order.
 ghost use mathlib.Core.Path.{_≡_};
 ghost use lib.ListN.{length};
 ghost use Rattle.job.specs.Store.{storeSize};

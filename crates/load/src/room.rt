@@ -5,7 +5,7 @@ ghost use Prim.Native.Nat.{_*_};
 use crate::loaded::LoadedJob;
 use job::refusal::Refusal;
 
-// The refusal of a list or a table that is shorter than it has to be.
+// The refusal of a list, a table or an output that is shorter than it has to be.
 pub fn too_short(need: usize) -> Refusal
     ensures { λ r. ⌜ r ≡ record { number = 6; place = need } ⌝ }
 {

@@ -11,7 +11,7 @@ use Rattle.laws.proofs.Lists.{sets-append}
 use Rattle.text.specs.Written.{decimal}
 use Rattle.text.proofs.WrittenLaws.{decimal-digit, decimal-tens}
 use Rattle.text.proofs.DecimalLaws.{decimal-short}
-use Rattle.compile.specs.Laid.{Laid}
+use Rattle.compile.specs.Laid.{LaidOver}
 use Rattle.compile.proofs.LaidLaws.{laid-append}
 use Rattle.report.specs.Put.{Put, Prints}
 
@@ -58,11 +58,11 @@ module _ (old t : List ℕ) (at k : ℕ) where
   copied h g e = record { laid = record { list = e ∙ rw (take-all k t g); place = omega arith }; short = omega arith }
 
 -- a number's digits: the last one, behind those of its tenth
-pub digit-laid : {n : ℕ} {old new : List ℕ} {at p : ℕ} → n < 10 → Laid ((48 + n) ∷ []) old at new p → Laid (decimal n) old at new p
+pub digit-laid : {n : ℕ} {old new : List ℕ} {at p : ℕ} → n < 10 → LaidOver ((48 + n) ∷ []) old at new p → LaidOver (decimal n) old at new p
 digit-laid {n} h x = rw (decimal-digit n h) x
 
-pub tens-laid : {n : ℕ} {old mid new : List ℕ} {at p q : ℕ} → 10 ≤ n → Laid (decimal (n / 10)) old at mid p → Laid ((48 + n % 10) ∷ []) mid p new q
-    → Laid (decimal n) old at new q
+pub tens-laid : {n : ℕ} {old mid new : List ℕ} {at p q : ℕ} → 10 ≤ n → LaidOver (decimal (n / 10)) old at mid p → LaidOver ((48 + n % 10) ∷ []) mid p new q
+    → LaidOver (decimal n) old at new q
 tens-laid {n} h x y = rw (decimal-tens n h) (laid-append x y)
 
 pub short-16 : (n : ℕ) → n < 65536 → length (decimal n) ≤ 5

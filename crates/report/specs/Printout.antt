@@ -73,7 +73,7 @@ leastLines none = bytes "answer=none\n"
 
 -- the sheet, which stands at the output's front; or what a check says
 abbrev pub writtenLines : List ℕ → WriteOutcome → List ℕ
-writtenLines output (wrote bytes) = take bytes output
+writtenLines output (wrote count) = take count output
 writtenLines output (said v) = verdictLines v
 
 -- a job's counts

@@ -134,7 +134,7 @@ pub fn read(answer: ReadAnswer, out: &mut [u8]) -> usize
     }
 }
 
-// How many bytes of a buffer's front are the text that it holds, as far as it goes.
+// How many of its first so many bytes a buffer has.
 fn held(out: &[u8], bytes: usize) -> usize
     ensures { λ r. ⌜ Prints (take bytes (now (out .entry))) (now (out .entry)) r ⌝ }
 {

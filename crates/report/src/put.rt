@@ -4,7 +4,7 @@ ghost use mathlib.Core.List.{[], _∷_};
 ghost use Prim.Native.Nat.{_+_, _≤_, _<_};
 ghost use lib.ListN.{length};
 ghost use Rattle.text.specs.Written.{decimal};
-ghost use Rattle.compile.specs.Laid.{Laid};
+ghost use Rattle.compile.specs.Laid.{LaidOver};
 ghost use Rattle.report.specs.Put.{Put};
 
 pub(crate) fn byte(out: &mut [u8], at: usize, b: u8) -> usize
@@ -29,7 +29,7 @@ pub(crate) fn text(out: &mut [u8], at: usize, t: &[u8]) -> usize
 
 fn digit(out: &mut [u8], at: usize, d: u64) -> usize
     requires { ⌜ (at < length (now out)) × (d < 10) ⌝ }
-    ensures { λ r. ⌜ Laid ((48 + d) ∷ []) (now (out .entry)) at (now (out .exit)) r ⌝ }
+    ensures { λ r. ⌜ LaidOver ((48 + d) ∷ []) (now (out .entry)) at (now (out .exit)) r ⌝ }
 {
     out[at] = 48 + (d as u8);
     at + 1
@@ -38,7 +38,7 @@ fn digit(out: &mut [u8], at: usize, d: u64) -> usize
 // A number's digits; those before the last are those of its tenth.
 fn digits(out: &mut [u8], at: usize, n: u64) -> usize
     requires { ⌜ at + length (decimal n) ≤ length (now out) ⌝ }
-    ensures { λ r. ⌜ Laid (decimal n) (now (out .entry)) at (now (out .exit)) r ⌝ }
+    ensures { λ r. ⌜ LaidOver (decimal n) (now (out .entry)) at (now (out .exit)) r ⌝ }
 {
     if n < 10 {
         return digit(out, at, n);

@@ -1,11 +1,9 @@
-// sheet JOB PLAN [COSTS]: the list of moves laid out in pages, if it is a plan, each text in the
-// file that its argument names (job.txt and plan.txt without one), or the verdict, or the refusal.
-// Without COSTS, or with `-`, the house's class costs hold.
+// sheet JOB PLAN [COSTS]: the pages of a plan, the verdict on a list of moves that is none, or the
+// refusal; each text in the file that its argument names (job.txt and plan.txt without one). Without
+// COSTS, or with `-`, the house's class costs hold.
 use layout::sheet::SHEET;
+use limits::LIST;
 use load::request::Given;
-
-// How many numbers the list of steps holds.
-const LIST: usize = limits::STEPS * 4;
 
 fn main() {
     let mut text = io::large_buffer();

@@ -1,13 +1,10 @@
 -- What is printed of a compiled job has a line for each of its steps, in their order.
 -- Assumes nothing.
-use Prim.Native.Nat.{ℕ, _+_, _*_, _≤_}
+use Prim.Native.Nat.{ℕ, _*_, _≤_}
 use mathlib.Core.Path.{_≡_, refl, _∙_, ap}
 use mathlib.Core.List.{List, [], _∷_, _++_}
-use native.Mathlib.Omega.{arith}
-use lib.ListN.{length, take, drop}
-use lib.Seq.{sets, sets-eq, take-at}
+use lib.ListN.{length}
 use Rattle.semantics.specs.CompilingTable.{Step, arc, flat, kindOf, argOf}
-use Rattle.semantics.proofs.FlatLaws.{flat-length}
 use Rattle.compile.specs.declared.sizes.Sizes.{Sizes}
 use Rattle.load.specs.Refusals.{Checked, passed, next, Offer, loading}
 use Rattle.load.specs.View.{View, viewOf, viewSteps, positionsOf}
@@ -15,6 +12,7 @@ use Rattle.load.proofs.LoadingLaws.{loading-iff}
 use Rattle.jesmovit.specs.Compiling.{compiling, listAfter, listIn, viewSizes, Compiles}
 use Rattle.jesmovit.specs.declared.compiling.CompileAnswer.{CompileAnswer}
 use Rattle.jesmovit.proofs.AnswerLaws.{view-of}
+use Rattle.jesmovit.proofs.FrontLaws.{front-flat}
 use Rattle.report.specs.Printout.{line, stepLine, stepLines, compiledLines, printout, compilePrintout}
 use Rattle.theorems.specs.Printed.{linesOf, compiledJobLines}
 
@@ -23,17 +21,12 @@ unfolding flat stepLines linesOf
 flat-lines [] = refl
 flat-lines (arc l p q ∷ L) = ap (λ (r : List ℕ). stepLine (kindOf l) p q (argOf l) ++ r) (flat-lines L)
 
-front-flat : (L : List Step) (list : List ℕ) → length L * 4 ≤ length list → take (length L * 4) (sets list 0 (flat L)) ≡ flat L
-front-flat L list h =
-    ap (take (length L * 4)) (sets-eq (flat L) list 0 (omega (arith, flat-length L)))
-    ∙ take-at (flat L) (drop (0 + length (flat L)) list) (length L * 4) (flat-length L)
-
 -- the lines of a list at whose front the steps stand
 pub prints-each-step : (v : View) (list : List ℕ) → length (viewSteps v) * 4 ≤ length list
     → compiledLines (positionsOf v) (length (viewSteps v)) (listAfter v list) ≡ compiledJobLines v
 prints-each-step v list h =
     ap (λ (l : List ℕ). line "positions" (positionsOf v) ++ line "steps" (length (viewSteps v)) ++ l)
-    (ap stepLines (front-flat (viewSteps v) list h) ∙ flat-lines (viewSteps v))
+    (ap stepLines (front-flat (viewSteps v) list refl h refl) ∙ flat-lines (viewSteps v))
 
 -- what is printed after compiling a text that nothing refuses
 pub compile-prints : (text list : List ℕ) (answer : CompileAnswer) (after : List ℕ) → Compiles text list answer after

@@ -59,7 +59,7 @@ module _ (h : Handed) where
   unfolding textsIn taskIn
   house-given = at-house (withHouseText h .request .given) (costsText houseCosts) (λ j. ap (withCosts j) house-read) (jobIn (h .job))
 
-  -- all reasons, and the view that every answer speaks of
+  -- the whole chain of reasons, and the view that every answer speaks of
   pub none-is-house : h .request .given .costs ≡ false → loading h ≡ loading (withHouseText h)
   none-is-house f = sym (chain h (sym (none-given f))) ∙ chain (withHouseText h) (sym house-given)
 

@@ -19,6 +19,7 @@ pub mod JudgeDecides
 pub mod ComputedTable
 pub mod ComputedJudgement
 pub mod SheetLines
+pub mod SheetShows
 pub mod OneSheet
 pub mod SheetDecides
 pub mod SheetNumbers

@@ -2,7 +2,7 @@
 -- values, list and output are what a call from outside gives.
 -- Assumes nothing.
 use Prim.Native.Nat.{ℕ}
-use mathlib.Core.Path.{_≡_, refl, sym, _∙_, ap}
+use mathlib.Core.Path.{_≡_, refl, sym, _∙_, ap, subst}
 use mathlib.Core.List.{List}
 use native.Mathlib.Omega.{arith}
 use lib.ListN.{length}
@@ -10,8 +10,8 @@ use lib.Seq.{sets}
 use Rattle.laws.proofs.Tests.{never}
 use Rattle.semantics.specs.Verdict.{Verdict}
 use Rattle.validate.proofs.VerdictLaws.{verdict-injective}
-use Rattle.load.specs.Refusals.{Checked, passed, refused}
-use Rattle.load.specs.View.{View}
+use Rattle.load.specs.Refusals.{Handed, Checked, passed, refused}
+use Rattle.load.specs.View.{View, viewIn}
 use Rattle.load.specs.declared.request.Sort.the-variants.{Moves}
 use Rattle.jesmovit.specs.Texts.{Texts}
 use Rattle.jesmovit.specs.Outcomes.{WriteOutcome, wrote, said, sheetOutcome}
@@ -28,7 +28,7 @@ use Rattle.theorems.proofs.OneAnswer.{one-says, refusal-same}
 abbrev filledWith : LentOutput → View → List ℕ → LentOutput
 filledWith old v x = record { list = listAfter v (old .list); output = sets (old .output) 0 x }
 
--- what is written for a plan is one thing
+-- where what is to be written is one thing, so are the outcome and what is lent
 module _ {Content : View → List ℕ → Type 0} (one : (v : View) (x y : List ℕ) → Content v x → Content v y → x ≡ y) {old : LentOutput} where
   pub one-written : {c : Checked View} {d e : Checked WriteOutcome} {new other : LentOutput} → Writes Content old c d new → Writes Content old c e other
       → (d ≡ e) × (new ≡ other)
@@ -44,9 +44,15 @@ module _ {Content : View → List ℕ → Type 0} (one : (v : View) (x y : List 
   one-written (writes {v} {c} {x} p k h) (writes {x = y} q j g) =
       let e = one v x y k j in (ap (λ (z : List ℕ). passed (wrote (length z))) e, ap (filledWith old v) e)
 
--- so is a sheet
-pub one-content : (v : View) (x y : List ℕ) → SheetIs v x → SheetIs v y → x ≡ y
-one-content v x y e f = e ∙ sym f
+  -- only the view counts: calls that are handed other things, with the same view, have the same
+  -- outcome
+  pub same-written : (h k : Handed) → viewIn h ≡ viewIn k → {d e : Checked WriteOutcome} {new other : LentOutput}
+      → Writes Content old (viewIn h) d new → Writes Content old (viewIn k) e other → (d ≡ e) × (new ≡ other)
+  same-written h k same {d} {new = new} p q = one-written (subst (λ (c : Checked View). Writes Content old c d new) same p) q
+
+-- a sheet is one thing
+pub one-sheet : (v : View) (x y : List ℕ) → SheetIs v x → SheetIs v y → x ≡ y
+one-sheet v x y e f = e ∙ sym f
 
 sheet-injective : (a b : SheetAnswer) → sheetOutcome a ≡ sheetOutcome b → a ≡ b
 sheet-injective (Laid n) (Laid m) e = let f : n ≡ m = cc in ap Laid f
@@ -61,10 +67,10 @@ sheet-injective (Refused r) (Refused q) e = ap Refused (refusal-same r q e)
 
 module _ (t : Texts) (old x y : LentOutput) where
   pub one-sheet-answer : (a b : SheetAnswer) → Sheets t old a x → Sheets t old b y → (a ≡ b) × (x ≡ y)
-  one-sheet-answer a b p q = let z = one-written one-content p q in (sheet-injective a b (z .0), z .1)
+  one-sheet-answer a b p q = let z = one-written one-sheet p q in (sheet-injective a b (z .0), z .1)
 
   pub one-sheet-call : (n m : ℕ) (v w : List ℕ) → Gives sheetNumbers (λ a. Sheets t old a x) n v → Gives sheetNumbers (λ a. Sheets t old a y) m w
       → (n ≡ m) × (v ≡ w) × (x ≡ y)
   one-sheet-call n m v w g h =
-      let e = gives-once (λ a b p q. ap (outcomeNumbers laidNumbers) (one-written one-content p q .0)) g h in
-      (e .0, e .1, one-written one-content (g .holds) (h .holds) .1)
+      let e = gives-once (λ a b p q. ap (outcomeNumbers laidNumbers) (one-written one-sheet p q .0)) g h in
+      (e .0, e .1, one-written one-sheet (g .holds) (h .holds) .1)

@@ -4,14 +4,19 @@
 -- Assumes nothing.
 use Prim.Native.Nat.{ℕ}
 use mathlib.Core.Path.{_≡_, refl, sym, _∙_, ap, subst}
+use mathlib.Core.Option.{some}
 use native.Mathlib.Omega.{arith}
 use lib.ListN.{length}
 use Rattle.laws.proofs.Tests.{never}
+use Rattle.limits.specs.Limits.{mostCost}
 use Rattle.semantics.specs.Domain.{Domain}
 use Rattle.semantics.specs.Plan.{cost, Allowed}
 use Rattle.semantics.specs.Verdict.{Verdict, plan}
+use Rattle.semantics.proofs.Bounds.{Bounded}
+use Rattle.semantics.proofs.PathLaws.{stateAfter}
 use Rattle.semantics.proofs.VerdictLaws.{plan-leads}
 use Rattle.domain.specs.Domain.{domainOf}
+use Rattle.domain.specs.Entries.{EntriesBelow}
 use Rattle.domain.proofs.DomainLaws.{domain-bounded}
 use Rattle.layout.specs.Sheet.{sheetOf, sheetSize}
 use Rattle.layout.proofs.PlanLines.{sheet-length}
@@ -27,9 +32,10 @@ use Rattle.jesmovit.specs.Writing.{LentOutput, Writes, refuses, not-plan, too-s
 use Rattle.jesmovit.specs.declared.laying.SheetAnswer.{SheetAnswer}
 use Rattle.jesmovit.proofs.AnswerLaws.{answer-done, view-of}
 use Rattle.theorems.specs.Accepted.{Accepted}
-use Rattle.theorems.specs.LaidOut.{LaidOut}
+use Rattle.theorems.specs.LaysOut.{LaysOut, IsSheet}
 use Rattle.theorems.proofs.Acceptance.{accepted-iff, accepted-within}
-use Rattle.theorems.proofs.OneSheet.{one-written, one-content}
+use Rattle.theorems.proofs.OneSheet.{one-written, one-sheet}
+use Rattle.theorems.proofs.SheetShows.{sheet-is}
 use Rattle.theorems.proofs.JudgeDecides.{allowed-plan, plan-allowed}
 
 -- what is promised of what is no plan
@@ -43,9 +49,8 @@ repeated {old} (not-plan {v = u} {w} p g) {v} e f =
 repeated (too-short {v = u} {c} p q h) {v} e f = let same : u ≡ v = cc in absurd (f c (subst (λ (x : View). Says Moves x (plan c)) same p))
 repeated (writes {v = u} {c} p q h) {v} e f = let same : u ≡ v = cc in absurd (f c (subst (λ (x : View). Says Moves x (plan c)) same p))
 
--- whatever answer, list and output meet the promise
-module _ (t : Texts) (old : LentOutput) (o : Offer) (accepted : Accepted (checking Moves t (length (old .list))) o) (answer : SheetAnswer)
-    (new : LentOutput) (promised : Sheets t old answer new) where
+-- of accepted texts
+module _ (t : Texts) (old : LentOutput) (o : Offer) (accepted : Accepted (checking Moves t (length (old .list))) o) where
   abbrev h : Handed
   h = checking Moves t (length (old .list))
 
@@ -55,41 +60,55 @@ module _ (t : Texts) (old : LentOutput) (o : Offer) (accepted : Accepted (checki
   abbrev D : Domain
   D = domainOf (o .task)
 
-  viewed-as : viewIn h ≡ passed (viewOf o)
-  viewed-as = view-of h (accepted-iff h o .1 accepted)
-
-  written : Writes SheetIs old (passed (viewOf o)) (sheetOutcome answer) new
-  written = subst (λ (c : Checked View). Writes SheetIs old c (sheetOutcome answer) new) viewed-as promised
-
+  -- and a list of moves that the program allows
   module _ (allowed : Allowed (viewOf o .domain) (viewOf o .program) (o .entries)) where
-    is-plan : Says Moves v (plan (cost D (D .start) (o .entries)))
-    is-plan = allowed-plan (v .domain) (v .program) (o .entries) allowed
+    says-plan : Says Moves v (plan (cost D (D .start) (o .entries)))
+    says-plan = allowed-plan (v .domain) (v .program) (o .entries) allowed
+
+    -- its moves are the job's, and lead somewhere; costs fit their column
+    leads : stateAfter D (D .start) (o .entries) ≡ some (plan-leads (v .domain) (v .program) says-plan .0)
+    leads = plan-leads (v .domain) (v .program) says-plan .1
+
+    entries : EntriesBelow (o .entries) (D .moves)
+    entries = let p = accepted .texts .its-plan refl in record { few = p .few; below = p .each }
+
+    bounded : Bounded D mostCost
+    bounded =
+        let task = accepted .texts .its-task in
+        domain-bounded (o .task) (task .its-job .right) (accepted-within (h .request .given) (h .job) (h .costs) (o .task) task)
 
     -- the sheet has the bytes that its moves take
-    pub bytes-needed : length (sheetOf D (o .entries)) ≡ sheetSize (length (o .entries))
-    bytes-needed =
-        let task = accepted .texts .its-task in
-        let p = accepted .texts .its-plan refl in
-        sheet-length D
-        (domain-bounded (o .task) (task .its-job .right) (accepted-within (h .request .given) (h .job) (h .costs) (o .task) task))
-        (task .its-job .right .moves) (o .entries) (record { few = p .few; below = p .each }) (plan-leads (v .domain) (v .program) is-plan .1)
+    pub bytes-needed : length (sheetOf (domainOf (o .task)) (o .entries)) ≡ sheetSize (length (o .entries))
+    bytes-needed = sheet-length D bounded (accepted .texts .its-task .its-job .right .moves) (o .entries) entries leads
 
-    pub sheet-decides : LaidOut (viewOf o) old (sheetOutcome answer) new
-    sheet-decides = record {
-      room = λ r. let z = one-written one-content written (writes is-plan refl (omega (arith, r, bytes-needed))) in
-          (z .0 ∙ ap (λ (n : ℕ). passed (wrote n)) bytes-needed, z .1);
-      short = λ r. let z = one-written one-content written (too-short is-plan refl (omega (arith, r, bytes-needed))) in
-          (z .0 ∙ ap (λ (n : ℕ). refused 6 n) bytes-needed, z .1);
-    }
+    -- it has whole lines, which fill their pages and show the moves
+    pub sheet-right : IsSheet (domainOf (o .task)) (o .entries) (sheetOf (domainOf (o .task)) (o .entries))
+    sheet-right = sheet-is D (o .entries) leads bounded (accepted .texts .its-task .its-job .right .moves) entries
 
-  -- "A list that isn't a plan gives its verdict and writes nothing"
-  pub sheet-repeats : (Allowed (viewOf o .domain) (viewOf o .program) (o .entries) → ⊥)
-      → (w : Verdict) × (sheetOutcome answer ≡ passed (said w)) × (new .output ≡ old .output)
-      × Answers (CheckDone Moves) (old .list) (viewIn (checking Moves t (length (old .list)))) (passed w) (new .list)
-  sheet-repeats none =
-      let (w, s, e, f) = repeated written refl (λ k p. none (plan-allowed (v .domain) (v .program) (o .entries) p)) in (
-        w,
-        e,
-        ap (λ (x : LentOutput). x .output) f,
-        answer-done h (sym (accepted-iff h o .1 accepted)) (record { says = s; list = ap (λ (x : LentOutput). x .list) f }),
-      )
+  -- whatever answer, list and output meet the promise
+  module _ (answer : SheetAnswer) (new : LentOutput) (promised : Sheets t old answer new) where
+    promised-here : Writes SheetIs old (passed (viewOf o)) (sheetOutcome answer) new
+    promised-here =
+        subst (λ (c : Checked View). Writes SheetIs old c (sheetOutcome answer) new) (view-of h (accepted-iff h o .1 accepted)) promised
+
+    pub sheet-decides : Allowed (viewOf o .domain) (viewOf o .program) (o .entries) → LaysOut (viewOf o) old (sheetOutcome answer) new
+    sheet-decides allowed =
+        let n = bytes-needed allowed in
+        record {
+          room = λ r. let z = one-written one-sheet promised-here (writes (says-plan allowed) refl (omega (arith, r, n))) in
+              (z .0 ∙ ap (λ (k : ℕ). passed (wrote k)) n, z .1);
+          short = λ r. let z = one-written one-sheet promised-here (too-short (says-plan allowed) refl (omega (arith, r, n))) in
+              (z .0 ∙ ap (λ (k : ℕ). refused 6 k) n, z .1);
+        }
+
+    -- "A list that isn't a plan gives its verdict and writes nothing"
+    pub sheet-repeats : (Allowed (viewOf o .domain) (viewOf o .program) (o .entries) → ⊥)
+        → (w : Verdict) × (sheetOutcome answer ≡ passed (said w)) × (new .output ≡ old .output)
+        × Answers (CheckDone Moves) (old .list) (viewIn (checking Moves t (length (old .list)))) (passed w) (new .list)
+    sheet-repeats none =
+        let (w, s, e, f) = repeated promised-here refl (λ k p. none (plan-allowed (v .domain) (v .program) (o .entries) p)) in (
+          w,
+          e,
+          ap (λ (x : LentOutput). x .output) f,
+          answer-done h (sym (accepted-iff h o .1 accepted)) (record { says = s; list = ap (λ (x : LentOutput). x .list) f }),
+        )

@@ -20,7 +20,7 @@ use Rattle.compile.specs.Program.{build, programs}
 use Rattle.compile.specs.CompiledJob.{fits}
 use Rattle.lists.specs.CountedList.{entryIn, countIn, readEntries, readLines, readList}
 use Rattle.layout.specs.Column.{column}
-use Rattle.layout.specs.Sheet.{lineBytes, planLinesFrom, blankLine, pagesOf, sheetOf, sheetSize}
+use Rattle.layout.specs.Sheet.{lineBytes, planLinesFrom, blankLine, pagedLines, sheetOf, sheetSize}
 use Rattle.load.specs.Refusals.{passed, next, jobIn, taskIn, textsIn, loading}
 use Rattle.load.specs.View.{viewIn}
 use Rattle.load.specs.declared.request.Sort.the-variants.{Moves}
@@ -34,12 +34,12 @@ sample-sheet : next (viewIn (checking Moves (withoutCosts sample (bytes "plan=2\
 unfolding bytes lines hasKey valueOf byteRead numbers digitsWithin lineNumbers fault classCost taken ended readFrom readJob end steps build programs fits
     fact putFact value values afterEffect applied affected holdsIn successorOf costIn
     entryIn countIn readEntries readLines readList jobIn taskIn textsIn loading
-    column lineBytes planLinesFrom blankLine pagesOf sheetOf flatten
+    column lineBytes planLinesFrom blankLine pagedLines sheetOf flatten
 sample-sheet = refl
 
 -- "an empty plan has no page"
 empty-sheet : (D : Domain) → sheetOf D [] ≡ []
-unfolding planLinesFrom pagesOf sheetOf flatten
+unfolding planLinesFrom pagedLines sheetOf flatten
 empty-sheet D = refl
 
 -- 60 moves take one page, 61 two, 4,000 take 67

@@ -18,7 +18,7 @@ use Rattle.jesmovit.specs.Writing.{LentOutput, Writes, refuses, not-plan, too-s
 use Rattle.jesmovit.proofs.AnswerLaws.{viewed, offer-of, view-of}
 use Rattle.capi.specs.Numbers.{outcomeNumbers, laidNumbers, sheetNumbers}
 use Rattle.capi.specs.Calls.{Gives}
-use Rattle.theorems.specs.LaidOut.{RoomFor}
+use Rattle.theorems.specs.LaysOut.{RoomFor}
 use Rattle.theorems.specs.RefusalNumbers as N
 use Rattle.theorems.specs.RefusalNumbers.{LoadNumber, CallNumber}
 use Rattle.theorems.proofs.RefusalNumbers.{load-number}

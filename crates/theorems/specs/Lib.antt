@@ -8,4 +8,4 @@ pub mod TableWidths
 pub mod OriginalStar
 pub mod MarkedCases
 pub mod Printed
-pub mod LaidOut
+pub mod LaysOut

@@ -15,7 +15,7 @@ pub data TextNumber (h : Handed) : ℕ → Type 0 where
   of-costs : h .request .given .costs ≡ true → TextNumber h 7
   of-plan : h .request .plan ≡ true → TextNumber h 5
 
--- and 6, of a list, a table or an output
+-- and 6, of a list or a table; that of an output has the same number
 pub data LoadNumber (h : Handed) : ℕ → Type 0 where
   of-text : {number : ℕ} → TextNumber h number → LoadNumber h number
   too-short : LoadNumber h 6

@@ -1,6 +1,6 @@
 use mathlib.Core.Path.{_∙_}
 use native.Mathlib.Omega.{arith}
-use Rattle.compile.proofs.WroteLaws.{wrote-leaf, wrote-any, wrote-seq, wrote-branch, wrote-loop}
+use Rattle.compile.proofs.StepsLaidLaws.{wrote-leaf, wrote-any, wrote-seq, wrote-branch, wrote-loop}
 use Rattle.compile.proofs.CallLaws.{told, next-ok, leaf-ok, any-ok, seq-first, seq-second, branch-first, branch-next, branch-second, branch-ok}
 use Rattle.compile.proofs.CallLaws.{loop-first, loop-ok}
 use borrow.Author.Needs.{needs}

@@ -4,14 +4,14 @@ use mathlib.Core.Path.{_≡_, refl}
 use Prim.Native.Nat.{_≤_, _-_}
 use lib.ListN.{length}
 use Rattle.semantics.specs.CompilingTable.{flat, moveSteps}
-use Rattle.compile.specs.Laid.{Laid}
+use Rattle.compile.specs.Laid.{LaidOver}
 use Rattle.compile.proofs.LaidLaws.{laid-none, laid-append, moves-length, moves-more}
 use borrow.Author.Needs.{needs}
 use Rattle.compile.proofs.steps.any_steps.Statement.{statement}
 use Rattle.compile.proofs.steps.any_steps.Tie as tie
 
 abbrev Inv-loop : tie.InvT-loop
-Inv-loop list₀ moves n next₀ m₀ list next m = (m ≤ moves) × (length list ≡ length list₀) × Laid (flat (moveSteps m 0 n)) list₀ next₀ list next
+Inv-loop list₀ moves n next₀ m₀ list next m = (m ≤ moves) × (length list ≡ length list₀) × LaidOver (flat (moveSteps m 0 n)) list₀ next₀ list next
 
 abbrev μ-loop : tie.MeasureT-loop
 μ-loop list₀ moves n next₀ m₀ list next m = moves - m

@@ -10,7 +10,7 @@ use Rattle.semantics.specs.CompilingTable.{arc, end, steps, flat, moveSteps, br
 use Rattle.semantics.proofs.FlatLaws.{flat-append, flat-length}
 use Rattle.compile.specs.Construct.{leafLabel, firstLabel, secondLabel, loopSteps, RowSays}
 use Rattle.compile.specs.Size.{sizesOf}
-use Rattle.compile.specs.Laid.{Laid, Wrote}
+use Rattle.compile.specs.Laid.{LaidOver, StepsLaid}
 use Rattle.compile.specs.declared.rows.Simple.{Simple}
 use Rattle.compile.specs.declared.rows.Guard.{Guard}
 use Rattle.compile.specs.declared.rows.Construct.the-variants.{Leaf, Any, Seq, Branch, Loop}
@@ -24,35 +24,35 @@ abbrev pub next : Cursor → Cursor
 next c = record { position = c .position + 1; at = c .at }
 
 -- where a program's positions and steps end
-pub wrote-end : {M : ℕ} {σ : Program} {old new : List ℕ} {from to : Cursor} → Wrote M σ old from new to
+pub wrote-end : {M : ℕ} {σ : Program} {old new : List ℕ} {from to : Cursor} → StepsLaid M σ old from new to
     → (to .position ≡ from .position + sizesOf M σ .positions) × (to .at ≡ from .at + sizesOf M σ .steps * 4)
 wrote-end {M} {σ} {old} {new} {from} {to} w =
     let n = from .position in
     (w .ends ∙ has-sizes M σ .ends n, omega (arith, w .laid .place, flat-length (steps M σ n), has-sizes M σ .counts n))
 
 -- a part that was written, by the position that it starts at
-starts : {M : ℕ} {σ : Program} {old new : List ℕ} {from to : Cursor} (k : ℕ) → from .position ≡ k → Wrote M σ old from new to
-    → Laid (flat (steps M σ k)) old (from .at) new (to .at) × (to .position ≡ end σ k)
+starts : {M : ℕ} {σ : Program} {old new : List ℕ} {from to : Cursor} (k : ℕ) → from .position ≡ k → StepsLaid M σ old from new to
+    → LaidOver (flat (steps M σ k)) old (from .at) new (to .at) × (to .position ≡ end σ k)
 starts {M} {σ} {old} {new} {from} {to} k e w =
-    subst (λ (n : ℕ). Laid (flat (steps M σ n)) old (from .at) new (to .at) × (to .position ≡ end σ n)) e (w .laid, w .ends)
+    subst (λ (n : ℕ). LaidOver (flat (steps M σ n)) old (from .at) new (to .at) × (to .position ≡ end σ n)) e (w .laid, w .ends)
 
 module _ {M : ℕ} {of : ℕ → Program} {i : ℕ} {old new : List ℕ} {from to : Cursor} where
   pub wrote-leaf : {s : Simple} → RowSays of i (Leaf s)
-      → Laid (flat (arc (leafLabel s) (from .position) (from .position + 1) ∷ [])) old (from .at) new (to .at) × (to .position ≡ from .position + 1)
-      → Wrote M (of i) old from new to
+      → LaidOver (flat (arc (leafLabel s) (from .position) (from .position + 1) ∷ [])) old (from .at) new (to .at) × (to .position ≡ from .position + 1)
+      → StepsLaid M (of i) old from new to
   wrote-leaf {s} e x = rw (e .is) (record {
     laid = rw (leaf-made M s .made (from .position), ← (add-one (from .position))) (x .0);
     ends = x .1 ∙ add-one (from .position) ∙ sym (leaf-made M s .ends (from .position));
   })
 
   pub wrote-any : RowSays of i Any
-      → Laid (flat (moveSteps M 0 (from .position))) old (from .at) new (to .at) × (to .position ≡ from .position + 1)
-      → Wrote M (of i) old from new to
+      → LaidOver (flat (moveSteps M 0 (from .position))) old (from .at) new (to .at) × (to .position ≡ from .position + 1)
+      → StepsLaid M (of i) old from new to
   unfolding steps end
   wrote-any e x = rw (e .is) (record { laid = x .0; ends = x .1 ∙ add-one (from .position) })
 
   pub wrote-seq : {a b : ℕ} {mid : List ℕ} {x : Cursor} → RowSays of i (Seq a b)
-      → Wrote M (of a) old from mid x → Wrote M (of b) mid x new to → Wrote M (of i) old from new to
+      → StepsLaid M (of a) old from mid x → StepsLaid M (of b) mid x new to → StepsLaid M (of i) old from new to
   unfolding steps end
   wrote-seq {a} {b} e u w =
       let n₁ : ℕ = end (of a) (from .position) in
@@ -64,17 +64,17 @@ module _ {M : ℕ} {of : ℕ → Program} {i : ℕ} {old new : List ℕ} {from t
 
 module _ {M : ℕ} {of : ℕ → Program} {i : ℕ} {g : Guard} {a : ℕ} {old l₁ new : List ℕ} (from : Cursor) {x to : Cursor} where
   pub wrote-branch : {b : ℕ} {l₂ : List ℕ} {y : Cursor} → RowSays of i (Branch g a b)
-      → Wrote M (of a) old (next from) l₁ x → Wrote M (of b) l₁ (next x) l₂ y
-      → Laid (flat (branchSteps (firstLabel g) (secondLabel g) (from .position) (x .position) (y .position))) l₂ (y .at) new (to .at)
+      → StepsLaid M (of a) old (next from) l₁ x → StepsLaid M (of b) l₁ (next x) l₂ y
+      → LaidOver (flat (branchSteps (firstLabel g) (secondLabel g) (from .position) (x .position) (y .position))) l₂ (y .at) new (to .at)
       × (to .position ≡ y .position + 1)
-      → Wrote M (of i) old from new to
+      → StepsLaid M (of i) old from new to
   wrote-branch {b} {l₂} {y} e u w z =
       let n : ℕ = from .position in
       let n₁ : ℕ = end (of a) (suc n) in
       let s = branch-made M g (of a) (of b) in
       let first = starts (suc n) (add-one n) u in
       let second = starts (suc n₁) (add-one (x .position) ∙ ap suc (first .1)) w in
-      let own : Laid (flat (branchSteps (firstLabel g) (secondLabel g) n n₁ (end (of b) (suc n₁)))) l₂ (y .at) new (to .at) =
+      let own : LaidOver (flat (branchSteps (firstLabel g) (secondLabel g) n n₁ (end (of b) (suc n₁)))) l₂ (y .at) new (to .at) =
       rw (← second .1, ← first .1) (z .0) in
       rw (e .is) (record {
         laid = rw (s .made n, flat-append (steps M (of a) (suc n) ++ steps M (of b) (suc n₁)) _, flat-append (steps M (of a) (suc n)) (steps M (of b) (suc n₁)))
@@ -82,9 +82,9 @@ module _ {M : ℕ} {of : ℕ → Program} {i : ℕ} {g : Guard} {a : ℕ} {old l
         ends = z .1 ∙ add-one (y .position) ∙ ap suc (second .1) ∙ sym (s .ends n);
       })
 
-  pub wrote-loop : RowSays of i (Loop g a) → Wrote M (of a) old (next from) l₁ x
-      → Laid (flat (loopSteps g (from .position) (x .position))) l₁ (x .at) new (to .at) × (to .position ≡ x .position + 1)
-      → Wrote M (of i) old from new to
+  pub wrote-loop : RowSays of i (Loop g a) → StepsLaid M (of a) old (next from) l₁ x
+      → LaidOver (flat (loopSteps g (from .position) (x .position))) l₁ (x .at) new (to .at) × (to .position ≡ x .position + 1)
+      → StepsLaid M (of i) old from new to
   wrote-loop e u z =
       let n : ℕ = from .position in
       let s = loop-made M g (of a) in
