@@ -3,6 +3,7 @@
 use Prim.Native.Nat.{ℕ, _≤_, _<_}
 use mathlib.Core.Path.{_≡_, refl, sym, _∙_, ap}
 use mathlib.Core.List.{List, [], _∷_}
+use mathlib.Core.Logic.{_⊎_, inl, inr}
 use native.Mathlib.Omega.{arith}
 use lib.ListN.{length}
 use lib.Seq.{sets}
@@ -40,15 +41,15 @@ module _ {Content : View → List ℕ → Type 0} {old : LentOutput} (h : Handed
       → Writes Content old (viewIn h) d new
   write-passed e {d} {new} x = of-loaded h (λ (c : Checked View). Writes Content old c d new) e x
 
--- what is no plan asks for no bytes
-none-asked : (w : S.Verdict) → ((c : ℕ) → w ≡ S.plan c → ⊥) → (count : ℕ) → 0 ≡ bytesFor w count
-none-asked (S.plan c) f count = absurd (f c refl)
-none-asked (S.blocked i) f count = refl
-none-asked S.unfinished f count = refl
-none-asked S.missed f count = refl
+-- a plan, or what asks for no bytes
+plan-or-none : (v : Verdict) (count : ℕ) → ((c : ℕ) × (v ≡ Verdict.Plan c)) ⊎ (0 ≡ bytesFor (verdictOf v) count)
+plan-or-none (Verdict.Plan c) count = inl (c, refl)
+plan-or-none (Verdict.Blocked i) count = inr refl
+plan-or-none Verdict.Unfinished count = inr refl
+plan-or-none Verdict.Missed count = inr refl
 
 pub other-asks : (v : Verdict) → OneOf (1 ∷ 2 ∷ 3 ∷ []) (tagOf the-type v) → (count : ℕ) → 0 ≡ bytesFor (verdictOf v) count
-other-asks v o = none-asked (verdictOf v) (other-tag v o)
+other-asks v o count = elim (plan-or-none v count) [ inl x ↦ absurd (other-tag v o (x .0) (ap verdictOf (x .1))) | inr e ↦ e ]
 
 -- of a job that is stored and measured, and moves that it has
 module _ {l : LoadedJob} {rows plan : List ℕ} (sized : Sized l rows) (entries : EntriesBelow plan (domainIn (l .head) rows .moves)) (list out : List ℕ)
@@ -85,14 +86,4 @@ module _ {l : LoadedJob} {rows plan : List ℕ} (sized : Sized l rows) (entries 
     -- only a plan needs any bytes
     pub lay-short : length out < need → {r : Refusal} → r ≡ record { number = 6; place = need }
         → Writes SheetIs (record { list = list; output = out }) (passed view) (refused (r .number) (r .place)) (record { list = list; output = out })
-    lay-short h f = rw f (by v refl)
-      where
-        none-needed : {w : Verdict} → v ≡ w → bytesFor (verdictOf w) (length plan) ≡ 0 → ⊥
-        none-needed e z = omega (arith, h, n ∙ ap (λ (u : Verdict). bytesFor (verdictOf u) (length plan)) e, z)
-
-        by : (w : Verdict) → v ≡ w
-            → Writes SheetIs (record { list = list; output = out }) (passed view) (refused 6 need) (record { list = list; output = out })
-        by (Verdict.Plan c) e = short-plan e h
-        by (Verdict.Blocked i) e = absurd (none-needed e refl)
-        by Verdict.Unfinished e = absurd (none-needed e refl)
-        by Verdict.Missed e = absurd (none-needed e refl)
+    lay-short h f = rw f (elim (plan-or-none v (length plan)) [ inl x ↦ short-plan (x .1) h | inr z ↦ absurd (omega (arith, h, n, z)) ])

@@ -53,7 +53,7 @@ judgeOutcome (Judge.the-variants.Judged positions steps g) =
     passed (record { sizes = record { positions = positions; steps = steps }; judgement = judgementOf g })
 judgeOutcome (Judge.the-variants.Refused r) = refused (r .number) (r .place)
 
--- what is written for a plan: how much of it there is; of a list that isn't a plan the verdict
+-- how much is written for a plan; of a list that isn't a plan the verdict
 pub data WriteOutcome : Type 0 where
   wrote : ℕ → WriteOutcome
   said : S.Verdict → WriteOutcome
