@@ -8,6 +8,7 @@ use mathlib.Core.Option.{Option, none, some}
 use native.Mathlib.Omega.{arith}
 use lib.Dec.{ltb}
 use lib.ListN.{length}
+use Rattle.laws.proofs.Tests.{cond-some}
 use Rattle.limits.specs.Limits.{mostStates, mostCost}
 use Rattle.job.specs.StateCount.{stateCount}
 use Rattle.job.specs.Job.{Job, Move, moveAt}
@@ -16,18 +17,13 @@ use Rattle.job.specs.WellFormed.{WellFormed}
 use Rattle.job.specs.Stored.{Stored}
 use Rattle.job.specs.declared.head.Head.{Head}
 use Rattle.semantics.proofs.Bounds.{Bounded}
-use Rattle.domain.specs.State.{affected}
-use Rattle.domain.specs.Domain.{effectsOf, holdsIn, successorOf, costIn, domainOf, domainIn}
-use Rattle.domain.proofs.EffectLaws.{affected-below}
-use Rattle.domain.proofs.FactLaws.{count-within}
-
--- what holds of all that a test lets through
-let-through : (P : ℕ → Type 0) (b : Bool) (o : Option ℕ) → ((t : ℕ) → o ≡ some t → P t) → (t : ℕ) → cond b o none ≡ some t → P t
-let-through P true o f t e = f t e
-let-through P false o f t e = let z : _≡_ {A = ℕ} 0 1 = cc in absurd (omega arith)
+use Rattle.domain.specs.State.{values, stateWith}
+use Rattle.domain.specs.Effects.{factAfter, affected}
+use Rattle.domain.specs.Domain.{effectsOf, canMake, successorOf, costIn, domainOf, domainIn}
+use Rattle.domain.proofs.FactLaws.{count-within, state-below}
 
 pub domain-bounded : (t : Task) → WellFormed (t .job) → CostsWithin (t .costs) → Bounded (domainOf t) mostCost
-unfolding successorOf costIn
+unfolding successorOf affected costIn
 domain-bounded t k c = record { start = k .init; successors = stays; costs = λ m w. c (moveAt (t .job) m .class) }
   where
     j : Job
@@ -35,12 +31,10 @@ domain-bounded t k c = record { start = k .init; successors = stays; costs = λ 
 
     stays : (m w t : ℕ) → w < stateCount (j .scalars .facts) → successorOf j m w ≡ some t → t < stateCount (j .scalars .facts)
     stays m w t h e =
-        let x : Move = moveAt j m in
-        let y : ℕ = affected (j .formulas) (effectsOf j x) w in
-        let below : y < stateCount (j .scalars .facts) = affected-below j k (x .first) (x .effects) (j .formulas) w h in
-        let P : ℕ → Type 0 = λ u. u < stateCount (j .scalars .facts) in
-        let-through P (ltb m (length (j .moves))) (cond (holdsIn j (x .pre) w) (some y) none)
-        (let-through P (holdsIn j (x .pre) w) (some y) (λ u d. let q : y ≡ u = cc in rw q at below)) t e
+        let after : ℕ → Bool = factAfter (values w (j .formulas)) (effectsOf j (moveAt j m)) w in
+        let made = cond-some (canMake j m w) {o = some (stateWith (j .scalars .facts) after)} e .1 in
+        let q : stateWith (j .scalars .facts) after ≡ t = cc in
+        rw q at (state-below (j .scalars .facts) after)
 
 -- the same of a stored task
 module _ {head : Head} {rows : List ℕ} (s : Stored head rows) where

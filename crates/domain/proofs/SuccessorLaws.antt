@@ -7,12 +7,14 @@ use mathlib.Core.Option.{none, some}
 use mathlib.Core.List.{List}
 use lib.Dec.{ltb}
 use lib.ListN.{length, getD}
+use lib.Bits.{bitAnd, bitOr, bitXor}
 use borrow.Author.Tests.{lt-ltb, le-ltb}
 use Rattle.job.specs.Job.{Job, Move, moveAt}
 use Rattle.job.specs.Task.{Task}
-use Rattle.domain.specs.State.{values, applied, affected}
-use Rattle.domain.specs.Domain.{effectsOf, holdsIn, successorOf, domainOf, Tells}
-use Rattle.domain.proofs.EffectLaws.{applied-same}
+use Rattle.domain.specs.State.{fact, values}
+use Rattle.domain.specs.Effects.{gets}
+use Rattle.domain.specs.Domain.{effectsOf, holdsIn, canMake, successorOf, domainOf, Tells}
+use Rattle.domain.proofs.EffectLaws.{gets-same, no-conflict, some-conflict, affected-by}
 
 module _ (a : Task) (m w : ℕ) (vs : List Bool) (t : Tells (domainOf a) w vs) (g : m < domainOf a .moves) {x : Move} (e : x ≡ moveAt (a .job) m) where
   abbrev j : Job
@@ -21,20 +23,36 @@ module _ (a : Task) (m w : ℕ) (vs : List Bool) (t : Tells (domainOf a) w vs) (
   is-move : ltb m (length (j .moves)) ≡ true
   is-move = lt-ltb m (length (j .moves)) g
 
-  pub successor-some : (y z : ℕ) → getD vs (x .pre) false ≡ true → y ≡ applied vs 0 (effectsOf j x) w
-      → z ≡ applied vs 1 (effectsOf j x) y → some z ≡ successorOf j m w
-  unfolding successorOf holdsIn affected
-  successor-some y z p a b =
-      let us = values w (j .formulas) in
-      let k : z ≡ applied us 1 (effectsOf j x) (applied us 0 (effectsOf j x) w) =
-      b ∙ applied-same vs us t 1 (effectsOf j x) y ∙ ap (applied us 1 (effectsOf j x)) (a ∙ applied-same vs us t 0 (effectsOf j x) w) in
-      rw (is-move, ← e, sym (t (x .pre)) ∙ p) (ap some k)
-
   pub successor-none : getD vs (x .pre) false ≡ false → none ≡ successorOf j m w
-  unfolding successorOf holdsIn
+  unfolding successorOf canMake holdsIn
   successor-none p = rw (is-move, ← e, sym (t (x .pre)) ∙ p)
+
+  -- the facts that are cleared, and those that are set, as states
+  module _ (p : getD vs (x .pre) false ≡ true) (c s : ℕ)
+      (cs : (c < domainOf a .states) × ((i : ℕ) → fact c i ≡ gets vs (effectsOf j x) 0 i))
+      (ss : (s < domainOf a .states) × ((i : ℕ) → fact s i ≡ gets vs (effectsOf j x) 1 i)) where
+    abbrev us : List Bool
+    us = values w (j .formulas)
+
+    cleared : (i : ℕ) → fact c i ≡ gets us (effectsOf j x) 0 i
+    unfolding holdsIn
+    cleared i = cs .1 i ∙ gets-same vs us t (effectsOf j x) 0 i
+
+    sets : (i : ℕ) → fact s i ≡ gets us (effectsOf j x) 1 i
+    unfolding holdsIn
+    sets i = ss .1 i ∙ gets-same vs us t (effectsOf j x) 1 i
+
+    pub successor-conflict : (bitAnd c s ≡ 0 → ⊥) → none ≡ successorOf j m w
+    unfolding successorOf canMake holdsIn
+    successor-conflict common =
+        rw (is-move, ← e, sym (t (x .pre)) ∙ p, some-conflict us (effectsOf j x) (j .scalars .facts) c s (cs .0) (ss .0) cleared sets common)
+
+    pub successor-some : bitAnd c s ≡ 0 → w < domainOf a .states → some (bitOr (bitXor (bitOr w c) c) s) ≡ successorOf j m w
+    unfolding successorOf canMake holdsIn
+    successor-some z h = rw (is-move, ← e, sym (t (x .pre)) ∙ p, no-conflict us (effectsOf j x) (j .scalars .facts) c s (cs .0) (ss .0) cleared sets z)
+        (ap some (affected-by us (effectsOf j x) (j .scalars .facts) c s (cs .0) (ss .0) cleared sets w h))
 
 -- past the last move there is none
 pub successor-past : (a : Task) (m w : ℕ) → domainOf a .moves ≤ m → none ≡ domainOf a .successor m w
-unfolding successorOf
+unfolding successorOf canMake
 successor-past a m w g = rw (le-ltb m (length (a .job .moves)) g)

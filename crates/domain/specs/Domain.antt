@@ -1,7 +1,7 @@
 -- The domain of a task: a state is a set of facts, as a number (document 01: world).
 use Prim.Native.Nat.{ℕ}
 use mathlib.Core.Path.{_≡_}
-use mathlib.Core.Bool.{Bool, false, cond}
+use mathlib.Core.Bool.{Bool, false, not, _&&_, cond}
 use mathlib.Core.Option.{Option, none, some}
 use mathlib.Core.List.{List}
 use lib.Dec.{ltb}
@@ -12,7 +12,8 @@ use Rattle.job.specs.Task.{Task, classCost}
 use Rattle.job.specs.Store.{taskOf}
 use Rattle.job.specs.declared.head.Head.{Head}
 use Rattle.semantics.specs.Domain.{Domain}
-use Rattle.domain.specs.State.{values, affected}
+use Rattle.domain.specs.State.{values}
+use Rattle.domain.specs.Effects.{conflicts, affected}
 
 -- the lines `e=` of a move
 abbrev pub effectsOf : Job → Move → List Effect
@@ -21,11 +22,15 @@ effectsOf j x = take (x .effects) (drop (x .first) (j .effects))
 unfoldable pub holdsIn : Job → ℕ → ℕ → Bool
 holdsIn j a w = getD (values w (j .formulas)) a false
 
--- "A move can be made where its precondition holds."
-unfoldable pub successorOf : Job → ℕ → ℕ → Option ℕ
-successorOf j m w =
+-- "A move can be made where its precondition holds", and it "can't be made in a world where its effects
+-- that hold both clear and set one fact"
+unfoldable pub canMake : Job → ℕ → ℕ → Bool
+canMake j m w =
     let x = moveAt j m in
-    cond (ltb m (length (j .moves))) (cond (holdsIn j (x .pre) w) (some (affected (j .formulas) (effectsOf j x) w)) none) none
+    ltb m (length (j .moves)) && (holdsIn j (x .pre) w && not (conflicts (values w (j .formulas)) (effectsOf j x)))
+
+unfoldable pub successorOf : Job → ℕ → ℕ → Option ℕ
+successorOf j m w = cond (canMake j m w) (some (affected (j .scalars .facts) (values w (j .formulas)) (effectsOf j (moveAt j m)) w)) none
 
 -- by the class costs that were loaded
 unfoldable pub costIn : Task → ℕ → ℕ → ℕ

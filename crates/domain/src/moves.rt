@@ -6,7 +6,7 @@ ghost use Rattle.limits.specs.Limits.{mostCost};
 ghost use Rattle.domain.specs.Domain.{domainIn, Tells};
 ghost use Rattle.domain.specs.Successor.{successorIn};
 use crate::Successor;
-use crate::effects::apply_effects;
+use crate::effects::facts_getting;
 use job::head::Head;
 
 // How many moves there are.
@@ -17,19 +17,23 @@ pub fn move_count(head: Head, rows: &[u16]) -> u16
     head.counts.moves
 }
 
-// The state after move m, by the formulas' values in the state before: "Effects that hold clear
-// first, then set".
+// The state after move m, by the formulas' values in the state before: none where its precondition
+// fails, or where its effects that hold both clear and set one fact.
 pub fn successor(head: Head, rows: &[u16], values: &[bool], m: u16, state: u16) -> Successor
     requires { ⌜ Stored head (now rows) × Tells (domainIn head (now rows)) state (now values) ⌝ }
     requires { ⌜ (m < domainIn head (now rows) .moves) × (state < domainIn head (now rows) .states) ⌝ }
     ensures { λ r. ⌜ successorIn r ≡ domainIn head (now (rows .entry)) .successor m state ⌝ }
 {
     let made = job::stored::move_at(head, rows, m);
-    if crate::formulas::value_at(values, made.pre) {
-        let cleared = apply_effects(head, rows, values, 0, made, state);
-        return Successor::To(apply_effects(head, rows, values, 1, made, cleared));
+    if !crate::formulas::value_at(values, made.pre) {
+        return Successor::Inapplicable;
     }
-    Successor::Inapplicable
+    let cleared = facts_getting(head, rows, values, 0, made);
+    let set = facts_getting(head, rows, values, 1, made);
+    if cleared & set != 0 {
+        return Successor::Inapplicable;
+    }
+    Successor::To((state | cleared) ^ cleared | set)
 }
 
 // What move m costs in a state, by the formulas' values in it.

@@ -84,5 +84,5 @@ module _ {h : Head} {l : List ℕ} (s : Stored h l) where
           effect-count h l,
         )
 
-    pub effect-fact : i < h .counts .effects → effectAt (jobOf h l) i .fact < mostFacts
-    effect-fact g = omega (arith, s .job .effect i (omega (arith, effect-count h l)) .fact, s .job .facts)
+    pub effect-fact : i < h .counts .effects → effectAt (jobOf h l) i .fact < h .counts .facts
+    effect-fact g = s .job .effect i (omega (arith, effect-count h l)) .fact
