@@ -3,38 +3,31 @@
 use Prim.Native.Nat.{ℕ, _≤_, _<_}
 use mathlib.Core.List.{List}
 use mathlib.Core.Path.{_≡_}
-use mathlib.Core.Bool.{Bool, true, false, cond}
-use mathlib.Core.Option.{Option, none, some}
-use native.Mathlib.Omega.{arith}
-use lib.Dec.{ltb}
-use lib.ListN.{length}
-use Rattle.laws.proofs.Tests.{cond-some}
+use mathlib.Core.Option.{some}
 use Rattle.limits.specs.Limits.{mostStates, mostCost}
 use Rattle.job.specs.StateCount.{stateCount}
-use Rattle.job.specs.Job.{Job, Move, moveAt}
+use Rattle.job.specs.Job.{Job, moveAt}
 use Rattle.job.specs.Task.{Task, CostsWithin}
 use Rattle.job.specs.WellFormed.{WellFormed}
 use Rattle.job.specs.Stored.{Stored}
 use Rattle.job.specs.declared.head.Head.{Head}
 use Rattle.semantics.proofs.Bounds.{Bounded}
-use Rattle.domain.specs.State.{values, stateWith}
+use Rattle.domain.specs.State.{values}
 use Rattle.domain.specs.Effects.{factAfter, affected}
-use Rattle.domain.specs.Domain.{effectsOf, canMake, successorOf, costIn, domainOf, domainIn}
-use Rattle.domain.proofs.FactLaws.{count-within, state-below}
+use Rattle.domain.specs.Domain.{effectsOf, successorOf, costIn, domainOf, domainIn}
+use Rattle.domain.proofs.FactLaws.{count-within}
+use Rattle.domain.proofs.StateLaws.{state-below}
+use Rattle.domain.proofs.SuccessorLaws.{successor-is}
 
 pub domain-bounded : (t : Task) → WellFormed (t .job) → CostsWithin (t .costs) → Bounded (domainOf t) mostCost
-unfolding successorOf affected costIn
+unfolding affected costIn
 domain-bounded t k c = record { start = k .init; successors = stays; costs = λ m w. c (moveAt (t .job) m .class) }
   where
     j : Job
     j = t .job
 
     stays : (m w t : ℕ) → w < stateCount (j .scalars .facts) → successorOf j m w ≡ some t → t < stateCount (j .scalars .facts)
-    stays m w t h e =
-        let after : ℕ → Bool = factAfter (values w (j .formulas)) (effectsOf j (moveAt j m)) w in
-        let made = cond-some (canMake j m w) {o = some (stateWith (j .scalars .facts) after)} e .1 in
-        let q : stateWith (j .scalars .facts) after ≡ t = cc in
-        rw q at (state-below (j .scalars .facts) after)
+    stays m w t h e = rw (successor-is j m w t e) at (state-below (j .scalars .facts) (factAfter (values w (j .formulas)) (effectsOf j (moveAt j m)) w))
 
 -- the same of a stored task
 module _ {head : Head} {rows : List ℕ} (s : Stored head rows) where

@@ -16,9 +16,10 @@ use Rattle.laws.proofs.Tests.{never, and-left, and-right, and-both, or-either, 
 use Rattle.limits.specs.Limits.{mostFacts}
 use Rattle.job.specs.StateCount.{stateCount}
 use Rattle.job.specs.Job.{Effect, effectOf}
-use Rattle.domain.specs.State.{fact, stateWith}
+use Rattle.domain.specs.State.{fact}
 use Rattle.domain.specs.Effects.{anyOf, gives, gets, conflicts, factAfter, affected}
-use Rattle.domain.proofs.FactLaws.{fact-and, fact-or, fact-xor, no-fact, bits-worth, worth-below, worth-fact, state-only, state-same, facts-decide}
+use Rattle.domain.proofs.FactLaws.{fact-and, fact-or, fact-xor, no-fact, bit-worth, worth-below, worth-fact}
+use Rattle.domain.proofs.StateLaws.{state-only, state-same, facts-decide}
 use Rattle.domain.proofs.ValueLaws.{Same}
 
 module _ {A : Type 0} (p : A → Bool) where
@@ -37,19 +38,23 @@ module _ {A : Type 0} (p : A → Bool) where
   any-same q h [] = refl
   any-same q h (a ∷ l) = rw (h a, any-same q h l) refl
 
+  pub any-some : (l : List A) → anyOf p l ≡ true → (a : A) × (p a ≡ true)
+  unfolding anyOf
+  any-some [] e = never e
+  any-some (a ∷ l) e = or-either (p a) (anyOf p l) (λ d. (a, d)) (any-some l) e
+
   any-so : (q : A → Bool) → ((a : A) → p a ≡ true → q a ≡ true) → (l : List A) → anyOf p l ≡ true → anyOf q l ≡ true
   unfolding anyOf
   any-so q h [] e = e
   any-so q h (a ∷ l) e = or-either (p a) (anyOf p l) (λ d. rw (h a d) refl) (λ d. rw (any-so q h l d) (or-true (q a))) e
 
 -- the fact that one effect gives the value v, as a state of n facts
-pub gives-fact : (vs : List Bool) (n v : ℕ) (e : Effect) (on : Bool) (x y : ℕ) → e .fact < n → n ≤ mostFacts → on ≡ getD vs (e .cond) false
-    → x ≡ cond on 1 0 → y ≡ cond (eqb (e .value) v) 1 0
-    → ((x * y * 2 ^ (e .fact)) % 65536 < stateCount n) × ((i : ℕ) → fact ((x * y * 2 ^ (e .fact)) % 65536) i ≡ gives vs v i e)
+pub gives-fact : (vs : List Bool) (n v : ℕ) (e : Effect) (x : ℕ) → e .fact < n → n ≤ mostFacts → x ≡ cond (getD vs (e .cond) false && eqb (e .value) v) 1 0
+    → ((x * 2 ^ (e .fact)) % 65536 < stateCount n) × ((i : ℕ) → fact ((x * 2 ^ (e .fact)) % 65536) i ≡ gives vs v i e)
 unfolding gives
-gives-fact vs n v e on x y h l o a b =
-    let r : (x * y * 2 ^ (e .fact)) % 65536 ≡ cond (on && eqb (e .value) v) (2 ^ (e .fact)) 0 = rw (a, b) (bits-worth n (e .fact) h l on (eqb (e .value) v)) in
-    rw (r, ← o) (worth-below n (e .fact) h l (on && eqb (e .value) v), λ i. worth-fact (e .fact) i (on && eqb (e .value) v))
+gives-fact vs n v e x h l a =
+    let b : Bool = getD vs (e .cond) false && eqb (e .value) v in
+    rw (a, bit-worth n (e .fact) h l b) (worth-below n (e .fact) h l b, λ i. worth-fact (e .fact) i b)
 
 -- one effect more, of those from number `first` on, where f and x have the facts that get the value v
 pub gets-more : (vs : List Bool) (es : List Effect) (first k v f x : ℕ) → first + k < length es

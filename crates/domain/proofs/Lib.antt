@@ -1,5 +1,7 @@
 pub mod FactLaws
+pub mod StateLaws
 pub mod ValueLaws
 pub mod EffectLaws
+pub mod ConflictLaws
 pub mod SuccessorLaws
 pub mod DomainLaws

@@ -9,10 +9,11 @@ use lib.Dec.{ltb}
 use lib.ListN.{length, getD}
 use lib.Bits.{bitAnd, bitOr, bitXor}
 use borrow.Author.Tests.{lt-ltb, le-ltb}
+use Rattle.laws.proofs.Tests.{cond-some}
 use Rattle.job.specs.Job.{Job, Move, moveAt}
 use Rattle.job.specs.Task.{Task}
 use Rattle.domain.specs.State.{fact, values}
-use Rattle.domain.specs.Effects.{gets}
+use Rattle.domain.specs.Effects.{gets, affected}
 use Rattle.domain.specs.Domain.{effectsOf, holdsIn, canMake, successorOf, domainOf, Tells}
 use Rattle.domain.proofs.EffectLaws.{gets-same, no-conflict, some-conflict, affected-by}
 
@@ -51,6 +52,11 @@ module _ (a : Task) (m w : ℕ) (vs : List Bool) (t : Tells (domainOf a) w vs) (
     unfolding successorOf canMake holdsIn
     successor-some z h = rw (is-move, ← e, sym (t (x .pre)) ∙ p, no-conflict us (effectsOf j x) (j .scalars .facts) c s (cs .0) (ss .0) cleared sets z)
         (ap some (affected-by us (effectsOf j x) (j .scalars .facts) c s (cs .0) (ss .0) cleared sets w h))
+
+-- where there is one, it is the state after the effects
+pub successor-is : (j : Job) (m w t : ℕ) → successorOf j m w ≡ some t → affected (j .scalars .facts) (values w (j .formulas)) (effectsOf j (moveAt j m)) w ≡ t
+unfolding successorOf
+successor-is j m w t e = let made = cond-some (canMake j m w) e .1 in cc
 
 -- past the last move there is none
 pub successor-past : (a : Task) (m w : ℕ) → domainOf a .moves ≤ m → none ≡ domainOf a .successor m w

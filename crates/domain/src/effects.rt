@@ -28,8 +28,7 @@ fn fact_getting(head: Head, rows: &[u16], values: &[bool], v: u16, k: u16) -> u1
 {
     let effect = job::stored::effect_at(head, rows, k);
     let on = crate::formulas::value_at(values, effect.cond);
-    let times = bit(on) * bit(effect.value == v);
-    times << effect.fact
+    bit(on & (effect.value == v)) << effect.fact
 }
 
 // The facts to which a move's effects that hold by the formulas' values give the value v.

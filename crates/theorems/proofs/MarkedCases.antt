@@ -19,14 +19,15 @@ use Rattle.semantics.specs.Machine.{onward, finished, verdictFrom}
 use Rattle.semantics.specs.PositionSets.{spread, close, silentIn, isMove, anyMark, firstSet, nextSet, moveOn, verdictBy}
 use Rattle.semantics.specs.StepVerdict.{arrives}
 use Rattle.semantics.proofs.CheckLaws.{verdict-by-judged}
-use Rattle.domain.specs.State.{fact, putFact, value, values, afterEffect, applied, affected}
+use Rattle.domain.specs.State.{fact, stateWith, value, values}
+use Rattle.domain.specs.Effects.{anyOf, gives, gets, conflicts, factAfter, affected}
 use Rattle.job.specs.Task.{classCost}
-use Rattle.domain.specs.Domain.{holdsIn, successorOf, costIn, domainOf}
+use Rattle.domain.specs.Domain.{holdsIn, canMake, successorOf, costIn, domainOf}
 use Rattle.compile.specs.Program.{build, programs, programOf}
 use Rattle.compile.specs.CompiledJob.{positionCount, stepCount, fits}
 use Rattle.lists.specs.CountedList.{entryIn, countIn, readEntries, readLines, readList}
 use Rattle.load.specs.Refusals.{Checked, passed, refused, Offer, next, jobIn, taskIn, textsIn, loading}
-use Rattle.theorems.specs.MarkedCases.{Case, marked, pricedCases, handedByProgram, Right}
+use Rattle.theorems.specs.MarkedCases.{Case, marked, pricedCases, conflictCases, handedByProgram, Right}
 use Rattle.theorems.proofs.Acceptance.{accepted-within, accepted-iff}
 use Rattle.theorems.proofs.ComputedTable.{follow, followAll, sweep, sweeps, computedTable, keeps, every, relaxedBelow}
 use Rattle.theorems.proofs.ComputedJudgement.{lowestBelow, computedJudgement, computed-finds}
@@ -51,15 +52,15 @@ judged c = next (loading (handedByProgram (c .texts))) (λ o. passed (computedOf
 abbrev said : Case → Checked Computed
 said c = passed (record { positions = c .positions; steps = c .steps; says = some (c .says) })
 
-computed : map judged (marked ++ pricedCases) ≡ map said (marked ++ pricedCases)
+computed : map judged (marked ++ (pricedCases ++ conflictCases)) ≡ map said (marked ++ (pricedCases ++ conflictCases))
 unfolding bytes lines hasKey valueOf byteRead numbers
     lineNumbers fault taken ended readFrom readJob
     end steps branchSteps whileSteps starSteps build programs fits
-    fact putFact value values afterEffect applied affected classCost holdsIn successorOf costIn
+    fact stateWith value values anyOf gives gets conflicts factAfter affected classCost holdsIn canMake successorOf costIn
     spread close silentIn isMove anyMark firstSet nextSet onward finished verdictFrom moveOn verdictBy
     entryIn countIn readEntries readLines readList jobIn taskIn textsIn loading
     arrives follow followAll sweep sweeps computedTable keeps every relaxedBelow lowestBelow computedJudgement
-    marked pricedCases judged
+    marked pricedCases conflictCases judged
 computed = refl
 
 judged-right : (c : Case) → judged c ≡ said c → Right c
@@ -94,10 +95,17 @@ in-second : {c : Case} (xs ys : List Case) → List·Memᴰ c ys → List·Mem�
 in-second [] ys m = m
 in-second (d ∷ xs) ys m = List·Memᴰ·tail (in-second xs ys m)
 
+abbrev others : List Case
+others = pricedCases ++ conflictCases
+
 -- every case of the table
 pub marked-cases : (c : Case) → List·Memᴰ c marked → Right c
-marked-cases c m = each-right (marked ++ pricedCases) computed c (in-first marked pricedCases m)
+marked-cases c m = each-right (marked ++ others) computed c (in-first marked others m)
 
--- and of the table by other costs
+-- of the table by other costs
 pub priced-cases : (c : Case) → List·Memᴰ c pricedCases → Right c
-priced-cases c m = each-right (marked ++ pricedCases) computed c (in-second marked pricedCases m)
+priced-cases c m = each-right (marked ++ others) computed c (in-second marked others (in-first pricedCases conflictCases m))
+
+-- and of the one with effects that conflict
+pub conflict-cases : (c : Case) → List·Memᴰ c conflictCases → Right c
+conflict-cases c m = each-right (marked ++ others) computed c (in-second marked others (in-second pricedCases conflictCases m))

@@ -57,7 +57,7 @@ abbrev pub starOfWhile : List ℕ
 starOfWhile = sampleWith "init=0\n" "goal=1\n" "program=3\np=1,0,0,0\np=7,3,0,0\np=8,1,0,0\n"
 
 -- "With init 0, goal fact 0 and one move of precondition true that clears and sets fact 0, recipe
--- that move"; the clearing comes last in the text, and the move costs 5
+-- that move"; the clearing comes last in the text
 abbrev clearsAndSets : List ℕ
 clearsAndSets = bytes "job=1\nfacts=1\ninit=0\nformulas=2\nf=1,0,0\nf=2,0,0\nmoves=1\nm=0,1,2\ne=0,0,1\ne=0,0,0\ngoal=1\nprogram=1\np=1,0,0,0\n"
 
@@ -76,7 +76,7 @@ marked =
     ∷ marks starOfChoice 8 9 "plan=3\nm=0\nm=0\nm=1\n" (dearer 45 25)  -- "(6) 0,0,1 dearer, 45 against 25"
     ∷ marks starOfChoice 8 9 "plan=0\n" (other missed)  -- "(7) empty list goal missed"
     ∷ marks starOfWhile 6 7 "plan=1\nm=0\n" (other unfinished)  -- "(8) list 0 unfinished"
-    ∷ marks clearsAndSets 2 1 "plan=1\nm=0\n" (least 5)  -- "(9) … list 0 is a plan"
+    ∷ marks clearsAndSets 2 1 "plan=1\nm=0\n" (other (blocked 0))  -- "(9)", which by request (d) "becomes blocked 0"
     ∷ marks nilProgram 2 1 "plan=0\n" (least 0)  -- "(10) … empty plan least at 0"
     ∷ []
 
@@ -94,6 +94,22 @@ pricedCases =
     priced (marks sample 3 2 "plan=2\nm=0\nm=1\n" (least 65542)) ownCosts
     ∷ priced (marks starOfChoice 8 9 "plan=3\nm=0\nm=0\nm=1\n" (dearer 131077 65542)) ownCosts
     ∷ priced (marks starOfChoice 8 9 "plan=3\nm=0\nm=0\nm=1\n" (least 0)) freeCosts
+    ∷ []
+
+-- one move with this effect, and another that clears fact 0, with this formula 1
+abbrev clearsAnd : String → String → String → List ℕ
+clearsAnd effect init formula =
+    bytes "job=1\nfacts=1\n" ++ bytes init ++ bytes "formulas=2\nf=1,0,0\n" ++ bytes formula ++ bytes "moves=1\nm=0,1,2\n" ++ bytes effect
+    ++ bytes "e=0,0,0\ngoal=0\nprogram=1\np=1,0,0,0\n"
+
+-- "a move can't be made in a world where its effects that hold both clear and set one fact": the one
+-- that sets it holds in no state but 1, or in none; and to clear a fact twice is no conflict
+unfoldable pub conflictCases : List Case
+conflictCases =
+    marks (clearsAnd "e=1,0,1\n" "init=0\n" "f=2,0,0\n") 2 1 "plan=1\nm=0\n" (least 5)
+    ∷ marks (clearsAnd "e=1,0,1\n" "init=1\n" "f=2,0,0\n") 2 1 "plan=1\nm=0\n" (other (blocked 0))
+    ∷ marks (clearsAnd "e=1,0,1\n" "init=1\n" "f=0,0,0\n") 2 1 "plan=1\nm=0\n" (least 5)
+    ∷ marks (clearsAnd "e=1,0,0\n" "init=1\n" "f=2,0,0\n") 2 1 "plan=1\nm=0\n" (least 5)
     ∷ []
 
 -- "the judge program's table holds 6,144", "its compiled list 4,096"

@@ -46,7 +46,7 @@ loop-again c =
       omega arith,
       or-lt (a .head .counts .facts) (l .facts) (one .result) (l .inv .1) (one .ensures .0),
       gets-more (a .values .now) (jobOf (a .head) (a .rows .now) .effects) (a .made .first) (l .k) (a .v) (l .facts) (one .result)
-      (omega (arith, p .1)) (l .inv .2) (one .ensures .1),
+          (omega (arith, p .1)) (l .inv .2) (one .ensures .1),
     )
 
 returns : tie.Need-returns Inv-loop μ-loop
