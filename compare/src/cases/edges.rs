@@ -4,7 +4,7 @@
 use super::costs::GREATEST_COSTS;
 use super::Case;
 use crate::second::compiler::{program_size, Size, MOST_POSITIONS, MOST_STEPS};
-use crate::second::domain::Domain;
+use crate::second::domain::{clear_and_set, Domain};
 use crate::second::fault::Fault;
 use crate::second::job::*;
 use crate::second::reader::{read_costs, read_job, read_plan};
@@ -16,7 +16,7 @@ use crate::second::verdict::Verdict;
 type Edge = (&'static str, fn(&Look) -> bool);
 
 /// The limits, in the order in which they are printed.
-pub const EDGES: [Edge; 52] = [
+pub const EDGES: [Edge; 54] = [
     ("0 facts", |look| look.job(|job| job.facts == 0)),
     ("12 facts", |look| look.job(|job| job.facts == MOST_FACTS)),
     ("13 facts", |look| look.refused_line == Some(b"facts=13")),
@@ -32,6 +32,8 @@ pub const EDGES: [Edge; 52] = [
         look.job(|job| job.moves.iter().any(|action| action.effects.len() == usize::from(MOST_EFFECTS)))
     }),
     ("17 effects", |look| look.refused_line.is_some_and(|line| line.starts_with(b"m=") && line.ends_with(b",17"))),
+    ("blocked by a conflict", |look| look.met_conflict()),
+    ("plan, but for conditions a conflict", |look| look.laid_with(|action| clear_and_set(&action.effects))),
     ("class 15", |look| look.job(|job| job.moves.iter().any(|action| action.class == CLASSES - 1))),
     ("any over 0 moves", |look| look.job(|job| job.moves.is_empty() && job.rows.iter().any(|row| row[0] == 2))),
     ("0 rows", |look| look.refused_line == Some(b"program=0")),
@@ -124,6 +126,19 @@ fn is_plan(job: &Job, moves: &[u16]) -> bool {
     matches!(verdict, Verdict::Plan(_))
 }
 
+/// Whether the moves, made one by one, come to one whose effects conflict.
+fn comes_to_conflict(job: &Job, moves: &[u16]) -> bool {
+    let domain = Domain::new(job, HOUSE_COSTS, Fault::None);
+    let mut state = job.init;
+    for index in moves {
+        let Some(after) = domain.successor(*index, state) else {
+            return domain.conflicts(*index, state);
+        };
+        state = after;
+    }
+    false
+}
+
 /// Whether a line is of the form of a cost.
 fn is_cost(line: &[u8]) -> bool {
     line.strip_prefix(b"c=").is_some_and(|value| !value.is_empty() && value.iter().all(u8::is_ascii_digit))
@@ -168,6 +183,19 @@ impl Look<'_> {
     /// The text of steps as it is read, where the job compiles.
     fn steps(&self) -> Option<Plan> {
         self.plan(&self.case.steps, b't', |own| own.size.steps as usize)
+    }
+
+    /// Whether the moves come to one whose effects conflict.
+    fn met_conflict(&self) -> bool {
+        matches!(self.moves(), Some(Ok(moves)) if self.job(|job| comes_to_conflict(job, &moves)))
+    }
+
+    /// Whether the moves are a plan, and something holds of one of them.
+    fn laid_with(&self, holds: impl Fn(&Move) -> bool) -> bool {
+        let Some(Ok(moves)) = self.moves() else {
+            return false;
+        };
+        self.job(|job| moves.iter().any(|index| holds(&job.moves[usize::from(*index)])) && is_plan(job, &moves))
     }
 
     /// Whether the moves get a sheet, where there is room for it, and something holds of how many they are.

@@ -3,7 +3,7 @@
 use std::cell::OnceCell;
 
 use super::fault::Fault;
-use super::job::{ClassCosts, Job, Move};
+use super::job::{ClassCosts, Effect, Job, Move};
 
 /// What is true of one state: the value of each formula, and the successor by each move that is applicable.
 pub struct View {
@@ -35,6 +35,13 @@ impl<'a> Domain<'a> {
         self.view(state).successors[usize::from(index)]
     }
 
+    /// Whether a move's precondition holds in a state, and its effects that hold both clear and set one fact.
+    pub fn conflicts(&self, index: u16, state: u16) -> bool {
+        let action = &self.job.moves[usize::from(index)];
+        let values = &self.view(state).values;
+        values[usize::from(action.pre)] && clear_and_set(&self.holding(action, state, values))
+    }
+
     /// What a move costs.
     pub fn cost(&self, index: u16) -> u64 {
         self.cost_by(&self.costs, index)
@@ -60,25 +67,53 @@ impl<'a> Domain<'a> {
         View { values, successors }
     }
 
-    /// The state after a move, given the formulas' values before it: effects that hold clear first, then set.
+    /// The state after a move, given the formulas' values before it: none where its precondition fails, and none where
+    /// its effects that hold conflict.
     fn after(&self, action: &Move, state: u16, values: &[bool]) -> Option<u16> {
         if !values[usize::from(action.pre)] {
             return None;
         }
-        let (mut cleared, mut set) = (0, 0);
-        for [condition, fact, value] in &action.effects {
-            let holds = match self.fault {
-                Fault::Effects => formula_values(&self.job.formulas, state & !cleared | set)[usize::from(*condition)],
-                _ => values[usize::from(*condition)],
-            };
-            let mask = if *value == 0 { &mut cleared } else { &mut set };
-            *mask |= u16::from(holds) << fact;
+        let holding = self.holding(action, state, values);
+        let judged = if self.fault == Fault::ConflictAnyway { &action.effects } else { &holding };
+        if self.conflict(judged) {
+            return None;
         }
+        let facts = |value| holding.iter().filter(|own| own[2] == value).fold(0, |facts, own| facts | 1 << own[1]);
+        Some(state & !facts(0) | facts(1))
+    }
+
+    /// The effects of a move that hold, given the formulas' values before it.
+    fn holding(&self, action: &Move, state: u16, values: &[bool]) -> Vec<Effect> {
+        let mut holding = Vec::new();
+        let mut reached = state;
+        for effect in &action.effects {
+            let [condition, fact, value] = *effect;
+            let holds = match self.fault {
+                Fault::Effects => formula_values(&self.job.formulas, reached)[usize::from(condition)],
+                _ => values[usize::from(condition)],
+            };
+            if holds {
+                holding.push(*effect);
+                reached = reached & !(1 << fact) | value << fact;
+            }
+        }
+        holding
+    }
+
+    fn conflict(&self, effects: &[Effect]) -> bool {
         match self.fault {
-            Fault::ClearLast => Some((state | set) & !cleared),
-            _ => Some(state & !cleared | set),
+            Fault::ConflictIgnored => false,
+            Fault::ConflictOfEquals => {
+                (0..effects.len()).any(|i| effects[..i].iter().any(|own| own[1] == effects[i][1]))
+            }
+            _ => clear_and_set(effects),
         }
     }
+}
+
+/// Whether effects both clear and set one fact.
+pub fn clear_and_set(effects: &[Effect]) -> bool {
+    effects.iter().any(|one| effects.iter().any(|other| one[1] == other[1] && one[2] != other[2]))
 }
 
 /// The number of states of a job.

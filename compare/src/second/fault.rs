@@ -8,8 +8,12 @@ pub enum Fault {
     Star,
     /// An effect's condition is judged after the effects before it.
     Effects,
-    /// Effects set first and then clear.
-    ClearLast,
+    /// Effects that hold clear and then set, and a fact both cleared and set ends true.
+    ConflictIgnored,
+    /// A conflict is judged without the effects' conditions.
+    ConflictAnyway,
+    /// Two effects that hold and give one fact the same value are a conflict.
+    ConflictOfEquals,
     /// A choice takes its first branch alone.
     FirstBranch,
     /// A search that comes by a silent step to a configuration met before gives up.
@@ -41,10 +45,12 @@ pub enum Fault {
 }
 
 /// The faults by their names on the command line.
-pub const FAULTS: [(&str, Fault); 17] = [
+pub const FAULTS: [(&str, Fault); 19] = [
     ("star", Fault::Star),
     ("effects", Fault::Effects),
-    ("clear-last", Fault::ClearLast),
+    ("conflict-ignored", Fault::ConflictIgnored),
+    ("conflict-anyway", Fault::ConflictAnyway),
+    ("conflict-of-equals", Fault::ConflictOfEquals),
     ("first-branch", Fault::FirstBranch),
     ("free-loops", Fault::FreeLoops),
     ("late-steps", Fault::LateSteps),

@@ -23,12 +23,15 @@ pub type ClassCosts = [u16; CLASSES as usize];
 /// The costs that hold where no others are handed in.
 pub const HOUSE_COSTS: ClassCosts = [0, 5, 12, 20, 30, 45, 60, 90, 120, 180, 240, 360, 600, 900, 1800, 3600];
 
-/// A move: its precondition, its cost class and its effects `[condition, fact, value]`.
+/// An effect `[condition, fact, value]`.
+pub type Effect = [u16; 3];
+
+/// A move: its precondition, its cost class and its effects.
 #[derive(Clone, Debug, PartialEq, Eq)]
 pub struct Move {
     pub pre: u16,
     pub class: u16,
-    pub effects: Vec<[u16; 3]>,
+    pub effects: Vec<Effect>,
 }
 
 /// A job.

@@ -12,7 +12,7 @@ use jesmovit_compare::second::steps::Steps;
 use jesmovit_compare::second::verdict::Verdict;
 
 use crate::both::ask;
-use crate::sample::{nil_at_goal, one_move, sample, sample_with, star_of_or, star_of_while, text_of};
+use crate::sample::{nil_at_goal, one_move, sample, sample_with, star_of_or, star_of_while, text_of, X};
 use crate::worked::Worked;
 
 /// Moves that are a plan of this cost, where the least cost is as given.
@@ -75,7 +75,11 @@ fn case_8_unfinished() {
 #[test]
 fn case_9_cleared_and_set() {
     for effects in [[[0, 0, 0], [0, 0, 1]], [[0, 0, 1], [0, 0, 0]]] {
-        is_plan(&one_move(&effects), &[0], 5, 5);
+        let job = Worked { table: vec![0, X, X, X], ..one_move(&effects) };
+        job.compiles();
+        is_no_plan(&job, &[0], [BLOCKED, 0]);
+        job.checks_steps(&[0], [BLOCKED, 0]);
+        job.costs([NONE, 0]);
     }
 }
 
@@ -119,6 +123,27 @@ fn conditions_are_judged_in_the_old_state() {
     let action = Move { pre: 0, class: 0, effects: vec![[0, 0, 1], [1, 1, 1]] };
     let job = text_of(2, &[[1, 0, 0], [2, 0, 0], [2, 1, 0]], vec![action], 2, &[[1, 0, 0, 0]]);
     assert_eq!(judged(&job, &[0]), [MISSED, 0, 0]);
+}
+
+/// The job of the request: one move sets fact 0 where it holds, and clears it; the goal holds everywhere.
+fn set_where_true(init: u16) -> Worked {
+    let parked = one_move(&[[1, 0, 1], [0, 0, 0]]).job.replace("goal=1", "goal=0");
+    let table = if init == 0 { vec![0, 5, X, X] } else { vec![X, X, 0, X] };
+    Worked { job: parked.replace("init=0", &format!("init={init}")), table, ..one_move(&[]) }
+}
+
+#[test]
+fn a_conflict_is_of_effects_that_hold() {
+    is_plan(&set_where_true(0), &[0], 5, 5);
+    set_where_true(0).checks_steps(&[0], [PLAN, 5]);
+    is_no_plan(&set_where_true(1), &[0], [BLOCKED, 0]);
+    set_where_true(1).checks_steps(&[0], [BLOCKED, 0]);
+    set_where_true(1).costs([NONE, 0]);
+}
+
+#[test]
+fn the_same_value_twice_is_no_conflict() {
+    is_plan(&one_move(&[[0, 0, 1], [0, 0, 1]]), &[0], 5, 5);
 }
 
 #[test]

@@ -76,7 +76,7 @@ impl States {
         values
     }
 
-    /// The state after a move, where it is applicable.
+    /// The state after a move, where it is applicable and its effects that hold don't conflict.
     pub fn successor(&self, values: &Values, m: u16, state: u16) -> Option<u16> {
         let action = &self.actions[usize::from(m)];
         if !values.holds(action.pre) {
@@ -89,7 +89,7 @@ impl States {
                 sets |= effect.sets;
             }
         }
-        Some(state & !clears | sets)
+        (clears & sets == 0).then_some(state & !clears | sets)
     }
 
     pub fn cost(&self, m: u16) -> u64 {
