@@ -1,7 +1,7 @@
 -- Effects of a move: one more, the same by values that tell the same, and what the sets of facts that
 -- get 0 and 1 say of a conflict and of the state after.
 -- Assumes nothing.
-use Prim.Native.Nat.{ℕ, _+_, _*_, _%_, _^_, _≤_, _<_}
+use Prim.Native.Nat.{ℕ, _+_, _^_, _<_}
 use mathlib.Core.Path.{_≡_, refl, sym, _∙_, ap, ap₂}
 use mathlib.Core.Bool.{Bool, true, false, cond, _&&_, _||_, xor, or-assoc, or-true, or-false}
 use mathlib.Core.List.{List, [], _∷_, _++_}
@@ -10,15 +10,14 @@ use native.Mathlib.Numerals.{add-one}
 use lib.Dec.{eqb}
 use lib.ListN.{length, getD, take, drop, length-drop}
 use lib.Seq.{take-suc, getD-drop}
+use lib.Pow.{pow-pos}
 use lib.Bits.{bitAnd, bitOr, bitXor, and-le-l, or-lt, xor-lt}
 use borrow.Author.Tests.{eqb-true}
 use Rattle.laws.proofs.Tests.{never, and-left, and-right, and-both, or-either, tests-equal}
-use Rattle.limits.specs.Limits.{mostFacts}
-use Rattle.job.specs.StateCount.{stateCount}
 use Rattle.job.specs.Job.{Effect, effectOf}
-use Rattle.domain.specs.State.{fact}
-use Rattle.domain.specs.Effects.{anyOf, gives, gets, conflicts, factAfter, affected}
-use Rattle.domain.proofs.FactLaws.{fact-and, fact-or, fact-xor, no-fact, bit-worth, worth-below, worth-fact}
+use Rattle.domain.specs.State.{fact, HasFacts}
+use Rattle.domain.specs.Effects.{anyOf, gives, gets, conflicts, factAfter, affected, Changed}
+use Rattle.domain.proofs.FactLaws.{fact-and, fact-or, fact-xor, no-fact, worth-below, worth-fact}
 use Rattle.domain.proofs.StateLaws.{state-only, state-same, facts-decide}
 use Rattle.domain.proofs.ValueLaws.{Same}
 
@@ -48,31 +47,48 @@ module _ {A : Type 0} (p : A → Bool) where
   any-so q h [] e = e
   any-so q h (a ∷ l) e = or-either (p a) (anyOf p l) (λ d. rw (h a d) refl) (λ d. rw (any-so q h l d) (or-true (q a))) e
 
--- the fact that one effect gives the value v, as a state of n facts
-pub gives-fact : (vs : List Bool) (n v : ℕ) (e : Effect) (x : ℕ) → e .fact < n → n ≤ mostFacts → x ≡ cond (getD vs (e .cond) false && eqb (e .value) v) 1 0
-    → ((x * 2 ^ (e .fact)) % 65536 < stateCount n) × ((i : ℕ) → fact ((x * 2 ^ (e .fact)) % 65536) i ≡ gives vs v i e)
-unfolding gives
-gives-fact vs n v e x h l a =
-    let b : Bool = getD vs (e .cond) false && eqb (e .value) v in
-    rw (a, bit-worth n (e .fact) h l b) (worth-below n (e .fact) h l b, λ i. worth-fact (e .fact) i b)
+-- no effects, and one more of those from number `first` on
+module _ (n : ℕ) (vs : List Bool) (es : List Effect) (first : ℕ) where
+  abbrev own : ℕ → List Effect
+  own k = take k (drop first es)
 
--- one effect more, of those from number `first` on, where f and x have the facts that get the value v
-pub gets-more : (vs : List Bool) (es : List Effect) (first k v f x : ℕ) → first + k < length es
-    → ((i : ℕ) → fact f i ≡ gets vs (take k (drop first es)) v i) → ((i : ℕ) → fact x i ≡ gives vs v i (getD es (first + k) (effectOf [])))
-    → (i : ℕ) → fact (bitOr f x) i ≡ gets vs (take (k + 1) (drop first es)) v i
-unfolding gets anyOf
-gets-more vs es first k v f x h before one i =
-    let g : k < length (drop first es) = simp length-drop (omega arith) in
-    rw (
-      add-one k,
-      take-suc (drop first es) k (effectOf []) g,
-      any-append (gives vs v i) (take k (drop first es)) (getD (drop first es) k (effectOf []) ∷ []),
-      getD-drop first es k (effectOf []),
-      or-false (gives vs v i (getD es (first + k) (effectOf []))),
-      fact-or f x i,
-      before i,
-      one i,
-    ) refl
+  pub changed-none : Changed n vs (own 0) 0 0
+  unfolding gets anyOf
+  changed-none = record { cleared = record { below = pow-pos n; facts = no-fact }; set = record { below = pow-pos n; facts = no-fact } }
+
+  module _ (k : ℕ) (h : first + k < length es) {e : Effect} (is : e ≡ getD es (first + k) (effectOf [])) (small : e .fact < n) where
+    gets-more : (v i : ℕ) → gets vs (own (k + 1)) v i ≡ gets vs (own k) v i || gives vs v i e
+    unfolding gets anyOf
+    gets-more v i =
+        let g : k < length (drop first es) = simp length-drop (omega arith) in
+        rw (
+          add-one k,
+          take-suc (drop first es) k (effectOf []) g,
+          any-append (gives vs v i) (own k) (getD (drop first es) k (effectOf []) ∷ []),
+          getD-drop first es k (effectOf []),
+          ← is,
+          or-false (gives vs v i e),
+        ) refl
+
+    module _ {on : Bool} (told : on ≡ getD vs (e .cond) false) where
+      facts-more : (v w x : ℕ) → HasFacts n (gets vs (own k) v) w → x ≡ cond (on && eqb (e .value) v) (2 ^ (e .fact)) 0
+          → HasFacts n (gets vs (own (k + 1)) v) (bitOr w x)
+      unfolding gives
+      facts-more v w x g one = rw one (record {
+        below = or-lt n w y (g .below) (worth-below n (e .fact) small b);
+        facts = λ i. fact-or w y i ∙ ap₂ _||_ (g .facts i) (worth-fact (e .fact) i b ∙ ap (λ (t : Bool). t && eqb (e .value) v && eqb (e .fact) i) told)
+          ∙ sym (gets-more v i);
+      })
+        where
+          b : Bool
+          b = on && eqb (e .value) v
+
+          y : ℕ
+          y = cond b (2 ^ (e .fact)) 0
+
+      pub changed-more : (c s x y : ℕ) → Changed n vs (own k) c s → x ≡ cond (on && eqb (e .value) 0) (2 ^ (e .fact)) 0
+          → y ≡ cond (on && eqb (e .value) 1) (2 ^ (e .fact)) 0 → Changed n vs (own (k + 1)) (bitOr c x) (bitOr s y)
+      changed-more c s x y g f d = record { cleared = facts-more 0 c x (g .cleared) f; set = facts-more 1 s y (g .set) d }
 
 pub gets-same : (vs us : List Bool) → Same vs us → (es : List Effect) (v i : ℕ) → gets vs es v i ≡ gets us es v i
 unfolding gets gives
@@ -97,17 +113,16 @@ kept-cleared-set true false false = refl
 kept-cleared-set false false false = refl
 
 -- the facts that are cleared, and those that are set, as states of n facts
-module _ (vs : List Bool) (es : List Effect) (n c s : ℕ) (few : c < 2 ^ n) (many : s < 2 ^ n)
-    (cleared : (i : ℕ) → fact c i ≡ gets vs es 0 i) (set : (i : ℕ) → fact s i ≡ gets vs es 1 i) where
+module _ (vs : List Bool) (es : List Effect) (n : ℕ) {c s : ℕ} (g : Changed n vs es c s) where
   common : (i : ℕ) → fact (bitAnd c s) i ≡ gets vs es 0 i && gets vs es 1 i
-  common i = fact-and c s i ∙ ap₂ _&&_ (cleared i) (set i)
+  common i = fact-and c s i ∙ ap₂ _&&_ (g .cleared .facts i) (g .set .facts i)
 
   pub no-conflict : bitAnd c s ≡ 0 → conflicts vs es ≡ false
   unfolding conflicts
   no-conflict z = any-none _ (λ e. sym (common (e .fact)) ∙ ap (λ (x : ℕ). fact x (e .fact)) z ∙ no-fact (e .fact)) es
 
   apart : conflicts vs es ≡ false → bitAnd c s ≡ 0
-  apart e = facts-decide n (bitAnd c s) 0 (omega (arith, and-le-l c s)) (omega arith) (λ i. tests-equal (fact (bitAnd c s) i) (fact 0 i)
+  apart e = facts-decide n (bitAnd c s) 0 (omega (arith, and-le-l c s, g .cleared .below)) (pow-pos n) (λ i. tests-equal (fact (bitAnd c s) i) (fact 0 i)
       (λ t. let both = sym (common i) ∙ t in never (sym e ∙ conflict-told vs es i (and-left _ (gets vs es 1 i) both) (and-right (gets vs es 0 i) _ both)))
       (λ t. never (sym (no-fact i) ∙ t)))
 
@@ -122,6 +137,6 @@ module _ (vs : List Bool) (es : List Effect) (n c s : ℕ) (few : c < 2 ^ n) (ma
   unfolding affected factAfter
   affected-by w h =
       let r : ℕ = bitOr (bitXor (bitOr w c) c) s in
-      state-only n r (or-lt n (bitXor (bitOr w c) c) s (xor-lt n (bitOr w c) c (or-lt n w c h few) few) many)
+      state-only n r (or-lt n (bitXor (bitOr w c) c) s (xor-lt n (bitOr w c) c (or-lt n w c h (g .cleared .below)) (g .cleared .below)) (g .set .below))
       ∙ state-same n (fact r) (factAfter vs es w)
-      (λ i. rw (fact-or, fact-xor, fact-or, cleared i, set i) (kept-cleared-set (fact w i) (gets vs es 0 i) (gets vs es 1 i)))
+      (λ i. rw (fact-or, fact-xor, fact-or, g .cleared .facts i, g .set .facts i) (kept-cleared-set (fact w i) (gets vs es 0 i) (gets vs es 1 i)))

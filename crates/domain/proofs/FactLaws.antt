@@ -102,16 +102,15 @@ one-fact k i = elim (ℕ-discrete k i) [
 ]
 
 -- a test as a bit, times what a fact is worth: the state that has that fact where the test passes
-module _ (n k : ℕ) (h : k < n) (l : n ≤ mostFacts) where
-  pub bit-worth : (b : Bool) → (bit b * 2 ^ k) % 65536 ≡ cond b (2 ^ k) 0
-  bit-worth true =
-      let small : 1 * 2 ^ k < 65536 = omega (arith, pow-lt h, count-within n l) in
-      mod-eq-of-lt small ∙ one-mul (2 ^ k)
-  bit-worth false = rw (zero-mul (2 ^ k)) refl
+pub bit-worth : (k : ℕ) → k < mostFacts → (b : Bool) → (bit b * 2 ^ k) % 65536 ≡ cond b (2 ^ k) 0
+bit-worth k h true =
+    let small : 1 * 2 ^ k < 65536 = omega (arith, count-within k (omega arith)) in
+    mod-eq-of-lt small ∙ one-mul (2 ^ k)
+bit-worth k h false = rw (zero-mul (2 ^ k)) refl
 
-  pub worth-below : (b : Bool) → cond b (2 ^ k) 0 < stateCount n
-  worth-below true = pow-lt h
-  worth-below false = omega (arith, pow-lt h)
+pub worth-below : (n k : ℕ) → k < n → (b : Bool) → cond b (2 ^ k) 0 < 2 ^ n
+worth-below n k h true = pow-lt h
+worth-below n k h false = omega (arith, pow-lt h)
 
 pub worth-fact : (k i : ℕ) (b : Bool) → fact (cond b (2 ^ k) 0) i ≡ b && eqb k i
 worth-fact k i true = one-fact k i

@@ -12,8 +12,8 @@ use borrow.Author.Tests.{lt-ltb, le-ltb}
 use Rattle.laws.proofs.Tests.{cond-some}
 use Rattle.job.specs.Job.{Job, Move, moveAt}
 use Rattle.job.specs.Task.{Task}
-use Rattle.domain.specs.State.{fact, values}
-use Rattle.domain.specs.Effects.{gets, affected}
+use Rattle.domain.specs.State.{HasFacts, values}
+use Rattle.domain.specs.Effects.{gets, affected, Changed}
 use Rattle.domain.specs.Domain.{effectsOf, holdsIn, canMake, successorOf, domainOf, Tells}
 use Rattle.domain.proofs.EffectLaws.{gets-same, no-conflict, some-conflict, affected-by}
 
@@ -29,29 +29,26 @@ module _ (a : Task) (m w : ℕ) (vs : List Bool) (t : Tells (domainOf a) w vs) (
   successor-none p = rw (is-move, ← e, sym (t (x .pre)) ∙ p)
 
   -- the facts that are cleared, and those that are set, as states
-  module _ (p : getD vs (x .pre) false ≡ true) (c s : ℕ)
-      (cs : (c < domainOf a .states) × ((i : ℕ) → fact c i ≡ gets vs (effectsOf j x) 0 i))
-      (ss : (s < domainOf a .states) × ((i : ℕ) → fact s i ≡ gets vs (effectsOf j x) 1 i)) where
+  module _ (p : getD vs (x .pre) false ≡ true) {c s : ℕ} (h : Changed (j .scalars .facts) vs (effectsOf j x) c s) where
     abbrev us : List Bool
     us = values w (j .formulas)
 
-    cleared : (i : ℕ) → fact c i ≡ gets us (effectsOf j x) 0 i
+    told : (v : ℕ) {y : ℕ} → HasFacts (j .scalars .facts) (gets vs (effectsOf j x) v) y → HasFacts (j .scalars .facts) (gets us (effectsOf j x) v) y
     unfolding holdsIn
-    cleared i = cs .1 i ∙ gets-same vs us t (effectsOf j x) 0 i
+    told v has = record { below = has .below; facts = λ i. has .facts i ∙ gets-same vs us t (effectsOf j x) v i }
 
-    sets : (i : ℕ) → fact s i ≡ gets us (effectsOf j x) 1 i
-    unfolding holdsIn
-    sets i = ss .1 i ∙ gets-same vs us t (effectsOf j x) 1 i
+    changed : Changed (j .scalars .facts) us (effectsOf j x) c s
+    changed = record { cleared = told 0 (h .cleared); set = told 1 (h .set) }
 
     pub successor-conflict : (bitAnd c s ≡ 0 → ⊥) → none ≡ successorOf j m w
     unfolding successorOf canMake holdsIn
     successor-conflict common =
-        rw (is-move, ← e, sym (t (x .pre)) ∙ p, some-conflict us (effectsOf j x) (j .scalars .facts) c s (cs .0) (ss .0) cleared sets common)
+        rw (is-move, ← e, sym (t (x .pre)) ∙ p, some-conflict us (effectsOf j x) (j .scalars .facts) changed common)
 
     pub successor-some : bitAnd c s ≡ 0 → w < domainOf a .states → some (bitOr (bitXor (bitOr w c) c) s) ≡ successorOf j m w
     unfolding successorOf canMake holdsIn
-    successor-some z h = rw (is-move, ← e, sym (t (x .pre)) ∙ p, no-conflict us (effectsOf j x) (j .scalars .facts) c s (cs .0) (ss .0) cleared sets z)
-        (ap some (affected-by us (effectsOf j x) (j .scalars .facts) c s (cs .0) (ss .0) cleared sets w h))
+    successor-some z below = rw (is-move, ← e, sym (t (x .pre)) ∙ p, no-conflict us (effectsOf j x) (j .scalars .facts) changed z)
+        (ap some (affected-by us (effectsOf j x) (j .scalars .facts) changed w below))
 
 -- where there is one, it is the state after the effects
 pub successor-is : (j : Job) (m w t : ℕ) → successorOf j m w ≡ some t → affected (j .scalars .facts) (values w (j .formulas)) (effectsOf j (moveAt j m)) w ≡ t

@@ -5,7 +5,7 @@ use mathlib.Core.List.{List, [], _∷_}
 use lib.Dec.{eqb}
 use lib.ListN.{getD}
 use Rattle.job.specs.Job.{Effect}
-use Rattle.domain.specs.State.{fact, stateWith}
+use Rattle.domain.specs.State.{fact, HasFacts, stateWith}
 
 -- whether a test passes on some element of a list
 unfoldable pub anyOf : {A : Type 0} → (A → Bool) → List A → Bool
@@ -32,3 +32,8 @@ factAfter vs es w i = cond (gets vs es 1 i) true (cond (gets vs es 0 i) false (f
 -- the state after them, of so many facts
 unfoldable pub affected : ℕ → List Bool → List Effect → ℕ → ℕ
 affected n vs es w = stateWith n (factAfter vs es w)
+
+-- the facts that are cleared and those that are set, as two states of so many facts
+pub record Changed (n : ℕ) (vs : List Bool) (es : List Effect) (c s : ℕ) : Type 0 where
+  pub cleared : HasFacts n (gets vs es 0) c
+  pub set : HasFacts n (gets vs es 1) s

@@ -1,6 +1,7 @@
 -- "A world is a whole number; its bit i (worth 2^i) says that fact i is true." Facts and formulas in
 -- such a state.
-use Prim.Native.Nat.{ℕ, zero, suc, _+_, _/_, _%_, _^_}
+use Prim.Native.Nat.{ℕ, zero, suc, _+_, _/_, _%_, _^_, _<_}
+use mathlib.Core.Path.{_≡_}
 use mathlib.Core.Bool.{Bool, true, false, not, _&&_, _||_, cond}
 use mathlib.Core.List.{List, [], _∷_, _++_, foldl}
 use lib.Dec.{eqb}
@@ -9,6 +10,11 @@ use Rattle.job.specs.Job.{Formula}
 
 unfoldable pub fact : ℕ → ℕ → Bool
 fact w i = eqb (w / 2 ^ i % 2) 1
+
+-- w is a state of so many facts and has those that p tells
+pub record HasFacts (n : ℕ) (p : ℕ → Bool) (w : ℕ) : Type 0 where
+  pub below : w < 2 ^ n
+  pub facts : (i : ℕ) → fact w i ≡ p i
 
 -- the state of so many facts in which those are true that p tells
 unfoldable pub stateWith : ℕ → (ℕ → Bool) → ℕ

@@ -1,6 +1,7 @@
 // Facts of a state, the bits of a number.
 ghost use mathlib.Core.Path.{_≡_};
-ghost use Prim.Native.Nat.{_<_};
+ghost use mathlib.Core.Bool.{cond};
+ghost use Prim.Native.Nat.{_^_, _<_};
 ghost use Rattle.limits.specs.Limits.{mostFacts};
 ghost use Rattle.domain.specs.State.{fact as factIn};
 
@@ -10,4 +11,12 @@ pub fn fact(w: u16, i: u16) -> bool
     ensures { λ r. ⌜ r ≡ factIn w i ⌝ }
 {
     (w >> i) % 2 == 1
+}
+
+// The state that has fact i alone where `on` is true, and else none. No branch depends on it.
+pub fn fact_where(on: bool, i: u16) -> u16
+    requires { ⌜ i < mostFacts ⌝ }
+    ensures { λ r. ⌜ r ≡ cond on (2 ^ i) 0 ⌝ }
+{
+    (on as u16) << i
 }

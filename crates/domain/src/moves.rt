@@ -6,7 +6,6 @@ ghost use Rattle.limits.specs.Limits.{mostCost};
 ghost use Rattle.domain.specs.Domain.{domainIn, Tells};
 ghost use Rattle.domain.specs.Successor.{successorIn};
 use crate::Successor;
-use crate::effects::facts_getting;
 use job::head::Head;
 
 // How many moves there are.
@@ -28,12 +27,12 @@ pub fn successor(head: Head, rows: &[u16], values: &[bool], m: u16, state: u16) 
     if !crate::formulas::value_at(values, made.pre) {
         return Successor::Inapplicable;
     }
-    let cleared = facts_getting(head, rows, values, 0, made);
-    let set = facts_getting(head, rows, values, 1, made);
-    if cleared & set != 0 {
+    let changes = crate::effects::changes_of(head, rows, values, made);
+    let cleared = changes.cleared;
+    if cleared & changes.set != 0 {
         return Successor::Inapplicable;
     }
-    Successor::To((state | cleared) ^ cleared | set)
+    Successor::To((state | cleared) ^ cleared | changes.set)
 }
 
 // What move m costs in a state, by the formulas' values in it.
