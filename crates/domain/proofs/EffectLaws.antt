@@ -77,7 +77,7 @@ module _ (n : ℕ) (vs : List Bool) (es : List Effect) (first : ℕ) where
       facts-more v w x g one = rw one (record {
         below = or-lt n w y (g .below) (worth-below n (e .fact) small b);
         facts = λ i. fact-or w y i ∙ ap₂ _||_ (g .facts i) (worth-fact (e .fact) i b ∙ ap (λ (t : Bool). t && eqb (e .value) v && eqb (e .fact) i) told)
-          ∙ sym (gets-more v i);
+            ∙ sym (gets-more v i);
       })
         where
           b : Bool
