@@ -16,7 +16,7 @@ use borrow.Author.Tests.{eqb-true}
 use Rattle.laws.proofs.Tests.{never, and-left, and-right, and-both, or-either, tests-equal}
 use Rattle.job.specs.Job.{Effect, effectOf}
 use Rattle.domain.specs.State.{fact, HasFacts}
-use Rattle.domain.specs.Effects.{anyOf, gives, gets, conflicts, factAfter, affected, Changed}
+use Rattle.domain.specs.Effects.{anyOf, gives, gets, conflicts, factAfter, affected, ChangesAre}
 use Rattle.domain.proofs.FactLaws.{fact-and, fact-or, fact-xor, no-fact, worth-below, worth-fact}
 use Rattle.domain.proofs.StateLaws.{state-only, state-same, facts-decide}
 use Rattle.domain.proofs.ValueLaws.{Same}
@@ -37,11 +37,6 @@ module _ {A : Type 0} (p : A → Bool) where
   any-same q h [] = refl
   any-same q h (a ∷ l) = rw (h a, any-same q h l) refl
 
-  pub any-some : (l : List A) → anyOf p l ≡ true → (a : A) × (p a ≡ true)
-  unfolding anyOf
-  any-some [] e = never e
-  any-some (a ∷ l) e = or-either (p a) (anyOf p l) (λ d. (a, d)) (any-some l) e
-
   any-so : (q : A → Bool) → ((a : A) → p a ≡ true → q a ≡ true) → (l : List A) → anyOf p l ≡ true → anyOf q l ≡ true
   unfolding anyOf
   any-so q h [] e = e
@@ -49,34 +44,34 @@ module _ {A : Type 0} (p : A → Bool) where
 
 -- no effects, and one more of those from number `first` on
 module _ (n : ℕ) (vs : List Bool) (es : List Effect) (first : ℕ) where
-  abbrev own : ℕ → List Effect
-  own k = take k (drop first es)
+  abbrev upTo : ℕ → List Effect
+  upTo k = take k (drop first es)
 
-  pub changed-none : Changed n vs (own 0) 0 0
+  pub changed-none : ChangesAre n vs (upTo 0) 0 0
   unfolding gets anyOf
   changed-none = record { cleared = record { below = pow-pos n; facts = no-fact }; set = record { below = pow-pos n; facts = no-fact } }
 
   module _ (k : ℕ) (h : first + k < length es) {e : Effect} (is : e ≡ getD es (first + k) (effectOf [])) (small : e .fact < n) where
-    gets-more : (v i : ℕ) → gets vs (own (k + 1)) v i ≡ gets vs (own k) v i || gives vs v i e
+    gets-more : (v i : ℕ) → gets vs (upTo (k + 1)) v i ≡ gets vs (upTo k) v i || gives vs v i e
     unfolding gets anyOf
     gets-more v i =
         let g : k < length (drop first es) = simp length-drop (omega arith) in
         rw (
           add-one k,
           take-suc (drop first es) k (effectOf []) g,
-          any-append (gives vs v i) (own k) (getD (drop first es) k (effectOf []) ∷ []),
+          any-append (gives vs v i) (upTo k) (getD (drop first es) k (effectOf []) ∷ []),
           getD-drop first es k (effectOf []),
           ← is,
           or-false (gives vs v i e),
         ) refl
 
-    module _ {on : Bool} (told : on ≡ getD vs (e .cond) false) where
-      facts-more : (v w x : ℕ) → HasFacts n (gets vs (own k) v) w → x ≡ cond (on && eqb (e .value) v) (2 ^ (e .fact)) 0
-          → HasFacts n (gets vs (own (k + 1)) v) (bitOr w x)
+    module _ {on : Bool} (on-is : on ≡ getD vs (e .cond) false) where
+      facts-more : (v w x : ℕ) → HasFacts n (gets vs (upTo k) v) w → x ≡ cond (on && eqb (e .value) v) (2 ^ (e .fact)) 0
+          → HasFacts n (gets vs (upTo (k + 1)) v) (bitOr w x)
       unfolding gives
       facts-more v w x g one = rw one (record {
         below = or-lt n w y (g .below) (worth-below n (e .fact) small b);
-        facts = λ i. fact-or w y i ∙ ap₂ _||_ (g .facts i) (worth-fact (e .fact) i b ∙ ap (λ (t : Bool). t && eqb (e .value) v && eqb (e .fact) i) told)
+        facts = λ i. fact-or w y i ∙ ap₂ _||_ (g .facts i) (worth-fact (e .fact) i b ∙ ap (λ (t : Bool). t && eqb (e .value) v && eqb (e .fact) i) on-is)
             ∙ sym (gets-more v i);
       })
         where
@@ -86,21 +81,30 @@ module _ (n : ℕ) (vs : List Bool) (es : List Effect) (first : ℕ) where
           y : ℕ
           y = cond b (2 ^ (e .fact)) 0
 
-      pub changed-more : (c s x y : ℕ) → Changed n vs (own k) c s → x ≡ cond (on && eqb (e .value) 0) (2 ^ (e .fact)) 0
-          → y ≡ cond (on && eqb (e .value) 1) (2 ^ (e .fact)) 0 → Changed n vs (own (k + 1)) (bitOr c x) (bitOr s y)
+      pub changed-more : (c s x y : ℕ) → ChangesAre n vs (upTo k) c s → x ≡ cond (on && eqb (e .value) 0) (2 ^ (e .fact)) 0
+          → y ≡ cond (on && eqb (e .value) 1) (2 ^ (e .fact)) 0 → ChangesAre n vs (upTo (k + 1)) (bitOr c x) (bitOr s y)
       changed-more c s x y g f d = record { cleared = facts-more 0 c x (g .cleared) f; set = facts-more 1 s y (g .set) d }
 
 pub gets-same : (vs us : List Bool) → Same vs us → (es : List Effect) (v i : ℕ) → gets vs es v i ≡ gets us es v i
 unfolding gets gives
 gets-same vs us s es v i = any-same (gives vs v i) (gives us v i) (λ e. rw (s (e .cond)) refl) es
 
+-- the set of facts that are cleared, and that of those that are set
+module _ (vs : List Bool) (es : List Effect) (n : ℕ) {c s : ℕ} (g : ChangesAre n vs es c s) where
+  common : (i : ℕ) → fact (bitAnd c s) i ≡ gets vs es 0 i && gets vs es 1 i
+  common i = fact-and c s i ∙ ap₂ _&&_ (g .cleared .facts i) (g .set .facts i)
+
+  pub no-conflict : bitAnd c s ≡ 0 → conflicts vs es ≡ false
+  unfolding conflicts
+  no-conflict z = any-none _ (λ e. sym (common (e .fact)) ∙ ap (λ (x : ℕ). fact x (e .fact)) z ∙ no-fact (e .fact)) es
+
 -- a fact that is cleared and set is a conflict
-pub conflict-told : (vs : List Bool) (es : List Effect) (i : ℕ) → gets vs es 0 i ≡ true → gets vs es 1 i ≡ true → conflicts vs es ≡ true
+pub cleared-and-set-conflicts : (vs : List Bool) (es : List Effect) (i : ℕ) → gets vs es 0 i ≡ true → gets vs es 1 i ≡ true → conflicts vs es ≡ true
 unfolding conflicts gets gives
-conflict-told vs es i a b = any-so (gives vs 0 i) (λ e. gets vs es 0 (e .fact) && gets vs es 1 (e .fact)) told es a
+cleared-and-set-conflicts vs es i a b = any-so (gives vs 0 i) (λ e. gets vs es 0 (e .fact) && gets vs es 1 (e .fact)) both es a
   where
-    told : (e : Effect) → gives vs 0 i e ≡ true → gets vs es 0 (e .fact) && gets vs es 1 (e .fact) ≡ true
-    told e h =
+    both : (e : Effect) → gives vs 0 i e ≡ true → gets vs es 0 (e .fact) && gets vs es 1 (e .fact) ≡ true
+    both e h =
         let f : e .fact ≡ i = eqb-true (e .fact) i (and-right (getD vs (e .cond) false && eqb (e .value) 0) (eqb (e .fact) i) h) in
         rw f (and-both _ _ a b)
 
@@ -112,26 +116,19 @@ kept-cleared-set false true false = refl
 kept-cleared-set true false false = refl
 kept-cleared-set false false false = refl
 
--- the facts that are cleared, and those that are set, as states of n facts
-module _ (vs : List Bool) (es : List Effect) (n : ℕ) {c s : ℕ} (g : Changed n vs es c s) where
-  common : (i : ℕ) → fact (bitAnd c s) i ≡ gets vs es 0 i && gets vs es 1 i
-  common i = fact-and c s i ∙ ap₂ _&&_ (g .cleared .facts i) (g .set .facts i)
-
-  pub no-conflict : bitAnd c s ≡ 0 → conflicts vs es ≡ false
-  unfolding conflicts
-  no-conflict z = any-none _ (λ e. sym (common (e .fact)) ∙ ap (λ (x : ℕ). fact x (e .fact)) z ∙ no-fact (e .fact)) es
-
+-- the same two sets
+module _ (vs : List Bool) (es : List Effect) (n : ℕ) {c s : ℕ} (g : ChangesAre n vs es c s) where
   apart : conflicts vs es ≡ false → bitAnd c s ≡ 0
   apart e = facts-decide n (bitAnd c s) 0 (omega (arith, and-le-l c s, g .cleared .below)) (pow-pos n) (λ i. tests-equal (fact (bitAnd c s) i) (fact 0 i)
-      (λ t. let both = sym (common i) ∙ t in never (sym e ∙ conflict-told vs es i (and-left _ (gets vs es 1 i) both) (and-right (gets vs es 0 i) _ both)))
+      (λ t. let both = sym (common vs es n g i) ∙ t in never (sym e ∙ cleared-and-set-conflicts vs es i (and-left _ (gets vs es 1 i) both) (and-right (gets vs es 0 i) _ both)))
       (λ t. never (sym (no-fact i) ∙ t)))
 
   pub some-conflict : (bitAnd c s ≡ 0 → ⊥) → conflicts vs es ≡ true
-  some-conflict some = told (conflicts vs es) refl
+  some-conflict some = decided (conflicts vs es) refl
     where
-      told : (b : Bool) → conflicts vs es ≡ b → b ≡ true
-      told true e = refl
-      told false e = absurd (some (apart e))
+      decided : (b : Bool) → conflicts vs es ≡ b → b ≡ true
+      decided true e = refl
+      decided false e = absurd (some (apart e))
 
   pub affected-by : (w : ℕ) → w < 2 ^ n → bitOr (bitXor (bitOr w c) c) s ≡ affected n vs es w
   unfolding affected factAfter

@@ -6,6 +6,7 @@ use mathlib.Core.Bool.{Bool, true, false, cond, _&&_, _||_, xor}
 use native.Mathlib.Omega.{arith}
 use native.Mathlib.Nat.{zero-mul, one-mul, mod-lt, mod-eq-of-lt, mul-mod-left, div-self, div-eq-of-lt, pow-suc, pow-le-pow-right}
 use native.Mathlib.Decide.{decLt, ℕ-discrete}
+use mir.Val.{boolByte}
 use lib.Dec.{eqb}
 use lib.Arith.{digits-mod}
 use lib.Pow.{pow-add, pow-pos, pow-lt, pow-mono, shl-shr}
@@ -18,18 +19,19 @@ use Rattle.domain.specs.State.{fact}
 pub count-within : (facts : ℕ) → facts ≤ mostFacts → stateCount facts ≤ mostStates
 count-within facts h = pow-le-pow-right (omega arith) h
 
-abbrev bit : Bool → ℕ
-bit b = cond b 1 0
-
-bit-small : (b : Bool) → bit b < 2
+bit-small : (b : Bool) → boolByte b < 2
 bit-small true = omega arith
 bit-small false = omega arith
 
-bit-told : (b : Bool) → eqb (bit b) 1 ≡ b
-bit-told true = refl
-bit-told false = refl
+bit-is : (b : Bool) → eqb (boolByte b) 1 ≡ b
+bit-is true = refl
+bit-is false = refl
 
-digit-bit : (d : ℕ) → d < 2 → d ≡ bit (eqb d 1)
+pub bit-times : (b : Bool) (p : ℕ) → boolByte b * p ≡ cond b p 0
+bit-times true p = one-mul p
+bit-times false p = zero-mul p
+
+pub digit-bit : (d : ℕ) → d < 2 → d ≡ boolByte (eqb d 1)
 digit-bit d h = elim (ℕ-discrete d 1) [
   | yes e ↦ rw e refl
   | no e ↦ (let z : d ≡ 0 = omega arith in rw z refl)
@@ -39,21 +41,21 @@ digit-bit d h = elim (ℕ-discrete d 1) [
 module _ (op : ℕ → ℕ → ℕ) (on : ℕ → ℕ → ℕ) (test : Bool → Bool → Bool)
     (shifts : (a b k : ℕ) → op a b / 2 ^ k ≡ op (a / 2 ^ k) (b / 2 ^ k))
     (steps : (a b : ℕ) → op a b ≡ op (a / 2) (b / 2) * 2 + on (a % 2) (b % 2))
-    (tests : (p q : Bool) → on (bit p) (bit q) ≡ bit (test p q)) where
-  digit : (a b : ℕ) → op a b % 2 ≡ bit (test (eqb (a % 2) 1) (eqb (b % 2) 1))
+    (tests : (p q : Bool) → on (boolByte p) (boolByte q) ≡ boolByte (test p q)) where
+  digit : (a b : ℕ) → op a b % 2 ≡ boolByte (test (eqb (a % 2) 1) (eqb (b % 2) 1))
   digit a b =
-      let d : on (a % 2) (b % 2) ≡ bit (test (eqb (a % 2) 1) (eqb (b % 2) 1)) =
+      let d : on (a % 2) (b % 2) ≡ boolByte (test (eqb (a % 2) 1) (eqb (b % 2) 1)) =
       ap₂ on (digit-bit (a % 2) (mod-lt a (omega arith))) (digit-bit (b % 2) (mod-lt b (omega arith))) ∙ tests _ _ in
       rw (steps a b, d) (digits-mod (op (a / 2) (b / 2)) (bit-small (test (eqb (a % 2) 1) (eqb (b % 2) 1))))
 
   fact-op : (a b i : ℕ) → fact (op a b) i ≡ test (fact a i) (fact b i)
   unfolding fact
-  fact-op a b i = rw (shifts a b i, digit (a / 2 ^ i) (b / 2 ^ i)) (bit-told (test (fact a i) (fact b i)))
+  fact-op a b i = rw (shifts a b i, digit (a / 2 ^ i) (b / 2 ^ i)) (bit-is (test (fact a i) (fact b i)))
 
 pub fact-and : (a b i : ℕ) → fact (bitAnd a b) i ≡ fact a i && fact b i
 fact-and = fact-op bitAnd min _&&_ and-shr and-step tests
   where
-    tests : (p q : Bool) → min (bit p) (bit q) ≡ bit (p && q)
+    tests : (p q : Bool) → min (boolByte p) (boolByte q) ≡ boolByte (p && q)
     tests true true = refl
     tests true false = refl
     tests false true = refl
@@ -62,7 +64,7 @@ fact-and = fact-op bitAnd min _&&_ and-shr and-step tests
 pub fact-or : (a b i : ℕ) → fact (bitOr a b) i ≡ fact a i || fact b i
 fact-or = fact-op bitOr max _||_ or-shr or-step tests
   where
-    tests : (p q : Bool) → max (bit p) (bit q) ≡ bit (p || q)
+    tests : (p q : Bool) → max (boolByte p) (boolByte q) ≡ boolByte (p || q)
     tests true true = refl
     tests true false = refl
     tests false true = refl
@@ -72,7 +74,7 @@ pub fact-xor : (a b i : ℕ) → fact (bitXor a b) i ≡ xor (fact a i) (fact b 
 unfolding xor
 fact-xor = fact-op bitXor differ xor xor-shr xor-step tests
   where
-    tests : (p q : Bool) → differ (bit p) (bit q) ≡ bit (xor p q)
+    tests : (p q : Bool) → differ (boolByte p) (boolByte q) ≡ boolByte (xor p q)
     tests true true = refl
     tests true false = refl
     tests false true = refl
@@ -101,16 +103,15 @@ one-fact k i = elim (ℕ-discrete k i) [
   ]
 ]
 
--- a test as a bit, times what a fact is worth: the state that has that fact where the test passes
-pub bit-worth : (k : ℕ) → k < mostFacts → (b : Bool) → (bit b * 2 ^ k) % 65536 ≡ cond b (2 ^ k) 0
-bit-worth k h true =
-    let small : 1 * 2 ^ k < 65536 = omega (arith, count-within k (omega arith)) in
-    mod-eq-of-lt small ∙ one-mul (2 ^ k)
-bit-worth k h false = rw (zero-mul (2 ^ k)) refl
-
 pub worth-below : (n k : ℕ) → k < n → (b : Bool) → cond b (2 ^ k) 0 < 2 ^ n
 worth-below n k h true = pow-lt h
 worth-below n k h false = omega (arith, pow-lt h)
+
+-- a test as a bit, shifted: what a fact is worth where the test passes
+pub bit-worth : (k : ℕ) → k < mostFacts → (b : Bool) → (boolByte b * 2 ^ k) % 65536 ≡ cond b (2 ^ k) 0
+bit-worth k h b =
+    let small : cond b (2 ^ k) 0 < 65536 = omega (arith, worth-below mostFacts k h b) in
+    rw (bit-times b (2 ^ k)) (mod-eq-of-lt small)
 
 pub worth-fact : (k i : ℕ) (b : Bool) → fact (cond b (2 ^ k) 0) i ≡ b && eqb k i
 worth-fact k i true = one-fact k i

@@ -2,6 +2,5 @@ pub mod FactLaws
 pub mod StateLaws
 pub mod ValueLaws
 pub mod EffectLaws
-pub mod ConflictLaws
 pub mod SuccessorLaws
 pub mod DomainLaws

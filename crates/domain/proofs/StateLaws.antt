@@ -1,7 +1,8 @@
--- A state of so many facts is the one with its facts, and has those facts.
+-- A state of n facts is `stateWith` of its own facts; `stateWith n p` has, of facts below n, those that p
+-- tells.
 -- Assumes nothing.
 use Prim.Native.Nat.{ℕ, zero, suc, _+_, _*_, _/_, _%_, _^_, _<_}
-use mathlib.Core.Path.{_≡_, refl, sym, _∙_}
+use mathlib.Core.Path.{_≡_, refl, sym, _∙_, ap}
 use mathlib.Core.Bool.{Bool, true, false, cond, _&&_, _||_, and-true, and-false, or-false}
 use native.Mathlib.Omega.{arith}
 use native.Mathlib.Nat.{one-mul, mod-lt, mod-one, mod-eq-of-lt, pow-suc}
@@ -13,19 +14,13 @@ use lib.Bits.{bitOr, or-shifted}
 use borrow.Author.Tests.{eq-eqb, ne-eqb}
 use Rattle.laws.proofs.Tests.{cond-has}
 use Rattle.domain.specs.State.{fact, stateWith}
-use Rattle.domain.proofs.FactLaws.{fact-or, fact-past, one-fact}
+use Rattle.domain.proofs.FactLaws.{bit-times, digit-bit, fact-or, fact-past, one-fact}
 
 pub state-below : (n : ℕ) (p : ℕ → Bool) → stateWith n p < 2 ^ n
 unfolding stateWith
 state-below zero p = omega arith
 state-below (suc n) p = cond-has (λ (x : ℕ). x + stateWith n p < 2 ^ suc n) (p n) (2 ^ n) 0
     (λ e. omega (arith, pow-suc 2 n, state-below n p)) (λ e. omega (arith, pow-suc 2 n, state-below n p))
-
-worth : (d p : ℕ) → d < 2 → cond (eqb d 1) p 0 ≡ d * p
-worth d p h = elim (ℕ-discrete d 1) [
-  | yes e ↦ rw e (omega arith)
-  | no e ↦ (let z : d ≡ 0 = omega arith in rw z (omega arith))
-]
 
 -- a state of n facts by the facts themselves
 pub state-only : (n w : ℕ) → w < 2 ^ n → w ≡ stateWith n (fact w)
@@ -36,7 +31,9 @@ state-only n w h = sym (lowest n ∙ mod-eq-of-lt h)
     lowest zero = sym (mod-one w)
     lowest (suc n) =
         let c : 2 ^ suc n ≡ 2 * 2 ^ n = omega (arith, pow-suc 2 n) in
-        rw (c, mod-mul w {m = 2} {c = 2 ^ n} (omega arith) (pow-pos n), lowest n, worth (w / 2 ^ n % 2) (2 ^ n) (mod-lt (w / 2 ^ n) (omega arith))) refl
+        let d = digit-bit (w / 2 ^ n % 2) (mod-lt (w / 2 ^ n) (omega arith)) in
+        rw (c, mod-mul w {m = 2} {c = 2 ^ n} (omega arith) (pow-pos n), lowest n)
+        (ap (λ (x : ℕ). x + w % 2 ^ n) (sym (ap (λ (x : ℕ). x * 2 ^ n) d ∙ bit-times (eqb (w / 2 ^ n % 2) 1) (2 ^ n))))
 
 pub state-same : (n : ℕ) (p q : ℕ → Bool) → ((i : ℕ) → p i ≡ q i) → stateWith n p ≡ stateWith n q
 unfolding stateWith

@@ -23,14 +23,13 @@ unfoldable pub holdsIn : Job → ℕ → ℕ → Bool
 holdsIn j a w = getD (values w (j .formulas)) a false
 
 -- "A move can be made where its precondition holds", and it "can't be made in a world where its effects
--- that hold both clear and set one fact"
-unfoldable pub canMake : Job → ℕ → ℕ → Bool
-canMake j m w =
-    let x = moveAt j m in
-    ltb m (length (j .moves)) && (holdsIn j (x .pre) w && not (conflicts (values w (j .formulas)) (effectsOf j x)))
-
+-- that hold both clear and set one fact"; "all effect conditions are judged in the old world"
 unfoldable pub successorOf : Job → ℕ → ℕ → Option ℕ
-successorOf j m w = cond (canMake j m w) (some (affected (j .scalars .facts) (values w (j .formulas)) (effectsOf j (moveAt j m)) w)) none
+successorOf j m w =
+    let x = moveAt j m in
+    let es = effectsOf j x in
+    let vs = values w (j .formulas) in
+    cond (ltb m (length (j .moves)) && getD vs (x .pre) false && not (conflicts vs es)) (some (affected (j .scalars .facts) vs es w)) none
 
 -- by the class costs that were loaded
 unfoldable pub costIn : Task → ℕ → ℕ → ℕ

@@ -12,8 +12,7 @@ unfoldable pub anyOf : {A : Type 0} → (A → Bool) → List A → Bool
 anyOf p [] = false
 anyOf p (a ∷ l) = p a || anyOf p l
 
--- "All effect conditions are judged in the old world": an effect that holds, by the formulas' values
--- vs there, and gives fact i the value v
+-- an effect that holds, by the formulas' values vs, and gives fact i the value v
 unfoldable pub gives : List Bool → ℕ → ℕ → Effect → Bool
 gives vs v i e = getD vs (e .cond) false && eqb (e .value) v && eqb (e .fact) i
 
@@ -25,7 +24,7 @@ gets vs es v i = anyOf (gives vs v i) es
 unfoldable pub conflicts : List Bool → List Effect → Bool
 conflicts vs es = anyOf (λ e. gets vs es 0 (e .fact) && gets vs es 1 (e .fact)) es
 
--- a fact after the effects: set, cleared or kept
+-- a fact after effects: set, cleared or kept. No fact is both set and cleared where they don't conflict
 unfoldable pub factAfter : List Bool → List Effect → ℕ → ℕ → Bool
 factAfter vs es w i = cond (gets vs es 1 i) true (cond (gets vs es 0 i) false (fact w i))
 
@@ -33,7 +32,7 @@ factAfter vs es w i = cond (gets vs es 1 i) true (cond (gets vs es 0 i) false (f
 unfoldable pub affected : ℕ → List Bool → List Effect → ℕ → ℕ
 affected n vs es w = stateWith n (factAfter vs es w)
 
--- the facts that are cleared and those that are set, as two states of so many facts
-pub record Changed (n : ℕ) (vs : List Bool) (es : List Effect) (c s : ℕ) : Type 0 where
+-- c is the set of facts that are cleared, s of those that are set, of so many facts
+pub record ChangesAre (n : ℕ) (vs : List Bool) (es : List Effect) (c s : ℕ) : Type 0 where
   pub cleared : HasFacts n (gets vs es 0) c
   pub set : HasFacts n (gets vs es 1) s

@@ -11,12 +11,12 @@ use Rattle.job.specs.Job.{Formula}
 unfoldable pub fact : ℕ → ℕ → Bool
 fact w i = eqb (w / 2 ^ i % 2) 1
 
--- w is a state of so many facts and has those that p tells
+-- w, as the number of a state of so many facts, is the set of those that p tells; p tells of no other
 pub record HasFacts (n : ℕ) (p : ℕ → Bool) (w : ℕ) : Type 0 where
   pub below : w < 2 ^ n
   pub facts : (i : ℕ) → fact w i ≡ p i
 
--- the state of so many facts in which those are true that p tells
+-- the state in which, of so many facts, those are true that p tells
 unfoldable pub stateWith : ℕ → (ℕ → Bool) → ℕ
 stateWith zero p = 0
 stateWith (suc n) p = cond (p n) (2 ^ n) 0 + stateWith n p

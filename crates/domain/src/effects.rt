@@ -2,22 +2,22 @@
 ghost use Prim.Native.Nat.{_+_, _≤_};
 ghost use Rattle.job.specs.Store.{moveIn, jobOf};
 ghost use Rattle.job.specs.Stored.{Stored};
-ghost use Rattle.domain.specs.Effects.{Changed};
+ghost use Rattle.domain.specs.Effects.{ChangesAre};
 ghost use Rattle.domain.specs.Domain.{effectsOf};
 use crate::facts::fact_where;
 use job::head::Head;
 use job::stored::Move;
 
-// The facts that effects clear, and those that they set, each a state that has them alone.
+// The facts that effects clear, and those that they set, each a set of bits as a state is.
 pub struct Changes {
     pub cleared: u16,
     pub set: u16,
 }
 
-// What a move's effects change that hold by the formulas' values.
+// The facts that those of a move's effects clear and set that hold by the formulas' values.
 pub fn changes_of(head: Head, rows: &[u16], values: &[bool], made: Move) -> Changes
     requires { ⌜ Stored head (now rows) × (made .first + made .effects ≤ head .counts .effects) ⌝ }
-    ensures { λ r. ⌜ Changed (head .counts .facts) (now (values .entry)) (effectsOf (jobOf head (now (rows .entry))) (moveIn made)) (r .cleared) (r .set) ⌝ }
+    ensures { λ r. ⌜ ChangesAre (head .counts .facts) (now (values .entry)) (effectsOf (jobOf head (now (rows .entry))) (moveIn made)) (r .cleared) (r .set) ⌝ }
 {
     let first = made.first;
     let count = made.effects;

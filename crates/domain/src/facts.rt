@@ -13,7 +13,7 @@ pub fn fact(w: u16, i: u16) -> bool
     (w >> i) % 2 == 1
 }
 
-// The state that has fact i alone where `on` is true, and else none. No branch depends on it.
+// The set of fact i alone where `on` is true, and else of none. No branch depends on `on`.
 pub fn fact_where(on: bool, i: u16) -> u16
     requires { ⌜ i < mostFacts ⌝ }
     ensures { λ r. ⌜ r ≡ cond on (2 ^ i) 0 ⌝ }

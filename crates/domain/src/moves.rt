@@ -32,7 +32,8 @@ pub fn successor(head: Head, rows: &[u16], values: &[bool], m: u16, state: u16) 
     if cleared & changes.set != 0 {
         return Successor::Inapplicable;
     }
-    Successor::To((state | cleared) ^ cleared | changes.set)
+    // without the cleared facts, and with the set ones
+    Successor::To(((state | cleared) ^ cleared) | changes.set)
 }
 
 // What move m costs in a state, by the formulas' values in it.

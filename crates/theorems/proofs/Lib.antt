@@ -9,6 +9,7 @@ pub mod LongTexts
 pub mod LongLists
 pub mod Agreement
 pub mod StepPlans
+pub mod Conflicts
 pub mod CostSum
 pub mod TableWidths
 pub mod OneAnswer

@@ -22,7 +22,7 @@ use Rattle.semantics.proofs.CheckLaws.{verdict-by-judged}
 use Rattle.domain.specs.State.{fact, stateWith, value, values}
 use Rattle.domain.specs.Effects.{anyOf, gives, gets, conflicts, factAfter, affected}
 use Rattle.job.specs.Task.{classCost}
-use Rattle.domain.specs.Domain.{holdsIn, canMake, successorOf, costIn, domainOf}
+use Rattle.domain.specs.Domain.{holdsIn, successorOf, costIn, domainOf}
 use Rattle.compile.specs.Program.{build, programs, programOf}
 use Rattle.compile.specs.CompiledJob.{positionCount, stepCount, fits}
 use Rattle.lists.specs.CountedList.{entryIn, countIn, readEntries, readLines, readList}
@@ -56,7 +56,7 @@ computed : map judged (marked ++ (pricedCases ++ conflictCases)) ≡ map said (m
 unfolding bytes lines hasKey valueOf byteRead numbers
     lineNumbers fault taken ended readFrom readJob
     end steps branchSteps whileSteps starSteps build programs fits
-    fact stateWith value values anyOf gives gets conflicts factAfter affected classCost holdsIn canMake successorOf costIn
+    fact stateWith value values anyOf gives gets conflicts factAfter affected classCost holdsIn successorOf costIn
     spread close silentIn isMove anyMark firstSet nextSet onward finished verdictFrom moveOn verdictBy
     entryIn countIn readEntries readLines readList jobIn taskIn textsIn loading
     arrives follow followAll sweep sweeps computedTable keeps every relaxedBelow lowestBelow computedJudgement

@@ -26,7 +26,7 @@ use Rattle.semantics.specs.PositionSets.{spread, close, silentIn, isMove, anyMa
 use Rattle.semantics.proofs.CheckLaws.{verdict-by-judged}
 use Rattle.domain.specs.State.{fact, stateWith, value, values}
 use Rattle.domain.specs.Effects.{anyOf, gives, gets, conflicts, factAfter, affected}
-use Rattle.domain.specs.Domain.{holdsIn, canMake, successorOf, costIn, domainOf}
+use Rattle.domain.specs.Domain.{holdsIn, successorOf, costIn, domainOf}
 use Rattle.compile.specs.Program.{build, programs, programOf}
 use Rattle.theorems.specs.MarkedCases.{starOfWhile}
 use Rattle.theorems.specs.OriginalStar.{originalEnd, originalSteps, StarFails}
@@ -58,7 +58,7 @@ star-of-body = refl
 -- into the while, move 0, back to the while's position, which is the star's too, and out through
 -- the star
 way-out : Path D (originalSteps (D .moves) body 0) (D .start) 0 (1 ∷ 0 ∷ 3 ∷ 4 ∷ []) (0 ∷ []) 2 (originalEnd body 0)
-unfolding end steps whileSteps fact stateWith value values anyOf gives gets conflicts factAfter affected holdsIn canMake successorOf
+unfolding end steps whileSteps fact stateWith value values anyOf gives gets conflicts factAfter affected holdsIn successorOf
 way-out =
     P.step (there here) (passes refl)
     (P.step here (moves-on refl) (P.step (there (there (there here))) idles (P.step (there (there (there (there here)))) idles P.stop)))
@@ -69,7 +69,7 @@ final-below = omega arith
 
 -- the program's own runs, by the verdict on move 0
 computed : verdictBy 6 D (star body) (0 ∷ []) ≡ unfinished
-unfolding end steps whileSteps starSteps fact stateWith value values anyOf gives gets conflicts factAfter affected classCost holdsIn canMake successorOf costIn
+unfolding end steps whileSteps starSteps fact stateWith value values anyOf gives gets conflicts factAfter affected classCost holdsIn successorOf costIn
     spread close silentIn isMove anyMark firstSet nextSet onward finished verdictFrom moveOn verdictBy
 computed = refl
 

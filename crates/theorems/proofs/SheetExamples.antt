@@ -16,7 +16,7 @@ use Rattle.semantics.specs.Domain.{Domain}
 use Rattle.semantics.specs.CompilingTable.{end, steps}
 use Rattle.domain.specs.State.{fact, stateWith, value, values}
 use Rattle.domain.specs.Effects.{anyOf, gives, gets, conflicts, factAfter, affected}
-use Rattle.domain.specs.Domain.{holdsIn, canMake, successorOf, costIn}
+use Rattle.domain.specs.Domain.{holdsIn, successorOf, costIn}
 use Rattle.compile.specs.Program.{build, programs}
 use Rattle.compile.specs.CompiledJob.{fits}
 use Rattle.lists.specs.CountedList.{entryIn, countIn, readEntries, readLines, readList}
@@ -33,7 +33,7 @@ use Rattle.theorems.specs.MarkedCases.{sample}
 sample-sheet : next (viewIn (checking Moves (withoutCosts sample (bytes "plan=2\nm=0\nm=1\n")) 8)) (λ v. passed (sheetOf (v .domain) (v .entries)))
     ≡ passed (bytes "    1    0       20         20\n    2    1        5         25\n" ++ flatten (replicate 58 (bytes "                              \n")))
 unfolding bytes lines hasKey valueOf byteRead numbers digitsWithin lineNumbers fault classCost taken ended readFrom readJob end steps build programs fits
-    fact stateWith value values anyOf gives gets conflicts factAfter affected holdsIn canMake successorOf costIn
+    fact stateWith value values anyOf gives gets conflicts factAfter affected holdsIn successorOf costIn
     entryIn countIn readEntries readLines readList jobIn taskIn textsIn loading
     column lineBytes planLinesFrom blankLine pagedLines sheetOf flatten
 sample-sheet = refl

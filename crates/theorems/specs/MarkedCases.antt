@@ -96,14 +96,15 @@ pricedCases =
     ∷ priced (marks starOfChoice 8 9 "plan=3\nm=0\nm=0\nm=1\n" (least 0)) freeCosts
     ∷ []
 
--- one move with this effect, and another that clears fact 0, with this formula 1
+-- one move, with this effect and one that clears fact 0; formula 1 is as given, and the goal is that
+-- fact 0 is false
 abbrev clearsAnd : String → String → String → List ℕ
 clearsAnd effect init formula =
-    bytes "job=1\nfacts=1\n" ++ bytes init ++ bytes "formulas=2\nf=1,0,0\n" ++ bytes formula ++ bytes "moves=1\nm=0,1,2\n" ++ bytes effect
-    ++ bytes "e=0,0,0\ngoal=0\nprogram=1\np=1,0,0,0\n"
+    bytes "job=1\nfacts=1\n" ++ bytes init ++ bytes "formulas=4\nf=1,0,0\n" ++ bytes formula ++ bytes "f=2,0,0\nf=3,2,0\nmoves=1\nm=0,1,2\n"
+    ++ bytes effect ++ bytes "e=0,0,0\ngoal=3\nprogram=1\np=1,0,0,0\n"
 
 -- "a move can't be made in a world where its effects that hold both clear and set one fact": the one
--- that sets it holds in no state but 1, or in none; and to clear a fact twice is no conflict
+-- that sets it holds where the fact is true before, or nowhere; and to clear a fact twice is no conflict
 unfoldable pub conflictCases : List Case
 conflictCases =
     marks (clearsAnd "e=1,0,1\n" "init=0\n" "f=2,0,0\n") 2 1 "plan=1\nm=0\n" (least 5)

@@ -9,7 +9,7 @@ use Rattle.job.specs.Store.{jobOf}
 use Rattle.job.specs.Stored.{Stored}
 use Rattle.job.specs.declared.head.Head.{Head}
 use Rattle.job.proofs.StoredLaws.{limited, effect-count, effect-fact}
-use Rattle.domain.specs.Effects.{Changed}
+use Rattle.domain.specs.Effects.{ChangesAre}
 use Rattle.domain.proofs.EffectLaws.{changed-none, changed-more}
 use borrow.Author.Needs.{needs}
 use Rattle.domain.proofs.effects.changes_of.Statement.{statement}
@@ -17,7 +17,7 @@ use Rattle.domain.proofs.effects.changes_of.Tie as tie
 
 abbrev Inv-loop : tie.InvT-loop
 Inv-loop head rows values first count cleared₀ set₀ k₀ cleared set k =
-    (k ≤ count) × Changed (head .counts .facts) values (take k (drop first (jobOf head rows .effects))) cleared set
+    (k ≤ count) × ChangesAre (head .counts .facts) values (take k (drop first (jobOf head rows .effects))) cleared set
 
 abbrev μ-loop : tie.MeasureT-loop
 μ-loop head rows values first count cleared₀ set₀ k₀ cleared set k = count - k
