@@ -1,5 +1,5 @@
 //! Which limits of documents 01 and 02 a case meets, or passes by one; which costs texts it has, and which bad texts
-//! beside each other; how its moves fill the pages of a sheet.
+//! beside each other; where effects conflict; how its moves fill the pages of a sheet.
 
 use super::costs::GREATEST_COSTS;
 use super::Case;
@@ -32,8 +32,8 @@ pub const EDGES: [Edge; 54] = [
         look.job(|job| job.moves.iter().any(|action| action.effects.len() == usize::from(MOST_EFFECTS)))
     }),
     ("17 effects", |look| look.refused_line.is_some_and(|line| line.starts_with(b"m=") && line.ends_with(b",17"))),
-    ("blocked by a conflict", |look| look.met_conflict()),
-    ("plan, but for conditions a conflict", |look| look.laid_with(|action| clear_and_set(&action.effects))),
+    ("blocked by a conflict", |look| look.blocked_by_conflict()),
+    ("conflict if all held", |look| look.plan_with(|action| clear_and_set(&action.effects))),
     ("class 15", |look| look.job(|job| job.moves.iter().any(|action| action.class == CLASSES - 1))),
     ("any over 0 moves", |look| look.job(|job| job.moves.is_empty() && job.rows.iter().any(|row| row[0] == 2))),
     ("0 rows", |look| look.refused_line == Some(b"program=0")),
@@ -119,24 +119,20 @@ fn is_longest(plan: Option<Plan>) -> bool {
     matches!(plan, Some(Ok(entries)) if entries.len() == usize::from(MOST_ENTRIES))
 }
 
-/// Whether a list of moves is a plan; costs don't matter.
-fn is_plan(job: &Job, moves: &[u16]) -> bool {
-    let domain = Domain::new(job, HOUSE_COSTS, Fault::None);
-    let verdict = Runs::new(&domain, Fault::None).verdict(moves);
-    matches!(verdict, Verdict::Plan(_))
+/// The verdict on a list of moves, with a fault in the domain or none; costs don't matter.
+fn verdict(job: &Job, moves: &[u16], fault: Fault) -> Verdict {
+    let domain = Domain::new(job, HOUSE_COSTS, fault);
+    Runs::new(&domain, Fault::None).verdict(moves)
 }
 
-/// Whether the moves, made one by one, come to one whose effects conflict.
-fn comes_to_conflict(job: &Job, moves: &[u16]) -> bool {
-    let domain = Domain::new(job, HOUSE_COSTS, Fault::None);
-    let mut state = job.init;
-    for index in moves {
-        let Some(after) = domain.successor(*index, state) else {
-            return domain.conflicts(*index, state);
-        };
-        state = after;
-    }
-    false
+fn is_plan(job: &Job, moves: &[u16]) -> bool {
+    matches!(verdict(job, moves, Fault::None), Verdict::Plan(_))
+}
+
+/// Whether a list of moves is blocked, and there it would not be if a conflict were ignored.
+fn is_blocked_by_conflict(job: &Job, moves: &[u16]) -> bool {
+    let said = verdict(job, moves, Fault::None);
+    matches!(said, Verdict::Blocked(_)) && said != verdict(job, moves, Fault::ConflictIgnored)
 }
 
 /// Whether a line is of the form of a cost.
@@ -185,25 +181,27 @@ impl Look<'_> {
         self.plan(&self.case.steps, b't', |own| own.size.steps as usize)
     }
 
-    /// Whether the moves come to one whose effects conflict.
-    fn met_conflict(&self) -> bool {
-        matches!(self.moves(), Some(Ok(moves)) if self.job(|job| comes_to_conflict(job, &moves)))
-    }
-
-    /// Whether the moves are a plan, and something holds of one of them.
-    fn laid_with(&self, holds: impl Fn(&Move) -> bool) -> bool {
+    /// Whether the moves get the verdict of a check, and something holds of the job and of them.
+    fn checked(&self, holds: impl Fn(&Job, &[u16]) -> bool) -> bool {
         let Some(Ok(moves)) = self.moves() else {
             return false;
         };
-        self.job(|job| moves.iter().any(|index| holds(&job.moves[usize::from(*index)])) && is_plan(job, &moves))
+        !self.costs_are_bad() && self.job(|job| holds(job, &moves))
+    }
+
+    fn blocked_by_conflict(&self) -> bool {
+        self.checked(is_blocked_by_conflict)
+    }
+
+    /// Whether the moves are a plan, and something holds of one of them.
+    fn plan_with(&self, holds: impl Fn(&Move) -> bool) -> bool {
+        let one = |job: &Job, moves: &[u16]| moves.iter().any(|index| holds(&job.moves[usize::from(*index)]));
+        self.checked(|job, moves| one(job, moves) && is_plan(job, moves))
     }
 
     /// Whether the moves get a sheet, where there is room for it, and something holds of how many they are.
     fn laid(&self, holds: impl Fn(usize) -> bool) -> bool {
-        let Some(Ok(moves)) = self.moves() else {
-            return false;
-        };
-        holds(moves.len()) && !self.costs_are_bad() && self.job(|job| is_plan(job, &moves))
+        self.checked(|job, moves| holds(moves.len()) && is_plan(job, moves))
     }
 
     fn plan(&self, text: &[u8], key: u8, bound: impl Fn(&Measured) -> usize) -> Option<Plan> {

@@ -86,8 +86,8 @@ pub fn improving(facts: u16) -> Vec<Move> {
     moves
 }
 
-/// Moves that set or clear each fact, and others of random preconditions and effects over so many formulas; all of
-/// random classes.
+/// Moves that set or clear each fact, and others of random preconditions and effects over so many formulas, which
+/// conflict in many states; all of random classes.
 pub fn mixed(facts: u16, formulas: u16, random: &mut Random) -> Vec<Move> {
     let mut moves = Vec::new();
     for m in 0..64 {

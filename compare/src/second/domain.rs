@@ -35,13 +35,6 @@ impl<'a> Domain<'a> {
         self.view(state).successors[usize::from(index)]
     }
 
-    /// Whether a move's precondition holds in a state, and its effects that hold both clear and set one fact.
-    pub fn conflicts(&self, index: u16, state: u16) -> bool {
-        let action = &self.job.moves[usize::from(index)];
-        let values = &self.view(state).values;
-        values[usize::from(action.pre)] && clear_and_set(&self.holding(action, state, values))
-    }
-
     /// What a move costs.
     pub fn cost(&self, index: u16) -> u64 {
         self.cost_by(&self.costs, index)
@@ -74,12 +67,13 @@ impl<'a> Domain<'a> {
             return None;
         }
         let holding = self.holding(action, state, values);
-        let judged = if self.fault == Fault::ConflictAnyway { &action.effects } else { &holding };
-        if self.conflict(judged) {
+        let judged = if self.fault == Fault::ConflictWithoutConditions { &action.effects } else { &holding };
+        if self.is_conflict(judged) {
             return None;
         }
-        let facts = |value| holding.iter().filter(|own| own[2] == value).fold(0, |facts, own| facts | 1 << own[1]);
-        Some(state & !facts(0) | facts(1))
+        let given =
+            |value| holding.iter().filter(|effect| effect[2] == value).fold(0, |facts, effect| facts | 1 << effect[1]);
+        Some(state & !given(0) | given(1))
     }
 
     /// The effects of a move that hold, given the formulas' values before it.
@@ -100,11 +94,12 @@ impl<'a> Domain<'a> {
         holding
     }
 
-    fn conflict(&self, effects: &[Effect]) -> bool {
+    /// Whether effects conflict, or what a fault takes for it.
+    fn is_conflict(&self, effects: &[Effect]) -> bool {
         match self.fault {
             Fault::ConflictIgnored => false,
             Fault::ConflictOfEquals => {
-                (0..effects.len()).any(|i| effects[..i].iter().any(|own| own[1] == effects[i][1]))
+                (0..effects.len()).any(|i| effects[..i].iter().any(|one| one[1] == effects[i][1]))
             }
             _ => clear_and_set(effects),
         }

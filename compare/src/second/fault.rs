@@ -11,7 +11,7 @@ pub enum Fault {
     /// Effects that hold clear and then set, and a fact both cleared and set ends true.
     ConflictIgnored,
     /// A conflict is judged without the effects' conditions.
-    ConflictAnyway,
+    ConflictWithoutConditions,
     /// Two effects that hold and give one fact the same value are a conflict.
     ConflictOfEquals,
     /// A choice takes its first branch alone.
@@ -49,7 +49,7 @@ pub const FAULTS: [(&str, Fault); 19] = [
     ("star", Fault::Star),
     ("effects", Fault::Effects),
     ("conflict-ignored", Fault::ConflictIgnored),
-    ("conflict-anyway", Fault::ConflictAnyway),
+    ("conflict-without-conditions", Fault::ConflictWithoutConditions),
     ("conflict-of-equals", Fault::ConflictOfEquals),
     ("first-branch", Fault::FirstBranch),
     ("free-loops", Fault::FreeLoops),

@@ -1,4 +1,4 @@
-//! The ten marked cases of document 01, and the mistakes that it warns of.
+//! The ten marked cases of document 01, the mistakes that it warns of, and effects that conflict.
 
 use jesmovit_compare::answer::{BLOCKED, COSTS, DEARER, LEAST, MISSED, NONE, PLAN, UNFINISHED};
 use jesmovit_compare::comparison::operation::Operation;
@@ -125,11 +125,12 @@ fn conditions_are_judged_in_the_old_state() {
     assert_eq!(judged(&job, &[0]), [MISSED, 0, 0]);
 }
 
-/// The job of the request: one move sets fact 0 where it holds, and clears it; the goal holds everywhere.
+/// One move clears fact 0, and sets it where it is true before; the goal holds everywhere.
 fn set_where_true(init: u16) -> Worked {
-    let parked = one_move(&[[1, 0, 1], [0, 0, 0]]).job.replace("goal=1", "goal=0");
+    let job =
+        one_move(&[[1, 0, 1], [0, 0, 0]]).job.replace("goal=1", "goal=0").replace("init=0", &format!("init={init}"));
     let table = if init == 0 { vec![0, 5, X, X] } else { vec![X, X, 0, X] };
-    Worked { job: parked.replace("init=0", &format!("init={init}")), table, ..one_move(&[]) }
+    Worked { job, table, ..one_move(&[]) }
 }
 
 #[test]

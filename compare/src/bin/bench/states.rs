@@ -76,7 +76,7 @@ impl States {
         values
     }
 
-    /// The state after a move, where it is applicable and its effects that hold don't conflict.
+    /// The state after a move: none where its precondition fails, or where its effects that hold conflict.
     pub fn successor(&self, values: &Values, m: u16, state: u16) -> Option<u16> {
         let action = &self.actions[usize::from(m)];
         if !values.holds(action.pre) {
