@@ -120,7 +120,8 @@ kept-cleared-set false false false = refl
 module _ (vs : List Bool) (es : List Effect) (n : ℕ) {c s : ℕ} (g : ChangesAre n vs es c s) where
   apart : conflicts vs es ≡ false → bitAnd c s ≡ 0
   apart e = facts-decide n (bitAnd c s) 0 (omega (arith, and-le-l c s, g .cleared .below)) (pow-pos n) (λ i. tests-equal (fact (bitAnd c s) i) (fact 0 i)
-      (λ t. let both = sym (common vs es n g i) ∙ t in never (sym e ∙ cleared-and-set-conflicts vs es i (and-left _ (gets vs es 1 i) both) (and-right (gets vs es 0 i) _ both)))
+      (λ t. let both = sym (common vs es n g i) ∙ t in
+      never (sym e ∙ cleared-and-set-conflicts vs es i (and-left _ (gets vs es 1 i) both) (and-right (gets vs es 0 i) _ both)))
       (λ t. never (sym (no-fact i) ∙ t)))
 
   pub some-conflict : (bitAnd c s ≡ 0 → ⊥) → conflicts vs es ≡ true

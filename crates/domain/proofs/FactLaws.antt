@@ -41,7 +41,14 @@ digit-bit d h = elim (ℕ-discrete d 1) [
 module _ (op : ℕ → ℕ → ℕ) (on : ℕ → ℕ → ℕ) (test : Bool → Bool → Bool)
     (shifts : (a b k : ℕ) → op a b / 2 ^ k ≡ op (a / 2 ^ k) (b / 2 ^ k))
     (steps : (a b : ℕ) → op a b ≡ op (a / 2) (b / 2) * 2 + on (a % 2) (b % 2))
-    (tests : (p q : Bool) → on (boolByte p) (boolByte q) ≡ boolByte (test p q)) where
+    (both : on 1 1 ≡ boolByte (test true true)) (first : on 1 0 ≡ boolByte (test true false))
+    (second : on 0 1 ≡ boolByte (test false true)) (neither : on 0 0 ≡ boolByte (test false false)) where
+  tests : (p q : Bool) → on (boolByte p) (boolByte q) ≡ boolByte (test p q)
+  tests true true = both
+  tests true false = first
+  tests false true = second
+  tests false false = neither
+
   digit : (a b : ℕ) → op a b % 2 ≡ boolByte (test (eqb (a % 2) 1) (eqb (b % 2) 1))
   digit a b =
       let d : on (a % 2) (b % 2) ≡ boolByte (test (eqb (a % 2) 1) (eqb (b % 2) 1)) =
@@ -53,32 +60,14 @@ module _ (op : ℕ → ℕ → ℕ) (on : ℕ → ℕ → ℕ) (test : Bool → 
   fact-op a b i = rw (shifts a b i, digit (a / 2 ^ i) (b / 2 ^ i)) (bit-is (test (fact a i) (fact b i)))
 
 pub fact-and : (a b i : ℕ) → fact (bitAnd a b) i ≡ fact a i && fact b i
-fact-and = fact-op bitAnd min _&&_ and-shr and-step tests
-  where
-    tests : (p q : Bool) → min (boolByte p) (boolByte q) ≡ boolByte (p && q)
-    tests true true = refl
-    tests true false = refl
-    tests false true = refl
-    tests false false = refl
+fact-and = fact-op bitAnd min _&&_ and-shr and-step refl refl refl refl
 
 pub fact-or : (a b i : ℕ) → fact (bitOr a b) i ≡ fact a i || fact b i
-fact-or = fact-op bitOr max _||_ or-shr or-step tests
-  where
-    tests : (p q : Bool) → max (boolByte p) (boolByte q) ≡ boolByte (p || q)
-    tests true true = refl
-    tests true false = refl
-    tests false true = refl
-    tests false false = refl
+fact-or = fact-op bitOr max _||_ or-shr or-step refl refl refl refl
 
 pub fact-xor : (a b i : ℕ) → fact (bitXor a b) i ≡ xor (fact a i) (fact b i)
 unfolding xor
-fact-xor = fact-op bitXor differ xor xor-shr xor-step tests
-  where
-    tests : (p q : Bool) → differ (boolByte p) (boolByte q) ≡ boolByte (xor p q)
-    tests true true = refl
-    tests true false = refl
-    tests false true = refl
-    tests false false = refl
+fact-xor = fact-op bitXor differ xor xor-shr xor-step refl refl refl refl
 
 -- no fact from n on is true in a state of n facts
 pub fact-past : (n w i : ℕ) → w < 2 ^ n → n ≤ i → fact w i ≡ false

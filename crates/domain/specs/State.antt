@@ -11,7 +11,7 @@ use Rattle.job.specs.Job.{Formula}
 unfoldable pub fact : ℕ → ℕ → Bool
 fact w i = eqb (w / 2 ^ i % 2) 1
 
--- w, as the number of a state of so many facts, is the set of those that p tells; p tells of no other
+-- the bits of w are the facts that p tells, all of them below n
 pub record HasFacts (n : ℕ) (p : ℕ → Bool) (w : ℕ) : Type 0 where
   pub below : w < 2 ^ n
   pub facts : (i : ℕ) → fact w i ≡ p i

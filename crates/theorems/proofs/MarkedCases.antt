@@ -52,7 +52,11 @@ judged c = next (loading (handedByProgram (c .texts))) (λ o. passed (computedOf
 abbrev said : Case → Checked Computed
 said c = passed (record { positions = c .positions; steps = c .steps; says = some (c .says) })
 
-computed : map judged (marked ++ (pricedCases ++ conflictCases)) ≡ map said (marked ++ (pricedCases ++ conflictCases))
+-- the cases of requests
+abbrev others : List Case
+others = pricedCases ++ conflictCases
+
+computed : map judged (marked ++ others) ≡ map said (marked ++ others)
 unfolding bytes lines hasKey valueOf byteRead numbers
     lineNumbers fault taken ended readFrom readJob
     end steps branchSteps whileSteps starSteps build programs fits
@@ -94,9 +98,6 @@ in-first (d ∷ xs) ys (List·Memᴰ·tail m) = List·Memᴰ·tail (in-first xs 
 in-second : {c : Case} (xs ys : List Case) → List·Memᴰ c ys → List·Memᴰ c (xs ++ ys)
 in-second [] ys m = m
 in-second (d ∷ xs) ys m = List·Memᴰ·tail (in-second xs ys m)
-
-abbrev others : List Case
-others = pricedCases ++ conflictCases
 
 -- every case of the table
 pub marked-cases : (c : Case) → List·Memᴰ c marked → Right c
