@@ -44,6 +44,19 @@ fn a_table_of_6144_numbers() {
     worked.judges(&[0], [LEAST, 20, 20]);
 }
 
+#[test]
+fn states_by_facts() {
+    // Nil from state 0, where the goal holds: two positions in each of 1, 2 and 4,096 states.
+    for (facts, need) in [(0, 2), (1, 4), (12, 8192)] {
+        let mut table = vec![X; need];
+        (table[0], table[1]) = (0, 0);
+        let job = text_of(facts, &[[1, 0, 0]], Vec::new(), 0, &[[0, 0, 0, 0]]);
+        let worked = Worked { job, costs: None, positions: 2, list: vec![0, 0, 1, 0], table };
+        worked.costs([COSTS, 0]);
+        worked.judges(&[], [LEAST, 0, 0]);
+    }
+}
+
 /// The sample with a program of these rows.
 fn with_rows(rows: &[String]) -> String {
     sample_with(&format!("program={}\n{}", rows.len(), rows.concat()))

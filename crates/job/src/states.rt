@@ -4,12 +4,16 @@ ghost use Prim.Native.Nat.{_≤_};
 ghost use Rattle.limits.specs.Limits.{mostFacts};
 ghost use Rattle.job.specs.StateCount.{stateCount};
 
-const STATE_COUNTS: [u16; 13] = [1, 2, 4, 8, 16, 32, 64, 128, 256, 512, 1024, 2048, 4096];
-
+// One with no fact, and twice as many with each fact more.
 pub fn state_count(facts: u16) -> u16
     requires { ⌜ facts ≤ mostFacts ⌝ }
     ensures { λ r. ⌜ r ≡ stateCount facts ⌝ }
 {
-    let i = facts as usize;
-    STATE_COUNTS[i]
+    let mut count: u16 = 1;
+    let mut k: u16 = 0;
+    while k < facts {
+        count *= 2;
+        k += 1;
+    }
+    count
 }

@@ -1,21 +1,30 @@
-use mathlib.Core.Path.{refl}
+use Prim.Native.Nat.{_-_, _≤_}
+use mathlib.Core.Path.{_≡_, sym}
 use native.Mathlib.Omega.{arith}
-use Prim.Native.Nat.{ℕ, _^_}
-use mathlib.Core.List.{List, [], _∷_}
-use lib.Dec.{eqb}
-use lib.ListN.{getD}
-use borrow.Author.Tests.{eqb-true}
-use Rattle.laws.proofs.Tables.{entry-passes}
+use lib.Pow.{pow-add, pow-lt}
+use Rattle.limits.specs.Limits.{mostFacts}
+use Rattle.job.specs.StateCount.{stateCount}
 use borrow.Author.Needs.{needs}
 use Rattle.job.proofs.states.state_count.Statement.{statement}
 use Rattle.job.proofs.states.state_count.Tie as tie
 
-counts : List ℕ
-counts = 1 ∷ 2 ∷ 4 ∷ 8 ∷ 16 ∷ 32 ∷ 64 ∷ 128 ∷ 256 ∷ 512 ∷ 1024 ∷ 2048 ∷ 4096 ∷ []
+abbrev Inv-loop : tie.InvT-loop
+Inv-loop facts count₀ k₀ count k = (count ≡ stateCount k) × (k ≤ facts)
 
-returns : tie.Need-returns
-unfolding counts
-returns c = let i = c .args .facts in eqb-true (getD counts i 0) (2 ^ i) (entry-passes (λ k x. eqb x (2 ^ k)) counts refl i (omega arith))
+abbrev μ-loop : tie.MeasureT-loop
+μ-loop facts count₀ k₀ count k = facts - k
+
+loop-holds : tie.Need-loop-holds Inv-loop μ-loop
+loop-holds c = (omega arith, omega arith)
+
+mul-count : tie.Need-mul-count Inv-loop μ-loop
+mul-count c = omega (arith, pow-lt {i = c .before .loop .k} {j = mostFacts} (omega arith))
+
+loop-again : tie.Need-loop-again Inv-loop μ-loop
+loop-again c = let l = c .before .loop in (rw (l .inv .0) (sym (pow-add 2 (l .k) 1)), omega arith)
+
+returns : tie.Need-returns Inv-loop μ-loop
+returns c = let l = c .before .loop in let e : l .k ≡ c .before .before .args .facts = omega arith in rw e at (l .inv .0)
 
 pub state-count-spec : {M : Type 1} → statement M
-state-count-spec = tie.close (tie.spec (λ c. search needs) (λ c. search needs) returns)
+state-count-spec = tie.close (tie.spec Inv-loop μ-loop loop-holds mul-count (λ c. search needs) (λ c. search needs) loop-again returns)
