@@ -42,10 +42,12 @@ pub enum Fault {
     LateTotals,
     /// The list is filled before an output that is too short is refused.
     EarlyList,
+    /// A cost table for twelve facts needs no more numbers than for eleven.
+    LastDoubling,
 }
 
 /// The faults by their names on the command line.
-pub const FAULTS: [(&str, Fault); 19] = [
+pub const FAULTS: [(&str, Fault); 20] = [
     ("star", Fault::Star),
     ("effects", Fault::Effects),
     ("conflict-ignored", Fault::ConflictIgnored),
@@ -65,6 +67,7 @@ pub const FAULTS: [(&str, Fault); 19] = [
     ("open-page", Fault::OpenPage),
     ("late-totals", Fault::LateTotals),
     ("early-list", Fault::EarlyList),
+    ("last-doubling", Fault::LastDoubling),
 ];
 
 impl Fault {

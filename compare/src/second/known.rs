@@ -32,7 +32,8 @@ pub struct Known {
 impl Built {
     pub fn of(job: &Job, fault: Fault) -> Result<Built, Refusal> {
         let compiled = compile_with(job, fault)?;
-        Ok(Built { list: compiled.steps.concat(), cells: state_count(job) * compiled.positions, compiled })
+        let states = if fault == Fault::LastDoubling { state_count(job).min(2048) } else { state_count(job) };
+        Ok(Built { list: compiled.steps.concat(), cells: states * compiled.positions, compiled })
     }
 
     /// Positions and steps.
