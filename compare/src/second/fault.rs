@@ -42,7 +42,7 @@ pub enum Fault {
     LateTotals,
     /// The list is filled before an output that is too short is refused.
     EarlyList,
-    /// A cost table for twelve facts needs no more numbers than for eleven.
+    /// A cost table for the most facts needs no more numbers than for one fact fewer.
     LastDoubling,
 }
 

@@ -5,7 +5,7 @@ use super::costs::cost_table;
 use super::domain::{state_count, Domain};
 use super::expected::Texts;
 use super::fault::Fault;
-use super::job::{ClassCosts, Job, Refusal, HOUSE_COSTS};
+use super::job::{ClassCosts, Job, Refusal, HOUSE_COSTS, MOST_FACTS};
 use super::reader::{read_costs, read_plan};
 use super::runs::Runs;
 use super::sheet::sheet;
@@ -32,7 +32,10 @@ pub struct Known {
 impl Built {
     pub fn of(job: &Job, fault: Fault) -> Result<Built, Refusal> {
         let compiled = compile_with(job, fault)?;
-        let states = if fault == Fault::LastDoubling { state_count(job).min(2048) } else { state_count(job) };
+        let states = match fault {
+            Fault::LastDoubling => state_count(job).min(1 << (MOST_FACTS - 1)),
+            _ => state_count(job),
+        };
         Ok(Built { list: compiled.steps.concat(), cells: states * compiled.positions, compiled })
     }
 
