@@ -1,25 +1,32 @@
 -- Sizes of programs by their shape, and a row's sizes from those of earlier rows.
 -- Assumes nothing.
-use Prim.Native.Nat.{ℕ, zero, suc, _+_, _-_, _<_}
-use mathlib.Core.Path.{_≡_, refl, sym, _∙_, ap, subst}
-use mathlib.Core.List.{List}
+use Prim.Native.Nat.{ℕ, zero, suc, _+_, _*_, _<_, min}
+use mathlib.Core.Path.{_≡_, refl, sym, _∙_, ap, ap₂}
+use mathlib.Core.Bool.{true, _&&_}
+use mathlib.Core.List.{List, [], _∷_}
 use native.Mathlib.Omega.{arith}
 use native.Mathlib.Decide.{decLt}
 use lib.ListN.{length, set, length-append}
-use lib.Seq.{getD-set-same, getD-set-other}
-use Rattle.job.specs.Job.{Job, Row}
-use Rattle.semantics.specs.Label.{Label}
-use Rattle.semantics.specs.Program.{Program, any, seq}
-use Rattle.semantics.specs.CompilingTable.{end, steps, moveSteps, branchSteps, whileSteps, starSteps}
-use Rattle.compile.specs.Program.{rowProgram, programOf}
-use Rattle.compile.specs.Construct.{loopSteps, programIn, Earlier, RowSays}
-use Rattle.compile.specs.Size.{sizesOf, sizesSum, nothing, sizesIn, capped, cappedSizes, listed}
+use Rattle.laws.proofs.Tests.{and-left, and-right}
+use Rattle.job.specs.Job.{Row}
+use Rattle.job.specs.declared.head.Counts.{Counts}
+use Rattle.semantics.specs.Label.{Label, noop}
+use Rattle.semantics.specs.Program.{Program, any, seq, pick}
+use Rattle.semantics.specs.CompilingTable.{Step, arc, copyStart, end, copies, steps, moveSteps, branchSteps, whileSteps, starSteps, pickSteps}
+use Rattle.semantics.specs.Scope.{scoped}
+use Rattle.compile.specs.Program.{rowProgram}
+use Rattle.compile.specs.Construct.{simple, branch, loop, loopSteps, programIn, Earlier, RowSays}
+use Rattle.compile.specs.Size.{sizesOf, sizesSum, nothing, copiesSize, sizesIn, sized, capped, cappedSizes, listed}
+use Rattle.compile.specs.Laid.{copyOf}
+use Rattle.compile.specs.declared.rows.Simple.{Simple}
+use Rattle.compile.specs.declared.rows.Simple.the-variants.{Nil, Move, Test, MoveOf, TestOf}
 use Rattle.compile.specs.declared.rows.Guard.{Guard}
 use Rattle.compile.specs.declared.rows.Guard.the-variants.{Free, On}
 use Rattle.compile.specs.declared.rows.Construct.{Construct}
 use Rattle.compile.specs.declared.rows.Construct.the-variants as C
 use Rattle.compile.specs.declared.sizes.Sizes.{Sizes}
-use Rattle.compile.proofs.Shapes.{Leaf, Branch, Loop, leaf-made, branch-made, loop-made, by-shape}
+use Rattle.compile.proofs.Shapes.{leaf-made, leaf-ends, branch-made, loop-made, branch-scoped, loop-scoped, has-object, by-shape}
+use Rattle.compile.proofs.RowTable.{Tabled, tabled-more}
 
 pub moves-count : (count a n : ℕ) → length (moveSteps count a n) ≡ count
 unfolding moveSteps
@@ -31,63 +38,120 @@ unfolding whileSteps starSteps
 glue-count Free n p = refl
 glue-count (On f) n p = refl
 
-module _ (M : ℕ) where
-  -- a program has these sizes from wherever it is compiled
+-- lists of one length for each object
+pub copies-count : (k each : ℕ) (g : ℕ → List Step) → ((o : ℕ) → length (g o) ≡ each) → length (copies k g) ≡ k * each
+unfolding copies
+copies-count zero each g h = omega arith
+copies-count (suc k) each g h = simp length-append (omega (arith, copies-count k each g h, h k))
+
+pick-count : (O n : ℕ) (starts ends : ℕ → ℕ) → length (pickSteps O n starts ends) ≡ O * 2
+unfolding pickSteps
+pick-count O n starts ends =
+    simp length-append
+    (omega (arith, copies-count O 1 (λ o. arc noop n (starts o) ∷ []) (λ o. refl), copies-count O 1 (λ o. arc noop (ends o) (starts O) ∷ []) (λ o. refl)))
+
+-- where copies start whose ends are so far from their starts
+pub start-at : (ends : ℕ → ℕ) (w : ℕ) → ((n : ℕ) → ends n ≡ n + w) → (n o : ℕ) → copyStart ends n o ≡ n + 1 + (w + 1) * o
+unfolding copyStart
+start-at ends w h n zero = omega arith
+start-at ends w h n (suc o) = omega (arith, h (copyStart ends n o), start-at ends w h n o)
+
+module _ (c : Counts) where
+  -- a program has these sizes from wherever it is compiled, where its variables have objects
   pub record Sized (σ : Program) (s : Sizes) : Type 0 where
-    pub ends : (n : ℕ) → end σ n ≡ n + s .positions
-    pub counts : (n : ℕ) → length (steps M σ n) ≡ s .steps
+    pub ends : (n : ℕ) → end (c .objects) σ n ≡ n + s .positions
+    pub counts : (env : List ℕ) (n : ℕ) → scoped (length env) σ ≡ true → length (steps (c .moves) (c .objects) env σ n) ≡ s .steps
 
-  leaf-sized : {σ : Program} {l : Label} → Leaf M σ l → Sized σ (sizesSum nothing nothing 1 1)
-  leaf-sized x = record { ends = λ n. omega (arith, x .ends n); counts = λ n. rw (x .made n) }
+  leaf-sized : (s : Simple) → Sized (simple s) (sizesSum nothing nothing 1 1)
+  leaf-sized s = record {
+    ends = λ n. omega (arith, leaf-ends c [] s n);
+    counts = λ env n h. rw (leaf-made c env s (has-object env s h) .made n);
+  }
 
-  any-sized : Sized any (sizesSum nothing nothing 1 M)
+  any-sized : Sized any (sizesSum nothing nothing 1 (c .moves))
   unfolding steps end
-  any-sized = record { ends = λ n. omega arith; counts = λ n. omega (arith, moves-count M 0 n) }
+  any-sized = record { ends = λ n. omega arith; counts = λ env n h. omega (arith, moves-count (c .moves) 0 n) }
 
   module _ {a b : Program} {x y : Sizes} (u : Sized a x) (v : Sized b y) where
     seq-sized : Sized (seq a b) (sizesSum x y 0 0)
-    unfolding steps end
+    unfolding steps end scoped
     seq-sized = record {
-      ends = λ n. omega (arith, v .ends (end a n), u .ends n);
-      counts = λ n. length-append (steps M a n) (steps M b (end a n)) ∙ omega (arith, u .counts n, v .counts (end a n));
+      ends = λ n. omega (arith, v .ends (end (c .objects) a n), u .ends n);
+      counts = λ env n h.
+          let d = length env in
+          simp length-append
+          (omega (arith, u .counts env n (and-left (scoped d a) (scoped d b) h), v .counts env (end (c .objects) a n) (and-right (scoped d a) (scoped d b) h)));
     }
 
-    branch-sized : {σ : Program} {k l : Label} → Branch M σ a b k l → Sized σ (sizesSum x y 3 4)
+    branch-sized : (g : Guard) → Sized (branch g a b) (sizesSum x y 3 4)
     unfolding branchSteps
-    branch-sized {σ} z = record {
-      ends = λ n. omega (arith, z .ends n, v .ends (suc (end a (suc n))), u .ends (suc n));
-      counts = λ n. rw (z .made n) (simp length-append (omega (arith, u .counts (suc n), v .counts (suc (end a (suc n))))));
+    branch-sized g = record {
+      ends = λ n. omega (arith, branch-made c [] g a b .ends n, v .ends (suc (end (c .objects) a (suc n))), u .ends (suc n));
+      counts = λ env n h.
+          let d = length env in
+          let both : scoped d a && scoped d b ≡ true = sym (branch-scoped d g a b) ∙ h in
+          rw (branch-made c env g a b .made n) (simp length-append
+          (omega (
+            arith,
+            u .counts env (suc n) (and-left (scoped d a) (scoped d b) both),
+            v .counts env (suc (end (c .objects) a (suc n))) (and-right (scoped d a) (scoped d b) both),
+          )));
     }
 
-  loop-sized : {a σ : Program} {x : Sizes} (g : Guard) → Sized a x → Loop M σ a (loopSteps g) → Sized σ (sizesSum x nothing 2 3)
-  loop-sized {a} g u z = record {
-    ends = λ n. omega (arith, z .ends n, u .ends (suc n));
-    counts = λ n. rw (z .made n) (simp length-append (omega (arith, u .counts (suc n), glue-count g n (end a (suc n)))));
-  }
+  module _ {a : Program} {x : Sizes} (u : Sized a x) where
+    loop-sized : (g : Guard) → Sized (loop g a) (sizesSum x nothing 2 3)
+    loop-sized g = record {
+      ends = λ n. omega (arith, loop-made c [] g a .ends n, u .ends (suc n));
+      counts = λ env n h. rw (loop-made c env g a .made n) (simp length-append
+          (omega (arith, u .counts env (suc n) (sym (loop-scoped (length env) g a) ∙ h), glue-count g n (end (c .objects) a (suc n)))));
+    }
 
-  sizes-are : {σ : Program} {s : Sizes} → Sized σ s → sizesOf M σ ≡ s
-  sizes-are {σ} {s} z =
-      let e : end σ 0 ≡ s .positions = omega (arith, z .ends 0) in
-      rw (e, z .counts 0)
+    -- the steps of all copies of a pick's body
+    pub body-count : (env : List ℕ) (n k : ℕ) → scoped (length env) (pick a) ≡ true → length (copies k (copyOf c env a n)) ≡ k * x .steps
+    unfolding scoped
+    body-count env n k h = copies-count k (x .steps) (copyOf c env a n) (λ o. u .counts (o ∷ env) (copyStart (end (c .objects) a) n o) h)
 
-  own : {σ : Program} {s : Sizes} → Sized σ s → Sized σ (sizesOf M σ)
-  own {σ} z = subst (λ (s : Sizes). Sized σ s) (sym (sizes-are z)) z
+    pick-sized : Sized (pick a) (copiesSize (c .objects) x)
+    unfolding steps end
+    pick-sized = record {
+      ends = λ n. omega (arith, start-at (end (c .objects) a) (x .positions) (u .ends) n (c .objects));
+      counts = λ env n h.
+          let starts : ℕ → ℕ = copyStart (end (c .objects) a) n in
+          simp length-append
+          (omega (arith, body-count env n (c .objects) h, pick-count (c .objects) n starts (λ o. end (c .objects) a (starts o))));
+    }
 
-  -- the sizes from position 0 are those from any
-  pub has-sizes : (σ : Program) → Sized σ (sizesOf M σ)
-  has-sizes = by-shape (λ σ. Sized σ (sizesOf M σ)) (λ s. own (leaf-sized (leaf-made M s))) (own any-sized) (λ a b u v. own (seq-sized u v))
-      (λ g a b u v. own (branch-sized u v (branch-made M g a b))) (λ g a u. own (loop-sized g u (loop-made M g a)))
+  leaf-size : (s : Simple) → sizesOf c (simple s) ≡ sizesSum nothing nothing 1 1
+  unfolding sizesOf
+  leaf-size Nil = refl
+  leaf-size (Move a) = refl
+  leaf-size (Test a) = refl
+  leaf-size (MoveOf a b) = refl
+  leaf-size (TestOf a b) = refl
 
-  pub row-sizes : (of : ℕ → Program) (r : Construct) → sizesOf M (programIn of r) ≡ sizesIn M (λ k. sizesOf M (of k)) r
-  row-sizes of (C.Leaf s) = sizes-are (leaf-sized (leaf-made M s))
-  row-sizes of C.Any = sizes-are any-sized
-  row-sizes of (C.Seq a b) = sizes-are (seq-sized (has-sizes (of a)) (has-sizes (of b)))
-  row-sizes of (C.Branch g a b) = sizes-are (branch-sized (has-sizes (of a)) (has-sizes (of b)) (branch-made M g (of a) (of b)))
-  row-sizes of (C.Loop g a) = sizes-are (loop-sized g (has-sizes (of a)) (loop-made M g (of a)))
+  branch-size : (g : Guard) (a b : Program) → sizesOf c (branch g a b) ≡ sizesSum (sizesOf c a) (sizesOf c b) 3 4
+  unfolding sizesOf
+  branch-size Free a b = refl
+  branch-size (On f) a b = refl
 
-  -- the capped sizes of the rows before row i stand in two lists
-  abbrev pub Listed : List Row → ℕ → List ℕ → List ℕ → Type 0
-  Listed program i positions steps = (k : ℕ) → k < i → listed positions steps k ≡ cappedSizes (sizesOf M (rowProgram program k))
+  loop-size : (g : Guard) (a : Program) → sizesOf c (loop g a) ≡ sizesSum (sizesOf c a) nothing 2 3
+  unfolding sizesOf
+  loop-size Free a = refl
+  loop-size (On f) a = refl
+
+  pub has-sizes : (σ : Program) → Sized σ (sizesOf c σ)
+  unfolding sizesOf
+  has-sizes = by-shape (λ σ. Sized σ (sizesOf c σ)) (λ s. rw (leaf-size s) (leaf-sized s)) any-sized (λ a b u v. seq-sized u v)
+      (λ g a b u v. rw (branch-size g a b) (branch-sized u v g)) (λ g a u. rw (loop-size g a) (loop-sized u g)) (λ a u. pick-sized u)
+
+  pub row-sizes : (of : ℕ → Program) (r : Construct) → sizesOf c (programIn of r) ≡ sizesIn c (λ k. sizesOf c (of k)) r
+  unfolding sizesOf
+  row-sizes of (C.Leaf s) = leaf-size s
+  row-sizes of C.Any = refl
+  row-sizes of (C.Seq a b) = refl
+  row-sizes of (C.Branch g a b) = branch-size g (of a) (of b)
+  row-sizes of (C.Loop g a) = loop-size g (of a)
+  row-sizes of (C.Pick a) = refl
 
   -- sums of capped sizes, capped, are capped sums
   capped-parts : (x y x₁ y₁ : Sizes) (p q : ℕ) → x₁ ≡ cappedSizes x → y₁ ≡ cappedSizes y → cappedSizes (sizesSum x₁ y₁ p q) ≡ cappedSizes (sizesSum x y p q)
@@ -96,31 +160,48 @@ module _ (M : ℕ) where
       let h : capped (capped (x .steps) + capped (y .steps) + q) ≡ capped (x .steps + y .steps + q) = omega arith in
       rw (e, f, g, h)
 
-  module _ (program : List Row) (i : ℕ) (positions steps : List ℕ) (s : Listed program i positions steps) where
+  -- and so are products
+  capped-times : (O x k e : ℕ) → capped (O * (capped x + k) + e) ≡ capped (O * (x + k) + e)
+  capped-times zero x k e = omega arith
+  capped-times (suc O) x k e = elim (decLt x 1025) [
+    | yes l ↦ (let f : capped x ≡ x = omega arith in rw f refl)
+    | no l ↦ (let f : capped x ≡ 1025 = omega arith in rw f (omega arith))
+  ]
+
+  capped-copies : (O : ℕ) (x x₁ : Sizes) → x₁ ≡ cappedSizes x → cappedSizes (copiesSize O x₁) ≡ cappedSizes (copiesSize O x)
+  capped-copies O x x₁ e =
+      let f : capped (O * (capped (x .steps) + 2)) ≡ capped (O * (x .steps + 2)) = omega (arith, capped-times O (x .steps) 2 0) in
+      rw (e, capped-times O (x .positions) 1 1, f)
+
+  module _ (program : List Row) where
     abbrev of : ℕ → Sizes
-    of k = sizesOf M (rowProgram program k)
+    of k = sizesOf c (rowProgram program k)
 
-    row-capped : (r : Construct) → Earlier i r → cappedSizes (sizesIn M (listed positions steps) r) ≡ cappedSizes (sizesIn M of r)
-    row-capped (C.Leaf l) e = refl
-    row-capped C.Any e = refl
-    row-capped (C.Seq a b) e = capped-parts (of a) (of b) _ _ 0 0 (s a (e .0)) (s b (e .1))
-    row-capped (C.Branch g a b) e = capped-parts (of a) (of b) _ _ 3 4 (s a (e .0)) (s b (e .1))
-    row-capped (C.Loop g a) e = capped-parts (of a) nothing _ nothing 2 3 (s a e) refl
+    -- the capped sizes of the rows before row i stand in two lists
+    pub record Listed (i : ℕ) (positions steps : List ℕ) : Type 0 where
+      pub positions-of : Tabled (λ k. capped (of k .positions)) i positions
+      pub steps-of : Tabled (λ k. capped (of k .steps)) i steps
 
-    -- one row more
-    pub listed-more : (r : Construct) (v : Sizes) → RowSays (rowProgram program) i r
-        → v ≡ cappedSizes (sizesIn M (listed positions steps) r) → i < length positions → i < length steps
-        → Listed program (i + 1) (set positions i (v .positions)) (set steps i (v .steps))
-    listed-more r v e q h g k l = elim (decLt k i) [
-      | yes y ↦ (let z : k ≡ i → ⊥ = λ d. omega arith in
-          rw (getD-set-other positions i k (v .positions) 0 z, getD-set-other steps i k (v .steps) 0 z) (s k y))
-      | no y ↦ (let z : k ≡ i = omega arith in
-          rw (z, getD-set-same positions i (v .positions) 0 h, getD-set-same steps i (v .steps) 0 g)
-          (q ∙ row-capped r (e .earlier) ∙ ap cappedSizes (sym (row-sizes (rowProgram program) r) ∙ ap (sizesOf M) (sym (e .is)))))
-    ]
+    module _ {i : ℕ} {positions steps : List ℕ} (s : Listed i positions steps) where
+      pub listed-at : (k : ℕ) → k < i → listed positions steps k ≡ cappedSizes (of k)
+      listed-at k h = ap₂ sized (s .positions-of k h) (s .steps-of k h)
 
-  -- the last row's are the program's
-  pub listed-last : (j : Job) (n : ℕ) (positions steps : List ℕ) → n ≡ length (j .program) → 0 < n → Listed (j .program) n positions steps
-      → listed positions steps (n - 1) ≡ cappedSizes (sizesOf M (programOf j))
-  listed-last j n positions steps e h s =
-      s (n - 1) (omega arith) ∙ ap (λ (k : ℕ). cappedSizes (sizesOf M (rowProgram (j .program) (k - 1)))) e
+      row-capped : (r : Construct) → Earlier i r → cappedSizes (sizesIn c (listed positions steps) r) ≡ cappedSizes (sizesIn c of r)
+      row-capped (C.Leaf l) e = refl
+      row-capped C.Any e = refl
+      row-capped (C.Seq a b) e = capped-parts (of a) (of b) _ _ 0 0 (listed-at a (e .0)) (listed-at b (e .1))
+      row-capped (C.Branch g a b) e = capped-parts (of a) (of b) _ _ 3 4 (listed-at a (e .0)) (listed-at b (e .1))
+      row-capped (C.Loop g a) e = capped-parts (of a) nothing _ nothing 2 3 (listed-at a e) refl
+      row-capped (C.Pick a) e = capped-copies (c .objects) (of a) _ (listed-at a e)
+
+      -- one row more
+      pub listed-more : (r : Construct) (v : Sizes) → RowSays (rowProgram program) i r
+          → v ≡ cappedSizes (sizesIn c (listed positions steps) r) → i < length positions → i < length steps
+          → Listed (i + 1) (set positions i (v .positions)) (set steps i (v .steps))
+      listed-more r v e q h g =
+          let own : v ≡ cappedSizes (of i) = q ∙ row-capped r (e .earlier)
+          ∙ ap cappedSizes (sym (row-sizes (rowProgram program) r) ∙ ap (sizesOf c) (sym (e .is))) in
+          record {
+            positions-of = tabled-more _ i positions _ (s .positions-of) (ap (λ (z : Sizes). z .positions) own) h;
+            steps-of = tabled-more _ i steps _ (s .steps-of) (ap (λ (z : Sizes). z .steps) own) g;
+          }

@@ -1,29 +1,54 @@
 -- What a program row says, by its shape, for each case of the code's answer.
-use Prim.Native.Nat.{ℕ, _<_}
+use Prim.Native.Nat.{ℕ, _+_, _≤_, _<_}
 use mathlib.Core.Path.{_≡_}
 use mathlib.Core.List.{List, [], _∷_}
-use lib.ListN.{getD}
+use lib.ListN.{length, getD}
+use Rattle.limits.specs.Limits.{mostObjects}
 use Rattle.job.specs.Job.{Row}
 use Rattle.semantics.specs.Label.{Label, noop, holds, fails, make}
-use Rattle.semantics.specs.Program.{Program, nil, move, any, test, seq, ifElse, choice, while, star}
+use Rattle.semantics.specs.Program.{Program, nil, move, any, test, seq, ifElse, choice, while, star, pick, moveOf, testOf}
 use Rattle.semantics.specs.CompilingTable.{Step, whileSteps, starSteps}
 use Rattle.compile.specs.declared.rows.Simple.{Simple}
-use Rattle.compile.specs.declared.rows.Simple.the-variants.{Nil, Move, Test}
+use Rattle.compile.specs.declared.rows.Simple.the-variants.{Nil, Move, Test, MoveOf, TestOf}
 use Rattle.compile.specs.declared.rows.Guard.{Guard}
 use Rattle.compile.specs.declared.rows.Guard.the-variants.{Free, On}
 use Rattle.compile.specs.declared.rows.Construct.{Construct}
-use Rattle.compile.specs.declared.rows.Construct.the-variants.{Leaf, Any, Seq, Branch, Loop}
+use Rattle.compile.specs.declared.rows.Construct.the-variants.{Leaf, Any, Seq, Branch, Loop, Pick}
 
 -- a program of one step, and the step's label
 abbrev pub simple : Simple → Program
 simple Nil = nil
 simple (Move a) = move a
 simple (Test a) = test a
+simple (MoveOf a b) = moveOf a b
+simple (TestOf a b) = testOf a b
 
-abbrev pub leafLabel : Simple → Label
-leafLabel Nil = noop
-leafLabel (Move a) = make a
-leafLabel (Test a) = holds a
+-- env has the objects of the enclosing picks, the nearest first
+abbrev pub leafLabel : List ℕ → Simple → Label
+leafLabel env Nil = noop
+leafLabel env (Move a) = make a
+leafLabel env (Test a) = holds a
+leafLabel env (MoveOf a b) = make (a + getD env b 0)
+leafLabel env (TestOf a b) = holds (a + getD env b 0)
+
+-- any object may be added to a base
+abbrev pub Base : ℕ → Type 0
+Base a = a + mostObjects ≤ 65535
+
+abbrev pub BaseRight : Simple → Type 0
+BaseRight Nil = Unit {0}
+BaseRight (Move a) = Unit {0}
+BaseRight (Test a) = Unit {0}
+BaseRight (MoveOf a b) = Base a
+BaseRight (TestOf a b) = Base a
+
+-- a variable has its object
+abbrev pub HasObject : List ℕ → Simple → Type 0
+HasObject env Nil = Unit {0}
+HasObject env (Move a) = Unit {0}
+HasObject env (Test a) = Unit {0}
+HasObject env (MoveOf a b) = b < length env
+HasObject env (TestOf a b) = b < length env
 
 -- two branches, of which a formula's value names the one that is taken, or either is; a part that
 -- is repeated
@@ -57,14 +82,16 @@ programIn of Any = any
 programIn of (Seq a b) = seq (of a) (of b)
 programIn of (Branch g a b) = branch g (of a) (of b)
 programIn of (Loop g a) = loop g (of a)
+programIn of (Pick a) = pick (of a)
 
--- it refers to rows before row i alone
+-- it refers to rows before row i alone, and a base has room for an object
 abbrev pub Earlier : ℕ → Construct → Type 0
-Earlier i (Leaf s) = Unit {0}
+Earlier i (Leaf s) = BaseRight s
 Earlier i Any = Unit {0}
 Earlier i (Seq a b) = (a < i) × (b < i)
 Earlier i (Branch g a b) = (a < i) × (b < i)
 Earlier i (Loop g a) = a < i
+Earlier i (Pick a) = a < i
 
 -- row i says this, where `of` gives the programs of the rows
 pub record RowSays (of : ℕ → Program) (i : ℕ) (r : Construct) : Type 0 where
@@ -83,6 +110,9 @@ constructs r =
     ∷ Branch Free (r .a) (r .b)
     ∷ Loop (On (r .a)) (r .b)
     ∷ Loop Free (r .a)
+    ∷ Pick (r .a)
+    ∷ Leaf (MoveOf (r .a) (r .b))
+    ∷ Leaf (TestOf (r .a) (r .b))
     ∷ []
 
 abbrev pub constructOf : Row → Construct

@@ -1,19 +1,36 @@
 -- Numbers laid over a list, and the steps of a program laid so.
 use Prim.Native.Nat.{ℕ, _+_, _*_, _≤_, _<_}
 use mathlib.Core.Path.{_≡_}
-use mathlib.Core.List.{List}
+use mathlib.Core.Bool.{true}
+use mathlib.Core.List.{List, [], _∷_}
 use lib.ListN.{length}
 use lib.Seq.{sets}
 use Rattle.limits.specs.Limits.{mostPositions}
 use Rattle.semantics.specs.Label as L
+use Rattle.semantics.specs.Label.{noop}
 use Rattle.semantics.specs.Program.{Program}
-use Rattle.semantics.specs.CompilingTable.{end, steps, flat, kindOf, argOf}
+use Rattle.semantics.specs.CompilingTable.{Step, arc, copyStart, end, copies, steps, flat, kindOf, argOf}
+use Rattle.semantics.specs.Scope.{scoped}
+use Rattle.job.specs.declared.head.Counts.{Counts}
 use Rattle.compile.specs.Construct.{firstLabel, secondLabel}
 use Rattle.compile.specs.Size.{sizesOf}
 use Rattle.compile.specs.declared.rows.Guard.{Guard}
 use Rattle.compile.specs.declared.steps.Cursor.{Cursor}
 use Rattle.compile.specs.declared.steps.StepLabel.{StepLabel}
 use Rattle.compile.specs.declared.steps.Labels.{Labels}
+use Rattle.compile.specs.declared.steps.Spaced.{Spaced}
+
+-- the copy of a pick's body for object o, where the pick is compiled from n
+abbrev pub copyOf : Counts → List ℕ → Program → ℕ → ℕ → List Step
+copyOf c env σ n o = steps (c .moves) (c .objects) (o ∷ env) σ (copyStart (end (c .objects) σ) n o)
+
+-- position number k of those that are so far apart
+abbrev pub positionAt : Spaced → ℕ → ℕ
+positionAt r k = r .first + r .apart * k
+
+-- a no-op from each position of one sort to one of the other
+abbrev pub linkSteps : Spaced → Spaced → ℕ → List Step
+linkSteps from to k = arc noop (positionAt from k) (positionAt to k) ∷ []
 
 -- a label in the list, and those of two ways
 abbrev pub labelNumbers : L.Label → StepLabel
@@ -27,13 +44,21 @@ pub record LaidOver (v old : List ℕ) (at : ℕ) (new : List ℕ) (next : ℕ) 
   pub list : new ≡ sets old at v
   pub place : next ≡ at + length v
 
--- the steps of a program that is compiled from the cursor's position, at its place; then comes the
--- cursor after them
-pub record StepsLaid (moves : ℕ) (σ : Program) (old : List ℕ) (from : Cursor) (new : List ℕ) (to : Cursor) : Type 0 where
-  pub laid : LaidOver (flat (steps moves σ (from .position))) old (from .at) new (to .at)
-  pub ends : to .position ≡ end σ (from .position)
+-- the steps of a program that is compiled from the cursor's position, inside picks of these objects,
+-- at its place; then comes the cursor after them
+pub record StepsLaid (c : Counts) (env : List ℕ) (σ : Program) (old : List ℕ) (from : Cursor) (new : List ℕ) (to : Cursor) : Type 0 where
+  pub laid : LaidOver (flat (steps (c .moves) (c .objects) env σ (from .position))) old (from .at) new (to .at)
+  pub ends : to .position ≡ end (c .objects) σ (from .position)
 
--- there are positions and places left for all of them
-pub record Enough (moves : ℕ) (σ : Program) (from : Cursor) (places : ℕ) : Type 0 where
-  pub positions : from .position + sizesOf moves σ .positions < mostPositions
-  pub room : from .at + sizesOf moves σ .steps * 4 ≤ places
+-- its variables have their objects, and there are positions and places left for all of its steps
+pub record Enough (c : Counts) (env : List ℕ) (σ : Program) (from : Cursor) (places : ℕ) : Type 0 where
+  pub variables : scoped (length env) σ ≡ true
+  pub positions : from .position + sizesOf c σ .positions < mostPositions
+  pub room : from .at + sizesOf c σ .steps * 4 ≤ places
+
+-- the steps of the first o copies of a pick's body, and the cursor after them
+pub record CopiesLaid (c : Counts) (env : List ℕ) (σ : Program) (old : List ℕ) (from : Cursor) (o : ℕ) (new : List ℕ) (to : Cursor) : Type 0 where
+  pub few : o ≤ c .objects
+  pub size : length new ≡ length old
+  pub laid : LaidOver (flat (copies o (copyOf c env σ (from .position)))) old (from .at) new (to .at)
+  pub ends : to .position ≡ copyStart (end (c .objects) σ) (from .position) o

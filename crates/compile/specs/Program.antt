@@ -4,7 +4,7 @@ use Prim.Native.Nat.{ℕ, _-_}
 use mathlib.Core.List.{List, [], _∷_, _++_, foldl}
 use lib.ListN.{length, getD}
 use Rattle.job.specs.Job.{Job, Row}
-use Rattle.semantics.specs.Program.{Program, nil, move, any, test, seq, ifElse, choice, while, star}
+use Rattle.semantics.specs.Program.{Program, nil, move, any, test, seq, ifElse, choice, while, star, pick, moveOf, testOf}
 
 -- a row by its kind as in the compiling table, where `of` gives the programs of the rows that it
 -- refers to
@@ -19,6 +19,9 @@ kinds of r =
     ∷ choice (of (r .a)) (of (r .b))  -- 6
     ∷ while (r .a) (of (r .b))  -- 7
     ∷ star (of (r .a))  -- 8
+    ∷ pick (of (r .a))  -- 9
+    ∷ moveOf (r .a) (r .b)  -- 10
+    ∷ testOf (r .a) (r .b)  -- 11
     ∷ []
 
 -- a row over the programs of the rows before it

@@ -1,20 +1,16 @@
 -- Sizes of programs, by the compiling table.
-use Prim.Native.Nat.{ℕ, suc, _+_, min}
+use Prim.Native.Nat.{ℕ, suc, _+_, _*_, min}
 use mathlib.Core.List.{List}
-use lib.ListN.{length, getD}
+use lib.ListN.{getD}
 use Rattle.limits.specs.Limits.{mostSteps}
-use Rattle.semantics.specs.Program.{Program}
-use Rattle.semantics.specs.CompilingTable.{end, steps}
+use Rattle.job.specs.declared.head.Counts.{Counts}
+use Rattle.semantics.specs.Program.{Program, nil, move, any, test, seq, ifElse, choice, while, star, pick, moveOf, testOf}
 use Rattle.compile.specs.declared.rows.Construct.{Construct}
-use Rattle.compile.specs.declared.rows.Construct.the-variants.{Leaf, Any, Seq, Branch, Loop}
+use Rattle.compile.specs.declared.rows.Construct.the-variants.{Leaf, Any, Seq, Branch, Loop, Pick}
 use Rattle.compile.specs.declared.sizes.Sizes.{Sizes}
 
 abbrev pub sized : ℕ → ℕ → Sizes
 sized positions steps = record { positions = positions; steps = steps }
-
--- what a program adds to the positions, and how many steps it has, where the job has M moves
-abbrev pub sizesOf : ℕ → Program → Sizes
-sizesOf M σ = sized (end σ 0) (length (steps M σ 0))
 
 -- two parts, and so many more
 abbrev pub sizesSum : Sizes → Sizes → ℕ → ℕ → Sizes
@@ -23,13 +19,33 @@ sizesSum x y positions steps = sized (x .positions + y .positions + positions) (
 abbrev pub nothing : Sizes
 nothing = sized 0 0
 
+-- a copy of the body for each of O objects
+abbrev pub copiesSize : ℕ → Sizes → Sizes
+copiesSize O x = sized (O * (x .positions + 1) + 1) (O * (x .steps + 2))
+
+-- what a program adds to the positions, and how many steps it has, in a job of these counts
+unfoldable pub sizesOf : Counts → Program → Sizes
+sizesOf c nil = sizesSum nothing nothing 1 1
+sizesOf c (move a) = sizesSum nothing nothing 1 1
+sizesOf c any = sizesSum nothing nothing 1 (c .moves)
+sizesOf c (test a) = sizesSum nothing nothing 1 1
+sizesOf c (seq a b) = sizesSum (sizesOf c a) (sizesOf c b) 0 0
+sizesOf c (ifElse f a b) = sizesSum (sizesOf c a) (sizesOf c b) 3 4
+sizesOf c (choice a b) = sizesSum (sizesOf c a) (sizesOf c b) 3 4
+sizesOf c (while f a) = sizesSum (sizesOf c a) nothing 2 3
+sizesOf c (star a) = sizesSum (sizesOf c a) nothing 2 3
+sizesOf c (pick a) = copiesSize (c .objects) (sizesOf c a)
+sizesOf c (moveOf a b) = sizesSum nothing nothing 1 1
+sizesOf c (testOf a b) = sizesSum nothing nothing 1 1
+
 -- the sizes of a row, by its shape, where `of` gives those of the rows that it refers to
-abbrev pub sizesIn : ℕ → (ℕ → Sizes) → Construct → Sizes
-sizesIn M of (Leaf s) = sizesSum nothing nothing 1 1
-sizesIn M of Any = sizesSum nothing nothing 1 M
-sizesIn M of (Seq a b) = sizesSum (of a) (of b) 0 0
-sizesIn M of (Branch g a b) = sizesSum (of a) (of b) 3 4
-sizesIn M of (Loop g a) = sizesSum (of a) nothing 2 3
+abbrev pub sizesIn : Counts → (ℕ → Sizes) → Construct → Sizes
+sizesIn c of (Leaf s) = sizesSum nothing nothing 1 1
+sizesIn c of Any = sizesSum nothing nothing 1 (c .moves)
+sizesIn c of (Seq a b) = sizesSum (of a) (of b) 0 0
+sizesIn c of (Branch g a b) = sizesSum (of a) (of b) 3 4
+sizesIn c of (Loop g a) = sizesSum (of a) nothing 2 3
+sizesIn c of (Pick a) = copiesSize (c .objects) (of a)
 
 -- sizes above the limits are all the same
 abbrev pub capped : ℕ → ℕ

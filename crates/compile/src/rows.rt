@@ -8,11 +8,14 @@ ghost use Rattle.compile.specs.Construct.{constructOf, RowSays};
 use job::head::Head;
 use job::stored::ProgramRow;
 
-// A row of one step.
+// A row of one step. Of a move and a test of a variable: the number to which the object is added,
+// and the variable.
 pub enum Simple {
     Nil,
     Move(u16),
     Test(u16),
+    MoveOf(u16, u16),
+    TestOf(u16, u16),
 }
 
 // Which of two ways is taken: either, or the first where a formula holds and the second where it
@@ -29,6 +32,7 @@ pub enum Construct {
     Seq(u16, u16),
     Branch(Guard, u16, u16),
     Loop(Guard, u16),
+    Pick(u16),
 }
 
 // What a row says, by its kind.
@@ -46,6 +50,9 @@ fn construct_of(row: ProgramRow) -> Construct
         6 => Construct::Branch(Guard::Free, row.a, row.b),
         7 => Construct::Loop(Guard::On(row.a), row.b),
         8 => Construct::Loop(Guard::Free, row.a),
+        9 => Construct::Pick(row.a),
+        10 => Construct::Leaf(Simple::MoveOf(row.a, row.b)),
+        11 => Construct::Leaf(Simple::TestOf(row.a, row.b)),
         _ => Construct::Leaf(Simple::Nil), // no row is of another kind
     }
 }

@@ -3,9 +3,11 @@ ghost use mathlib.Core.Path.{_≡_};
 ghost use mathlib.Core.List.{[], _∷_};
 ghost use Prim.Native.Nat.{_+_, _*_, _≤_, _<_};
 ghost use lib.ListN.{length};
-ghost use Rattle.semantics.specs.CompilingTable.{arc, flat, moveSteps, branchSteps, whileSteps, starSteps};
-ghost use Rattle.compile.specs.Construct.{leafLabel, firstLabel, secondLabel, loopSteps};
-ghost use Rattle.compile.specs.Laid.{labelNumbers, guardNumbers, LaidOver};
+ghost use Rattle.semantics.specs.CompilingTable.{arc, flat, copies, moveSteps, branchSteps, whileSteps, starSteps, pickSteps};
+ghost use Rattle.compile.specs.Construct.{leafLabel, BaseRight, HasObject, firstLabel, secondLabel, loopSteps};
+ghost use Rattle.compile.specs.Env.{objectsIn, EnvRight};
+ghost use Rattle.compile.specs.Laid.{labelNumbers, guardNumbers, LaidOver, positionAt, linkSteps};
+use crate::env::Env;
 use crate::rows::Guard;
 use crate::rows::Simple;
 
@@ -32,13 +34,22 @@ pub struct StepLabel {
     pub arg: u16,
 }
 
-fn leaf_label(simple: Simple) -> StepLabel
-    ensures { λ r. ⌜ r ≡ labelNumbers (leafLabel simple) ⌝ }
+fn leaf_label(simple: Simple, env: Env) -> StepLabel
+    requires { ⌜ EnvRight env × BaseRight simple × HasObject (objectsIn env) simple ⌝ }
+    ensures { λ r. ⌜ r ≡ labelNumbers (leafLabel (objectsIn env) simple) ⌝ }
 {
     match simple {
         Simple::Nil => StepLabel { kind: 0, arg: 0 },
         Simple::Move(a) => StepLabel { kind: 3, arg: a },
         Simple::Test(a) => StepLabel { kind: 1, arg: a },
+        Simple::MoveOf(a, b) => StepLabel {
+            kind: 3,
+            arg: a + crate::env::object(env, b),
+        },
+        Simple::TestOf(a, b) => StepLabel {
+            kind: 1,
+            arg: a + crate::env::object(env, b),
+        },
     }
 }
 
@@ -67,13 +78,14 @@ fn guard_labels(guard: Guard) -> Labels
 }
 
 // One step to the next position.
-pub fn leaf_step(list: &mut [u16], from: Cursor, simple: Simple) -> Cursor
+pub fn leaf_step(list: &mut [u16], from: Cursor, simple: Simple, env: Env) -> Cursor
+    requires { ⌜ EnvRight env × BaseRight simple × HasObject (objectsIn env) simple ⌝ }
     requires { ⌜ (from .at + 4 ≤ length (now list)) × (from .position < 65535) ⌝ }
-    ensures { λ r. ⌜ LaidOver (flat (arc (leafLabel simple) (from .position) (from .position + 1) ∷ [])) (now (list .entry)) (from .at) (now (list .exit))
-        (r .at) × (r .position ≡ from .position + 1) ⌝ }
+    ensures { λ r. ⌜ LaidOver (flat (arc (leafLabel (objectsIn env) simple) (from .position) (from .position + 1) ∷ [])) (now (list .entry)) (from .at)
+        (now (list .exit)) (r .at) × (r .position ≡ from .position + 1) ⌝ }
 {
     let n = from.position;
-    let x = leaf_label(simple);
+    let x = leaf_label(simple, env);
     let next = put_step(list, from.at, x.kind, n, n + 1, x.arg);
     Cursor {
         position: n + 1,
@@ -153,5 +165,53 @@ pub fn loop_steps(list: &mut [u16], at: usize, n: u16, p: u16, guard: Guard) -> 
     match guard {
         Guard::Free => star_steps(list, at, n, p),
         Guard::On(a) => while_steps(list, at, n, p, a),
+    }
+}
+
+// Positions so far apart, from the first on.
+pub struct Spaced {
+    pub first: u16,
+    pub apart: u16,
+}
+
+// A no-op from each of so many positions to one of so many.
+fn links(list: &mut [u16], at: usize, from: Spaced, to: Spaced, count: u16) -> usize
+    requires { ⌜ (at + count * 4 ≤ length (now list)) × (positionAt from count ≤ 65535) × (positionAt to count ≤ 65535) ⌝ }
+    ensures { λ r. ⌜ LaidOver (flat (copies count (linkSteps from to))) (now (list .entry)) at (now (list .exit)) r ⌝ }
+{
+    let mut next = at;
+    let mut k: u16 = 0;
+    while k < count {
+        next = put_step(list, next, 0, from.first + from.apart * k, to.first + to.apart * k, 0);
+        k += 1;
+    }
+    next
+}
+
+// The steps of a pick after the copies of its body, which start so far apart.
+pub fn pick_steps(list: &mut [u16], at: usize, n: u16, apart: u16, objects: u16) -> Cursor
+    requires { ⌜ (at + objects * 8 ≤ length (now list)) × (n + apart + apart * objects < 65535) ⌝ }
+    ensures { λ r. ⌜ LaidOver (flat (pickSteps objects n (λ k. n + 1 + apart * k) (λ k. n + apart + apart * k))) (now (list .entry)) at (now (list .exit))
+        (r .at) × (r .position ≡ n + 1 + apart * objects) ⌝ }
+{
+    let end = n + 1 + apart * objects;
+    let start = Spaced { first: n, apart: 0 };
+    let starts = Spaced {
+        first: n + 1,
+        apart: apart,
+    };
+    let ends = Spaced {
+        first: n + apart,
+        apart: apart,
+    };
+    let last = Spaced {
+        first: end,
+        apart: 0,
+    };
+    let entered = links(list, at, start, starts, objects);
+    let left = links(list, entered, ends, last, objects);
+    Cursor {
+        position: end,
+        at: left,
     }
 }

@@ -13,7 +13,7 @@ use Rattle.job.specs.Store.{width, numbersOf}
 use Rattle.job.specs.declared.head.Counts.{Counts}
 use Rattle.job.specs.declared.line.Line.{Line}
 use Rattle.job.specs.declared.line.Heading.{Heading}
-use Rattle.job.specs.declared.line.Heading.the-variants.{Job, Facts, Init, Formulas, Moves, Goal, Program}
+use Rattle.job.specs.declared.line.Heading.the-variants.{Job, Facts, Init, Formulas, Moves, Goal, Objects, Program}
 use Rattle.job.specs.declared.line.RowSort.{RowSort}
 use Rattle.job.specs.declared.line.LineNumbers.{LineNumbers}
 use Rattle.job.proofs.FrontLaws.{line-front}
@@ -26,6 +26,7 @@ range-reason Init c = omega arith
 range-reason Formulas c = omega arith
 range-reason Moves c = omega arith
 range-reason Goal c = omega arith
+range-reason Objects c = omega arith
 range-reason Program c = omega arith
 
 -- the reason by a row's sort

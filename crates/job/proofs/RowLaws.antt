@@ -13,7 +13,7 @@ use Rattle.laws.proofs.Tests.{never, and-left, and-right}
 use Rattle.laws.proofs.Tables.{pair-at}
 use Rattle.job.specs.Job as J
 use Rattle.job.specs.Fields.{bound, formulaFields, within, Within}
-use Rattle.job.specs.WellFormed.{Tiled}
+use Rattle.job.specs.WellFormed.{Tiled, beforeFormula}
 use Rattle.job.specs.declared.head.Counts.{Counts}
 use Rattle.job.specs.declared.fields.Field.{Field}
 use Rattle.job.specs.declared.fields.Field.the-variants.{Unused}
@@ -51,6 +51,13 @@ kind-listed c kinds kind x xs w = elim (decLt kind (length kinds)) [
   | yes h ↦ h
   | no h ↦ (let g : length kinds ≤ kind = omega arith in absurd (rw (List·getD-eq-default kinds [] {n = kind} g) at w))
 ]
+
+-- a formula refers to facts and formulas only
+pub formula-own : (c : Counts) (x y k : ℕ) → Within c (getD formulaFields k []) (x ∷ y ∷ [])
+    → Within (beforeFormula (c .facts) (c .formulas)) (getD formulaFields k []) (x ∷ y ∷ [])
+formula-own c x y k w =
+    pair-at (λ fs gs. Within c fs (x ∷ y ∷ []) → Within (beforeFormula (c .facts) (c .formulas)) gs (x ∷ y ∷ [])) [] [] formulaFields formulaFields
+    (λ h. h, (λ h. h, (λ h. h, (λ h. h, (λ h. h, (λ h. h, tt)))))) k (kind-listed c formulaFields k x (y ∷ []) w) w
 
 -- a move's effects are among all of them
 pub tiled-own : (d : J.Move) (first last : ℕ) (ms : List J.Move) → Tiled first ms last → (i : ℕ) → i < length ms

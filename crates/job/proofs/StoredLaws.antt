@@ -49,6 +49,7 @@ module _ {h : Head} {l : List ℕ} (s : Stored h l) where
     formulas = omega (arith, s .job .formulas, formula-count h l);
     moves = omega (arith, s .job .moves, move-count h l);
     effects = omega (arith, s .job .effects, effect-count h l);
+    objects = s .job .objects;
     program = omega (arith, s .job .program, row-count h l);
   }
 

@@ -5,13 +5,13 @@ use mathlib.Core.List.{List, [], _∷_}
 use mathlib.Core.Option.{Option, none, some}
 use lib.Dec.{ltb, leb}
 use lib.ListN.{getD}
-use Rattle.limits.specs.Limits.{mostFacts, mostFormulas, mostMoves, mostMoveEffects, lastClass, mostProgram}
+use Rattle.limits.specs.Limits.{mostFacts, mostFormulas, mostMoves, mostMoveEffects, lastClass, mostObjects, mostProgram}
 use Rattle.job.specs.StateCount.{stateCount}
 use Rattle.job.specs.Fields.{formulaFields, rowFields, within}
 use Rattle.job.specs.declared.head.Counts.{Counts}
 use Rattle.job.specs.declared.fault.Range.{Range}
 use Rattle.job.specs.declared.line.Heading.{Heading}
-use Rattle.job.specs.declared.line.Heading.the-variants.{Job, Facts, Init, Formulas, Moves, Goal, Program}
+use Rattle.job.specs.declared.line.Heading.the-variants.{Job, Facts, Init, Formulas, Moves, Goal, Objects, Program}
 use Rattle.job.specs.declared.line.RowSort.{RowSort}
 use Rattle.job.specs.declared.line.RowSort.the-variants.{Formula, Move, Effect, Row}
 use Rattle.job.specs.declared.line.Line.{Line}
@@ -30,6 +30,7 @@ rangeOf Init c = range 0 (stateCount (c .facts)) 2
 rangeOf Formulas c = range 1 (mostFormulas + 1) 2
 rangeOf Moves c = range 0 (mostMoves + 1) 2
 rangeOf Goal c = range 0 (c .formulas) 3
+rangeOf Objects c = range 0 (mostObjects + 1) 2
 rangeOf Program c = range 1 (mostProgram + 1) 2
 
 abbrev pub isIn : Range → ℕ → Bool

@@ -1,21 +1,29 @@
 -- "A row refers only to earlier rows of its own sort; one row may be used several times. Unused
 -- fields are 0."
-use Prim.Native.Nat.{ℕ, _<_}
+use Prim.Native.Nat.{ℕ, _+_, _-_, _<_}
 use mathlib.Core.Bool.{Bool, true, false, _&&_}
 use mathlib.Core.List.{List, [], _∷_}
 use lib.Dec.{ltb}
 use Rattle.job.specs.declared.head.Counts.{Counts}
 use Rattle.job.specs.declared.fields.Field.{Field}
-use Rattle.job.specs.declared.fields.Field.the-variants.{Unused, Fact, Formula, Move, Row}
+use Rattle.job.specs.declared.fields.Field.the-variants.{Unused, Fact, Formula, FormulaBase, Move, MoveBase, Row, Variable}
 
--- what a field may refer to, beside so many facts and so many rows that stand before it: it is
--- below this number
+-- "The sum of a and O may not exceed the count of moves or formulas": such a number a, to which an
+-- object is added, is below this one
+abbrev bases : ℕ → ℕ → ℕ
+bases count objects = count + 1 - objects
+
+-- what a field may refer to, beside so many facts and objects and so many rows that stand before
+-- it: it is below this number. A variable may be any number of a line
 abbrev pub bound : Counts → Field → ℕ
 bound c Unused = 1
 bound c Fact = c .facts
 bound c Formula = c .formulas
+bound c FormulaBase = bases (c .formulas) (c .objects)
 bound c Move = c .moves
+bound c MoveBase = bases (c .moves) (c .objects)
 bound c Row = c .program
+bound c Variable = 65536
 
 -- a and b of a formula, by its kind
 abbrev pub formulaFields : List (List Field)
@@ -40,6 +48,9 @@ rowFields =
     ∷ (Row ∷ Row ∷ Unused ∷ [])  -- 6 a or b
     ∷ (Formula ∷ Row ∷ Unused ∷ [])  -- 7 while a do b
     ∷ (Row ∷ Unused ∷ Unused ∷ [])  -- 8 star of a
+    ∷ (Row ∷ Unused ∷ Unused ∷ [])  -- 9 pick with body a
+    ∷ (MoveBase ∷ Variable ∷ Unused ∷ [])  -- 10 move a plus an object
+    ∷ (FormulaBase ∷ Variable ∷ Unused ∷ [])  -- 11 test of a plus an object
     ∷ []
 
 -- each number is below its field's bound; a kind that the table lacks has no fields

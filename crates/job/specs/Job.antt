@@ -34,6 +34,7 @@ pub record Scalars : Type 0 where
   pub facts : ℕ
   pub init : ℕ
   pub goal : ℕ
+  pub objects : ℕ
 
 pub record Job : Type 0 where
   pub scalars : Scalars
@@ -42,12 +43,22 @@ pub record Job : Type 0 where
   pub effects : List Effect
   pub program : List Row
 
+abbrev pub scalars : ℕ → ℕ → ℕ → ℕ → Scalars
+scalars facts init goal objects = record { facts = facts; init = init; goal = goal; objects = objects }
+
 -- how many there are of each
-abbrev pub counts : ℕ → ℕ → ℕ → ℕ → ℕ → Counts
-counts facts formulas moves effects program = record { facts = facts; formulas = formulas; moves = moves; effects = effects; program = program }
+abbrev pub counts : ℕ → ℕ → ℕ → ℕ → ℕ → ℕ → Counts
+counts facts formulas moves effects objects program = record {
+  facts = facts;
+  formulas = formulas;
+  moves = moves;
+  effects = effects;
+  objects = objects;
+  program = program;
+}
 
 abbrev pub countsOf : Job → Counts
-countsOf j = counts (j .scalars .facts) (length (j .formulas)) (length (j .moves)) (length (j .effects)) (length (j .program))
+countsOf j = counts (j .scalars .facts) (length (j .formulas)) (length (j .moves)) (length (j .effects)) (j .scalars .objects) (length (j .program))
 
 -- rows from their numbers
 abbrev pub formulaOf : List ℕ → Formula

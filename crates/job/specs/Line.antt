@@ -9,7 +9,7 @@ use Rattle.text.specs.Numbers.{numbers}
 use Rattle.job.specs.declared.line.Line.{Line}
 use Rattle.job.specs.declared.line.Line.the-variants.{One, Of, End}
 use Rattle.job.specs.declared.line.Heading.{Heading}
-use Rattle.job.specs.declared.line.Heading.the-variants.{Job, Facts, Init, Formulas, Moves, Goal, Program}
+use Rattle.job.specs.declared.line.Heading.the-variants.{Job, Facts, Init, Formulas, Moves, Goal, Objects, Program}
 use Rattle.job.specs.declared.line.RowSort.the-variants.{Formula, Move, Effect, Row}
 
 -- the key of a line, and how many numbers its value has
@@ -27,6 +27,7 @@ keyOf Init = "init"
 keyOf Formulas = "formulas"
 keyOf Moves = "moves"
 keyOf Goal = "goal"
+keyOf Objects = "objects"
 keyOf Program = "program"
 
 abbrev pub formOf : Line → Form

@@ -7,11 +7,11 @@ use lib.Dec.{eqb}
 use lib.ListN.{length, getD}
 use Rattle.text.specs.Lines.{lines}
 use Rattle.job.specs.Job as J
-use Rattle.job.specs.Job.{addFormula, addMove, addEffect, addRow, withScalars, formulaOf, moveOf, effectOf, rowOf, countsOf}
+use Rattle.job.specs.Job.{addFormula, addMove, addEffect, addRow, scalars, withScalars, formulaOf, moveOf, effectOf, rowOf, countsOf}
 use Rattle.job.specs.Line.{lineNumbers}
 use Rattle.job.specs.Fault.{fault}
 use Rattle.job.specs.declared.line.Heading.{Heading}
-use Rattle.job.specs.declared.line.Heading.the-variants.{Job, Facts, Init, Formulas, Moves, Goal, Program}
+use Rattle.job.specs.declared.line.Heading.the-variants.{Job, Facts, Init, Formulas, Moves, Goal, Objects, Program}
 use Rattle.job.specs.declared.line.RowSort.{RowSort}
 use Rattle.job.specs.declared.line.RowSort.the-variants.{Formula, Move, Effect, Row}
 use Rattle.job.specs.declared.line.Line.{Line}
@@ -54,17 +54,19 @@ afterOne Facts n = One Init
 afterOne Init n = One Formulas
 afterOne Formulas n = afterRow Formula n 0
 afterOne Moves n = afterRow Move n 0
-afterOne Goal n = One Program
+afterOne Goal n = One Objects
+afterOne Objects n = One Program
 afterOne Program n = afterRow Row n 0
 
 -- the scalars after it
 abbrev pub scalarsAfter : Heading → ℕ → J.Scalars → J.Scalars
 scalarsAfter Job n s = s
-scalarsAfter Facts n s = record { facts = n; init = s .init; goal = s .goal }
-scalarsAfter Init n s = record { facts = s .facts; init = n; goal = s .goal }
+scalarsAfter Facts n s = scalars n (s .init) (s .goal) (s .objects)
+scalarsAfter Init n s = scalars (s .facts) n (s .goal) (s .objects)
 scalarsAfter Formulas n s = s
 scalarsAfter Moves n s = s
-scalarsAfter Goal n s = record { facts = s .facts; init = s .init; goal = n }
+scalarsAfter Goal n s = scalars (s .facts) (s .init) n (s .objects)
+scalarsAfter Objects n s = scalars (s .facts) (s .init) (s .goal) n
 scalarsAfter Program n s = s
 
 -- after a row: how many rows of its sort, and how many effects of the last move, are due, and the
@@ -126,7 +128,7 @@ readFrom n s (line ∷ rest) =
     cond (eqb reason 0) (readFrom (n + 1) (taken s (Option·getD numbers [])) rest) (refused reason (n + 1))
 
 abbrev pub begun : Reading
-begun = on (One Job) 0 0 (record { scalars = record { facts = 0; init = 0; goal = 0 }; formulas = []; moves = []; effects = []; program = [] })
+begun = on (One Job) 0 0 (record { scalars = scalars 0 0 0 0; formulas = []; moves = []; effects = []; program = [] })
 
 unfoldable pub readJob : List ℕ → Outcome
 readJob text = readFrom 0 begun (lines text)

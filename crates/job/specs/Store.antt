@@ -69,7 +69,7 @@ storedMove r = moveOf (getD r firstEffect 0) r
 
 abbrev pub jobOf : Head → List ℕ → Job
 jobOf h l = record {
-  scalars = record { facts = h .counts .facts; init = h .init; goal = h .goal };
+  scalars = J.scalars (h .counts .facts) (h .init) (h .goal) (h .counts .objects);
   formulas = rowsFrom formulaOf l formulasFrom (h .counts .formulas);
   moves = rowsFrom storedMove l movesFrom (h .counts .moves);
   effects = rowsFrom effectOf l effectsFrom (h .counts .effects);

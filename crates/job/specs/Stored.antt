@@ -3,7 +3,7 @@ use Prim.Native.Nat.{ℕ, _≤_}
 use mathlib.Core.Path.{_≡_}
 use mathlib.Core.List.{List}
 use lib.ListN.{length}
-use Rattle.limits.specs.Limits.{mostFacts, mostFormulas, mostMoves, mostEffects, mostProgram}
+use Rattle.limits.specs.Limits.{mostFacts, mostFormulas, mostMoves, mostEffects, mostObjects, mostProgram}
 use Rattle.job.specs.Task.{CostsWithin}
 use Rattle.job.specs.Store.{storeSize, jobOf, storedCosts}
 use Rattle.job.specs.WellFormed.{WellFormed}
@@ -21,4 +21,5 @@ pub record Limited (c : Counts) : Type 0 where
   pub formulas : c .formulas ≤ mostFormulas
   pub moves : c .moves ≤ mostMoves
   pub effects : c .effects ≤ mostEffects
+  pub objects : c .objects ≤ mostObjects
   pub program : c .program ≤ mostProgram

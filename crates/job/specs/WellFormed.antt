@@ -3,7 +3,7 @@ use Prim.Native.Nat.{ℕ, _+_, _≤_, _<_}
 use mathlib.Core.Path.{_≡_}
 use mathlib.Core.List.{List, [], _∷_}
 use lib.ListN.{length, getD}
-use Rattle.limits.specs.Limits.{mostFacts, mostFormulas, mostMoves, mostMoveEffects, mostEffects, lastClass, mostProgram}
+use Rattle.limits.specs.Limits.{mostFacts, mostFormulas, mostMoves, mostMoveEffects, mostEffects, lastClass, mostObjects, mostProgram}
 use Rattle.job.specs.StateCount.{stateCount}
 use Rattle.job.specs.Job.{Job, Formula, Move, Effect, Row, counts, formulaOf, moveOf, effectOf, rowOf}
 use Rattle.job.specs.Fields.{formulaFields, rowFields, Within}
@@ -15,7 +15,7 @@ Every d P l = (i : ℕ) → i < length l → P i (getD l i d)
 
 -- what a formula may refer to: facts, and the i formulas before it
 abbrev pub beforeFormula : ℕ → ℕ → Counts
-beforeFormula facts i = counts facts i 0 0 0
+beforeFormula facts i = counts facts i 0 0 0 0
 
 abbrev pub FormulaRows : ℕ → List Formula → Type 0
 FormulaRows facts = Every (formulaOf []) (λ i f. Within (beforeFormula facts i) (getD formulaFields (f .kind) []) (f .a ∷ f .b ∷ []))
@@ -44,9 +44,9 @@ pub record EffectFits (facts formulas : ℕ) (e : Effect) : Type 0 where
 abbrev pub EffectRows : ℕ → ℕ → List Effect → Type 0
 EffectRows facts formulas = Every (effectOf []) (λ i e. EffectFits facts formulas e)
 
--- what a program row may refer to: facts, formulas, moves, and the i rows before it
+-- what a program row may refer to: facts, formulas, moves, objects, and the i rows before it
 abbrev pub beforeRow : Job → ℕ → Counts
-beforeRow j i = counts (j .scalars .facts) (length (j .formulas)) (length (j .moves)) (length (j .effects)) i
+beforeRow j i = counts (j .scalars .facts) (length (j .formulas)) (length (j .moves)) (length (j .effects)) (j .scalars .objects) i
 
 abbrev pub ProgramRows : Job → List Row → Type 0
 ProgramRows j = Every (rowOf []) (λ i r. Within (beforeRow j i) (getD rowFields (r .kind) []) (r .a ∷ r .b ∷ r .c ∷ []))
@@ -63,6 +63,7 @@ pub record WellFormed (j : Job) : Type 0 where
   pub tiled : Tiled 0 (j .moves) (length (j .effects))
   pub effects : length (j .effects) ≤ mostEffects
   pub effect : EffectRows (j .scalars .facts) (length (j .formulas)) (j .effects)
+  pub objects : j .scalars .objects ≤ mostObjects
   pub program : length (j .program) ≤ mostProgram
   pub last : 0 < length (j .program)
   pub row : ProgramRows j (j .program)

@@ -18,6 +18,7 @@ use limits::FORMULAS;
 use limits::LAST_CLASS;
 use limits::MOVE_EFFECTS;
 use limits::MOVES;
+use limits::OBJECTS;
 use limits::PROGRAM;
 
 // 0 where a line is right, else the reason.
@@ -57,6 +58,7 @@ fn range_of(heading: Heading, counts: Counts) -> Range
         Heading::Formulas => Range::new(1, FORMULAS + 1, 2),
         Heading::Moves => Range::new(0, MOVES + 1, 2),
         Heading::Goal => Range::new(0, counts.formulas, 3),
+        Heading::Objects => Range::new(0, OBJECTS + 1, 2),
         Heading::Program => Range::new(1, PROGRAM + 1, 2),
     }
 }

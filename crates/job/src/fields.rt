@@ -1,19 +1,23 @@
 // What the fields of a row may refer to, by its kind.
 ghost use mathlib.Core.Path.{_≡_};
 ghost use mathlib.Core.List.{[], _∷_};
-ghost use Prim.Native.Nat.{_<_};
+ghost use Prim.Native.Nat.{_+_, _-_, _<_};
 ghost use lib.ListN.{getD};
 ghost use Rattle.job.specs.Fields.{formulaFields, rowFields, within};
 ghost use Rattle.job.specs.Fields.{bound as fieldBound};
 use crate::head::Counts;
 use crate::rows::WIDTH;
 
+// What a number refers to. A base is one to which the object of a variable is added.
 pub enum Field {
     Unused,
     Fact,
     Formula,
+    FormulaBase,
     Move,
+    MoveBase,
     Row,
+    Variable,
 }
 
 // a, b and c of a formula, by its kind; it has no c.
@@ -27,7 +31,7 @@ const FORMULA_FIELDS: [[Field; 3]; 6] = [
 ];
 
 // a, b and c of a program row, by its kind.
-const ROW_FIELDS: [[Field; 3]; 9] = [
+const ROW_FIELDS: [[Field; 3]; 12] = [
     [Field::Unused, Field::Unused, Field::Unused], // nil
     [Field::Move, Field::Unused, Field::Unused], // move a
     [Field::Unused, Field::Unused, Field::Unused], // any
@@ -37,18 +41,33 @@ const ROW_FIELDS: [[Field; 3]; 9] = [
     [Field::Row, Field::Row, Field::Unused], // a or b
     [Field::Formula, Field::Row, Field::Unused], // while a do b
     [Field::Row, Field::Unused, Field::Unused], // star of a
+    [Field::Row, Field::Unused, Field::Unused], // pick with body a
+    [Field::MoveBase, Field::Variable, Field::Unused], // move a plus an object
+    [Field::FormulaBase, Field::Variable, Field::Unused], // test of a plus an object
 ];
 
+// A base, with all objects above it, is at most the count: it is below this number.
+fn bases(count: u16, objects: u16) -> u32
+    ensures { λ r. ⌜ r ≡ count + 1 - objects ⌝ }
+{
+    let n = (count as u32) + 1;
+    let o = objects as u32;
+    if o < n { n - o } else { 0 }
+}
+
 // A field is below this number.
-fn bound(f: Field, counts: Counts) -> u16
+fn bound(f: Field, counts: Counts) -> u32
     ensures { λ r. ⌜ r ≡ fieldBound counts f ⌝ }
 {
     match f {
         Field::Unused => 1,
-        Field::Fact => counts.facts,
-        Field::Formula => counts.formulas,
-        Field::Move => counts.moves,
-        Field::Row => counts.program,
+        Field::Fact => counts.facts as u32,
+        Field::Formula => counts.formulas as u32,
+        Field::FormulaBase => bases(counts.formulas, counts.objects),
+        Field::Move => counts.moves as u32,
+        Field::MoveBase => bases(counts.moves, counts.objects),
+        Field::Row => counts.program as u32,
+        Field::Variable => 65536,
     }
 }
 
@@ -59,9 +78,9 @@ fn right(fields: [Field; 3], a: u16, b: u16, c: u16, counts: Counts) -> bool
     let fa = fields[0];
     let fb = fields[1];
     let fc = fields[2];
-    let right_a = a < bound(fa, counts);
-    let right_b = b < bound(fb, counts);
-    let right_c = c < bound(fc, counts);
+    let right_a = (a as u32) < bound(fa, counts);
+    let right_b = (b as u32) < bound(fb, counts);
+    let right_c = (c as u32) < bound(fc, counts);
     right_a & (right_b & right_c)
 }
 

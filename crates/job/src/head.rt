@@ -1,11 +1,12 @@
 // What is known of a text beside a job's rows.
 
-// How many facts and rows of each sort a job has.
+// How many facts, objects and rows of each sort a job has.
 pub struct Counts {
     pub facts: u16,
     pub formulas: u16,
     pub moves: u16,
     pub effects: u16,
+    pub objects: u16,
     pub program: u16,
 }
 

@@ -9,6 +9,7 @@ pub enum Heading {
     Formulas,
     Moves,
     Goal,
+    Objects,
     Program,
 }
 

@@ -27,6 +27,10 @@ mostMoveEffects = 16
 abbrev pub mostEffects : ℕ
 mostEffects = mostMoves * mostMoveEffects
 
+-- "`objects=O`, 0 to 16"
+abbrev pub mostObjects : ℕ
+mostObjects = 16
+
 -- "`program=P`, 1 to 128"
 abbrev pub mostProgram : ℕ
 mostProgram = 128

@@ -14,6 +14,8 @@ pub const EFFECTS: u16 = MOVES * MOVE_EFFECTS;
 
 pub const LAST_CLASS: u16 = 15;
 
+pub const OBJECTS: u16 = 16;
+
 pub const PROGRAM: u16 = 128;
 
 // Class costs: how many there are, and the greatest.

@@ -42,6 +42,7 @@ module _ {due effects : ℕ} {c : Counts} where
     formulas = omega (arith, h .fit .formulas);
     moves = omega (arith, h .fit .moves);
     effects = omega (arith, h .fit .effects);
+    objects = h .objects;
     program = omega (arith, h .fit .program);
   }
 

@@ -19,12 +19,12 @@ use Rattle.job.specs.ReadJob.{Reading, past, again, afterRow, begun, takenAt, t
 use Rattle.job.specs.WellFormed.{FormulaRows, MoveRows, MoveFits, Tiled, EffectRows, EffectFits, ProgramRows, WellFormed, beforeFormula, beforeRow}
 use Rattle.job.specs.declared.head.Counts.{Counts}
 use Rattle.job.specs.declared.line.Heading.{Heading}
-use Rattle.job.specs.declared.line.Heading.the-variants.{Job, Facts, Init, Formulas, Moves, Goal, Program}
+use Rattle.job.specs.declared.line.Heading.the-variants.{Job, Facts, Init, Formulas, Moves, Goal, Objects, Program}
 use Rattle.job.specs.declared.line.RowSort.{RowSort}
 use Rattle.job.specs.declared.line.RowSort.the-variants.{Formula, Move, Effect, Row}
 use Rattle.job.specs.declared.line.Line.{Line}
 use Rattle.job.specs.declared.line.Line.the-variants.{One, Of, End}
-use Rattle.job.proofs.RowLaws.{within-true}
+use Rattle.job.proofs.RowLaws.{within-true, formula-own}
 use Rattle.reader.specs.Room.{Room}
 use Rattle.reader.proofs.RoomLaws.{Right, RoomOf, rows-has, taken-room}
 
@@ -45,6 +45,7 @@ Settled (One Moves) j = InitRight j
 Settled (Of Move) j = InitRight j
 Settled (Of Effect) j = InitRight j
 Settled (One Goal) j = InitRight j
+Settled (One Objects) j = InitRight j × GoalRight j
 Settled (One Program) j = InitRight j × GoalRight j
 Settled (Of Row) j = InitRight j × GoalRight j
 Settled End j = InitRight j × GoalRight j × (0 < length (j .program))
@@ -69,18 +70,20 @@ module _ (s : Reading) (r : List ℕ) where
   abbrev c : Counts
   c = countsOf j
 
-  -- a line of one number changes no row, and the number of facts only before the first
-  same-facts : (sc : J.Scalars) → sc .facts ≡ j .scalars .facts → Fits (s .effects) j → Fits (s .effects) (J.withScalars j sc)
-  same-facts sc e f = record {
+  -- a line of one number changes no row, the number of facts only before the first row, and that of
+  -- objects before the first of the program
+  same-facts : (sc : J.Scalars) → sc .facts ≡ j .scalars .facts → ProgramRows (J.withScalars j sc) (j .program) → Fits (s .effects) j
+      → Fits (s .effects) (J.withScalars j sc)
+  same-facts sc e rows f = record {
     formula = rw e (f .formula);
     move = f .move;
     tiled = f .tiled;
     effect = rw e (f .effect);
-    row = rw e (f .row);
+    row = rows;
   }
 
   one-fits : (k : Heading) → Room (One k) (s .due) (s .effects) c → Fits (s .effects) j → Fits (s .effects) (takenAt (One k) s r .job)
-  one-fits Job h f = same-facts _ refl f
+  one-fits Job h f = same-facts _ refl (f .row) f
   one-fits Facts h f =
       let a : length (j .formulas) ≡ 0 = omega (arith, h .fit .formulas) in
       let b : length (j .effects) ≡ 0 = omega (arith, h .fit .effects) in
@@ -92,23 +95,23 @@ module _ (s : Reading) (r : List ℕ) where
         effect = λ i g. absurd (omega arith);
         row = λ i g. absurd (omega arith);
       }
-  one-fits Init h f = same-facts _ refl f
-  one-fits Formulas h f = same-facts _ refl f
-  one-fits Moves h f = same-facts _ refl f
-  one-fits Goal h f = same-facts _ refl f
-  one-fits Program h f = same-facts _ refl f
+  one-fits Init h f = same-facts _ refl (f .row) f
+  one-fits Formulas h f = same-facts _ refl (f .row) f
+  one-fits Moves h f = same-facts _ refl (f .row) f
+  one-fits Goal h f = same-facts _ refl (f .row) f
+  one-fits Objects h f = let d : length (j .program) ≡ 0 = omega (arith, h .fit .program) in same-facts _ refl (λ i g. absurd (omega arith)) f
+  one-fits Program h f = same-facts _ refl (f .row) f
 
   row-fits : (k : RowSort) → Right (Of k) c r → Room (Of k) (s .due) (s .effects) c → Fits (s .effects) j
       → Fits (takenAt (Of k) s r .effects) (takenAt (Of k) s r .job)
   row-fits Formula x h f =
-      let a : 0 ≡ length (j .moves) = omega (arith, h .fit .moves) in
-      let b : 0 ≡ length (j .effects) = omega (arith, h .fit .effects) in
-      let d : 0 ≡ length (j .program) = omega (arith, h .fit .program) in
-      let e : beforeFormula (j .scalars .facts) (length (j .formulas)) ≡ c = cc in
+      let a : length (j .moves) ≡ 0 = omega (arith, h .fit .moves) in
+      let b : length (j .effects) ≡ 0 = omega (arith, h .fit .effects) in
+      let d : length (j .program) ≡ 0 = omega (arith, h .fit .program) in
       record {
         formula = every-more (formulaOf []) (λ i f. Within (beforeFormula (j .scalars .facts) i) (getD formulaFields (f .kind) []) (f .a ∷ f .b ∷ []))
             (j .formulas) (formulaOf r)
-            (f .formula) (rw e (within-true c (getD formulaFields (getD r 0 0) []) (getD r 1 0 ∷ getD r 2 0 ∷ []) (x .1)));
+            (f .formula) (formula-own c (getD r 1 0) (getD r 2 0) (getD r 0 0) (within-true c (getD formulaFields (getD r 0 0) []) _ (x .1)));
         move = λ i g. absurd (omega arith);
         tiled = f .tiled;
         effect = λ i g. absurd (omega arith);
@@ -177,6 +180,7 @@ module _ (s : Reading) (r : List ℕ) where
   settled-at (Of Move) x f = settled-rows Move (s .due - 1) (getD r 2 0) (takenAt (Of Move) s r .job) (λ z. f) f f
   settled-at (Of Effect) x f = settled-rows Effect (s .due) (s .effects - 1) (takenAt (Of Effect) s r .job) (λ z. f) f f
   settled-at (One Goal) x f = (f, x .1)
+  settled-at (One Objects) x f = f
   settled-at (One Program) x f = settled-rows Row (getD r 0 0) 0 (takenAt (One Program) s r .job) (λ z. absurd (omega (arith, x .0))) f (f .0)
   settled-at (Of Row) x f =
       let l = length-append (j .program) (rowOf r ∷ []) in
@@ -201,6 +205,7 @@ pub begun-kept : Kept begun
 begun-kept = record {
   room = record {
     facts = omega arith;
+    objects = omega arith;
     fit = record { formulas = omega arith; moves = omega arith; effects = omega arith; program = omega arith };
     owed = refl;
   };
@@ -231,6 +236,7 @@ end-well-formed s k e =
       tiled = subst (Tiled 0 (s .job .moves)) d (k .fit .tiled);
       effects = omega (arith, h .fit .effects);
       effect = k .fit .effect;
+      objects = h .objects;
       program = omega (arith, h .fit .program);
       last = t .2;
       row = k .fit .row;

@@ -10,13 +10,13 @@ use lib.Dec.{eqb, leb, ltb}
 use lib.ListN.{length, getD, length-append}
 use borrow.Author.Tests.{eqb-true, eqb-false, leb-true, ltb-true}
 use Rattle.laws.proofs.Tests.{and-left, and-right, cond-has}
-use Rattle.limits.specs.Limits.{mostFacts, mostFormulas, mostMoves, mostMoveEffects, mostEffects, mostProgram}
+use Rattle.limits.specs.Limits.{mostFacts, mostFormulas, mostMoves, mostMoveEffects, mostEffects, mostObjects, mostProgram}
 use Rattle.job.specs.Job.{countsOf, formulaOf, moveOf, effectOf, rowOf}
 use Rattle.job.specs.Fault.{rangeOf, isIn, criteria, reasonOf, fault}
 use Rattle.job.specs.ReadJob.{Reading, past, again, afterRow, jobAfter, takenAt, taken}
 use Rattle.job.specs.declared.head.Counts.{Counts}
 use Rattle.job.specs.declared.line.Heading.{Heading}
-use Rattle.job.specs.declared.line.Heading.the-variants.{Job, Facts, Init, Formulas, Moves, Goal, Program}
+use Rattle.job.specs.declared.line.Heading.the-variants.{Job, Facts, Init, Formulas, Moves, Goal, Objects, Program}
 use Rattle.job.specs.declared.line.RowSort.{RowSort}
 use Rattle.job.specs.declared.line.RowSort.the-variants.{Formula, Move, Effect, Row}
 use Rattle.job.specs.declared.line.Line.{Line}
@@ -87,13 +87,13 @@ module _ (due effects : ℕ) (c : Counts) where
   again-due Effect h = h
   again-due Row h = h
 
-  rows-room : (k : RowSort) → c .facts ≤ mostFacts → RoomFor (ahead (Of (again k)) due effects) c
+  rows-room : (k : RowSort) → c .facts ≤ mostFacts → c .objects ≤ mostObjects → RoomFor (ahead (Of (again k)) due effects) c
       → ((effects ≡ 0 → ⊥) → RoomFor (ahead (Of Effect) due effects) c)
       → Room (afterRow k due effects) due effects c
-  rows-room k h f g = rows-has (λ l. Room l due effects c) k due effects
-      (λ y z. record { facts = h; fit = past-fit k f; owed = past-due k y })
-      (λ y z. record { facts = h; fit = f; owed = again-due k (omega (arith, z), y) })
-      (λ z. record { facts = h; fit = g z; owed = omega (arith, z) })
+  rows-room k h o f g = rows-has (λ l. Room l due effects c) k due effects
+      (λ y z. record { facts = h; objects = o; fit = past-fit k f; owed = past-due k y })
+      (λ y z. record { facts = h; objects = o; fit = f; owed = again-due k (omega (arith, z), y) })
+      (λ z. record { facts = h; objects = o; fit = g z; owed = omega (arith, z) })
 
 module _ (s : Reading) (r : List ℕ) where
   abbrev c : Counts
@@ -103,29 +103,36 @@ module _ (s : Reading) (r : List ℕ) where
   n = getD r 0 0
 
   one-room : (h : Heading) → Right (One h) c r → Room (One h) (s .due) (s .effects) c → RoomOf (takenAt (One h) s r)
-  one-room Job x h = record { facts = h .facts; fit = h .fit; owed = h .owed }
+  one-room Job x h = record { facts = h .facts; objects = h .objects; fit = h .fit; owed = h .owed }
   one-room Facts x h = record {
     facts = omega (arith, x .1);
+    objects = h .objects;
     fit = room-for (h .fit .formulas) (h .fit .moves) (h .fit .effects) (h .fit .program);
     owed = h .owed;
   }
-  one-room Init x h = record { facts = h .facts; fit = h .fit; owed = h .owed }
+  one-room Init x h = record { facts = h .facts; objects = h .objects; fit = h .fit; owed = h .owed }
   one-room Formulas x h =
       let f : RoomFor (ahead (Of Formula) n 0) c = room-for (omega (arith, h .fit .formulas, x .1)) (h .fit .moves) (h .fit .effects) (h .fit .program) in
-      rw (h .owed) (rows-room n 0 c Formula (h .facts) f (λ z. absurd (z refl)))
+      rw (h .owed) (rows-room n 0 c Formula (h .facts) (h .objects) f (λ z. absurd (z refl)))
   one-room Moves x h =
       let f : RoomFor (ahead (Of Move) n 0) c = room-for (h .fit .formulas) (omega (arith, h .fit .moves, x .1)) (omega (arith, h .fit .effects, x .1))
       (h .fit .program) in
-      rw (h .owed) (rows-room n 0 c Move (h .facts) f (λ z. absurd (z refl)))
-  one-room Goal x h = record { facts = h .facts; fit = h .fit; owed = h .owed }
+      rw (h .owed) (rows-room n 0 c Move (h .facts) (h .objects) f (λ z. absurd (z refl)))
+  one-room Goal x h = record { facts = h .facts; objects = h .objects; fit = h .fit; owed = h .owed }
+  one-room Objects x h = record {
+    facts = h .facts;
+    objects = omega (arith, x .1);
+    fit = room-for (h .fit .formulas) (h .fit .moves) (h .fit .effects) (h .fit .program);
+    owed = h .owed;
+  }
   one-room Program x h =
       let f : RoomFor (ahead (Of Row) n 0) c = room-for (h .fit .formulas) (h .fit .moves) (h .fit .effects) (omega (arith, h .fit .program, x .1)) in
-      rw (h .owed) (rows-room n 0 c Row (h .facts) f (λ z. absurd (z refl)))
+      rw (h .owed) (rows-room n 0 c Row (h .facts) (h .objects) f (λ z. absurd (z refl)))
 
   row-room : (k : RowSort) → Right (Of k) c r → Room (Of k) (s .due) (s .effects) c → RoomOf (takenAt (Of k) s r)
   row-room Formula x h =
       let l = length-append (s .job .formulas) (formulaOf r ∷ []) in
-      rows-room (s .due - 1) (s .effects) (countsOf (jobAfter Formula (s .job) r)) Formula (h .facts)
+      rows-room (s .due - 1) (s .effects) (countsOf (jobAfter Formula (s .job) r)) Formula (h .facts) (h .objects)
       (room-for (omega (arith, h .fit .formulas, h .owed .0, l)) (h .fit .moves) (h .fit .effects) (h .fit .program))
       (λ z. absurd (z (h .owed .1)))
   row-room Move x h =
@@ -133,15 +140,15 @@ module _ (s : Reading) (r : List ℕ) where
       let n = leb-true (getD r 2 0) mostMoveEffects (x .0) in
       let f : RoomFor (ahead (Of Move) (s .due - 1) (getD r 2 0)) (countsOf (jobAfter Move (s .job) r)) = room-for (h .fit .formulas)
       (omega (arith, h .fit .moves, h .owed .0, l)) (omega (arith, h .fit .effects, h .owed .0, n)) (h .fit .program) in
-      rows-room (s .due - 1) (getD r 2 0) (countsOf (jobAfter Move (s .job) r)) Move (h .facts) f (λ z. f)
+      rows-room (s .due - 1) (getD r 2 0) (countsOf (jobAfter Move (s .job) r)) Move (h .facts) (h .objects) f (λ z. f)
   row-room Effect x h =
       let l = length-append (s .job .effects) (effectOf r ∷ []) in
       let f : RoomFor (ahead (Of Effect) (s .due) (s .effects - 1)) (countsOf (jobAfter Effect (s .job) r)) = room-for (h .fit .formulas) (h .fit .moves)
       (omega (arith, h .fit .effects, h .owed, l)) (h .fit .program) in
-      rows-room (s .due) (s .effects - 1) (countsOf (jobAfter Effect (s .job) r)) Effect (h .facts) f (λ z. f)
+      rows-room (s .due) (s .effects - 1) (countsOf (jobAfter Effect (s .job) r)) Effect (h .facts) (h .objects) f (λ z. f)
   row-room Row x h =
       let l = length-append (s .job .program) (rowOf r ∷ []) in
-      rows-room (s .due - 1) (s .effects) (countsOf (jobAfter Row (s .job) r)) Row (h .facts)
+      rows-room (s .due - 1) (s .effects) (countsOf (jobAfter Row (s .job) r)) Row (h .facts) (h .objects)
       (room-for (h .fit .formulas) (h .fit .moves) (h .fit .effects) (omega (arith, h .fit .program, h .owed .0, l)))
       (λ z. absurd (z (h .owed .1)))
 

@@ -1,7 +1,7 @@
 -- What the reader's states and answers stand for.
 use Prim.Native.Nat.{ℕ, _+_}
 use mathlib.Core.List.{List}
-use Rattle.job.specs.Job.{Scalars, counts}
+use Rattle.job.specs.Job.{Scalars, scalars, counts}
 use Rattle.job.specs.ReadJob.{Reading, on, scalarsAfter, Outcome, read, refused}
 use Rattle.job.specs.Store.{movesFrom, effectsFrom, programFrom, jobOf}
 use Rattle.job.specs.declared.head.Counts.{Counts}
@@ -17,13 +17,13 @@ use Rattle.reader.specs.declared.reading.Answer.the-variants.{Read, Refu
 -- the head after a line of one number
 abbrev withScalars : Head → Scalars → Head
 withScalars h s = record {
-  counts = counts (s .facts) (h .counts .formulas) (h .counts .moves) (h .counts .effects) (h .counts .program);
+  counts = counts (s .facts) (h .counts .formulas) (h .counts .moves) (h .counts .effects) (s .objects) (h .counts .program);
   init = s .init;
   goal = s .goal;
 }
 
 abbrev pub headAfter : Heading → ℕ → Head → Head
-headAfter k n h = withScalars h (scalarsAfter k n (record { facts = h .counts .facts; init = h .init; goal = h .goal }))
+headAfter k n h = withScalars h (scalarsAfter k n (scalars (h .counts .facts) (h .init) (h .goal) (h .counts .objects)))
 
 -- where a row is stored, behind the earlier rows of its sort, and the counts with it
 abbrev pub placeOf : RowSort → Counts → ℕ
@@ -33,10 +33,10 @@ placeOf Effect c = effectsFrom + c .effects
 placeOf Row c = programFrom + c .program
 
 abbrev pub oneMore : RowSort → Counts → Counts
-oneMore Formula c = counts (c .facts) (c .formulas + 1) (c .moves) (c .effects) (c .program)
-oneMore Move c = counts (c .facts) (c .formulas) (c .moves + 1) (c .effects) (c .program)
-oneMore Effect c = counts (c .facts) (c .formulas) (c .moves) (c .effects + 1) (c .program)
-oneMore Row c = counts (c .facts) (c .formulas) (c .moves) (c .effects) (c .program + 1)
+oneMore Formula c = counts (c .facts) (c .formulas + 1) (c .moves) (c .effects) (c .objects) (c .program)
+oneMore Move c = counts (c .facts) (c .formulas) (c .moves + 1) (c .effects) (c .objects) (c .program)
+oneMore Effect c = counts (c .facts) (c .formulas) (c .moves) (c .effects + 1) (c .objects) (c .program)
+oneMore Row c = counts (c .facts) (c .formulas) (c .moves) (c .effects) (c .objects) (c .program + 1)
 
 abbrev pub readingOf : ReaderState → List ℕ → Reading
 readingOf s l = on (s .next) (s .due) (s .effects) (jobOf (s .head) l)

@@ -1,12 +1,12 @@
 -- What holds while a job is read: there is room for the rows that may still come.
 use Prim.Native.Nat.{ℕ, _+_, _*_, _≤_, _<_}
 use mathlib.Core.Path.{_≡_}
-use Rattle.limits.specs.Limits.{mostFacts, mostFormulas, mostMoves, mostMoveEffects, mostEffects, mostProgram}
+use Rattle.limits.specs.Limits.{mostFacts, mostFormulas, mostMoves, mostMoveEffects, mostEffects, mostObjects, mostProgram}
 use Rattle.job.specs.declared.head.Counts.{Counts}
 use Rattle.job.specs.declared.line.Line.{Line}
 use Rattle.job.specs.declared.line.Line.the-variants.{One, Of, End}
 use Rattle.job.specs.declared.line.Heading.{Heading}
-use Rattle.job.specs.declared.line.Heading.the-variants.{Job, Facts, Init, Formulas, Moves, Goal, Program}
+use Rattle.job.specs.declared.line.Heading.the-variants.{Job, Facts, Init, Formulas, Moves, Goal, Objects, Program}
 use Rattle.job.specs.declared.line.RowSort.the-variants.{Formula, Move, Effect, Row}
 
 -- how many rows of each sort may still come
@@ -27,6 +27,7 @@ aheadOne Init = may mostFormulas mostMoves mostEffects mostProgram
 aheadOne Formulas = may mostFormulas mostMoves mostEffects mostProgram
 aheadOne Moves = may 0 mostMoves mostEffects mostProgram
 aheadOne Goal = may 0 0 0 mostProgram
+aheadOne Objects = may 0 0 0 mostProgram
 aheadOne Program = may 0 0 0 mostProgram
 
 -- by the line that comes next, with so many rows of its sort due and so many effects of the last
@@ -56,5 +57,6 @@ Due End due effects = effects ≡ 0
 
 pub record Room (next : Line) (due effects : ℕ) (c : Counts) : Type 0 where
   pub facts : c .facts ≤ mostFacts
+  pub objects : c .objects ≤ mostObjects
   pub fit : RoomFor (ahead next due effects) c
   pub owed : Due next due effects

@@ -41,6 +41,7 @@ fn heading_value(heading: Heading, line: &[u8]) -> &[u8]
         Heading::Formulas => text::lines::value(line, b"formulas"),
         Heading::Moves => text::lines::value(line, b"moves"),
         Heading::Goal => text::lines::value(line, b"goal"),
+        Heading::Objects => text::lines::value(line, b"objects"),
         Heading::Program => text::lines::value(line, b"program"),
     }
 }

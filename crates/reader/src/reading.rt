@@ -51,6 +51,7 @@ fn start() -> ReaderState
         formulas: 0,
         moves: 0,
         effects: 0,
+        objects: 0,
         program: 0,
     };
     let h = Head {

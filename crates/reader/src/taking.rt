@@ -72,7 +72,8 @@ fn after_one(heading: Heading, n: u16) -> Line
         Heading::Init => Line::One(Heading::Formulas),
         Heading::Formulas => after_row(RowSort::Formula, n, 0),
         Heading::Moves => after_row(RowSort::Move, n, 0),
-        Heading::Goal => Line::One(Heading::Program),
+        Heading::Goal => Line::One(Heading::Objects),
+        Heading::Objects => Line::One(Heading::Program),
         Heading::Program => after_row(RowSort::Row, n, 0),
     }
 }
@@ -99,6 +100,7 @@ fn head_after(heading: Heading, n: u16, head: Head) -> Head
         Heading::Formulas => {}
         Heading::Moves => {}
         Heading::Goal => h.goal = n,
+        Heading::Objects => h.counts.objects = n,
         Heading::Program => {}
     }
     h

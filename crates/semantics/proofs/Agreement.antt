@@ -9,7 +9,7 @@ use Rattle.semantics.specs.Program.{Program, nil}
 use Rattle.semantics.specs.Domain.{Domain}
 use Rattle.semantics.specs.Transition as T
 use Rattle.semantics.specs.Transition.{Transition, Run}
-use Rattle.semantics.specs.CompilingTable.{Step, end, steps}
+use Rattle.semantics.specs.CompilingTable.{Step, compiledSteps, finalPosition}
 use Rattle.semantics.specs.Path.{Path}
 use Rattle.semantics.specs.Agreement.{Agrees}
 use Rattle.semantics.proofs.Chains.{Chain, halt, go, settle, simulate}
@@ -39,21 +39,21 @@ module _ {D : Domain} where
 
 module _ (D : Domain) (s : ℕ) (σ : Program) (ms : List ℕ) (u : ℕ) where
   -- some residual program is reached where some position is
-  pub partial-runs : ((ρ : Program) × Run D s σ ms u ρ) ↔ ((p : ℕ) × (is : List ℕ) × Path D (steps (D .moves) σ 0) s 0 is ms u p)
+  pub partial-runs : ((ρ : Program) × Run D s σ ms u ρ) ↔ ((p : ℕ) × (is : List ℕ) × Path D (compiledSteps D σ) s 0 is ms u p)
   partial-runs = (
     λ r. let v = forward (compiled D σ 0) (r .1) in let k = chain-path (v .1) in (v .0, k .0, k .1),
     λ k. let v = backward (compiled D σ 0) (k .2) in (v .0, chain-run (v .1)),
   )
 
   -- nil is reached where the final position is
-  pub complete-runs : Run D s σ ms u nil ↔ ((is : List ℕ) × Path D (steps (D .moves) σ 0) s 0 is ms u (end σ 0))
+  pub complete-runs : Run D s σ ms u nil ↔ ((is : List ℕ) × Path D (compiledSteps D σ) s 0 is ms u (finalPosition D σ))
   complete-runs = (
     λ r. let v = forward (compiled D σ 0) r in chain-path (settle (v .1) (compiled D σ 0 .nil-end u (v .2) is-nil)),
     λ k. let v = backward (compiled D σ 0) (k .1) in chain-run (settle (v .1) (compiled D σ 0 .end-nil u (v .2) refl)),
   )
 
 module _ (D : Domain) (σ : Program) where
-  pub agreement : Agrees D σ (steps (D .moves) σ 0) (end σ 0)
+  pub agreement : Agrees D σ (compiledSteps D σ) (finalPosition D σ)
   agreement = record {
     dropped = λ is ms c. path-moves (c .path);
     sound = λ is ms c.

@@ -9,7 +9,7 @@ use native.Mathlib.Omega.{arith}
 use Rattle.semantics.specs.Label.{Label}
 use Rattle.semantics.specs.Program.{Program}
 use Rattle.semantics.specs.Domain.{Domain}
-use Rattle.semantics.specs.CompilingTable.{Step, end, steps}
+use Rattle.semantics.specs.CompilingTable.{Step, compiledSteps, finalPosition}
 use Rattle.semantics.specs.Path.{StepAt, Path}
 use Rattle.semantics.specs.Verdict.{Judged, byRuns}
 use Rattle.semantics.specs.PositionSets.{Configurations, firstSet, verdictBy}
@@ -23,9 +23,9 @@ use Rattle.semantics.proofs.SetVerdict.{bySet, set-judged}
 
 module _ (D : Domain) (σ : Program) where
   abbrev L : List Step
-  L = steps (D .moves) σ 0
+  L = compiledSteps D σ
 
-  module _ (n : ℕ) (above : end σ 0 < n) where
+  module _ (n : ℕ) (above : finalPosition D σ < n) where
     abbrev S : List Bool
     S = firstSet D L n (D .start)
 
@@ -44,5 +44,5 @@ module _ (D : Domain) (σ : Program) where
     pub verdict-by-judged : (ms : List ℕ) → Judged D (byRuns D σ) ms (verdictBy n D σ ms)
     unfolding verdictBy bySet byPaths
     verdict-by-judged ms =
-        let j = set-judged D L (end σ 0) ms first (first-ready D L n (D .start) (omega arith) inside) in
-        verdicts-agree D σ ms _ .1 (same-verdict D (bySet D L (end σ 0) first) (byPaths D σ) ms (λ ks u. set-partial-path) (λ ks u. set-path) refl j)
+        let j = set-judged D L (finalPosition D σ) ms first (first-ready D L n (D .start) (omega arith) inside) in
+        verdicts-agree D σ ms _ .1 (same-verdict D (bySet D L (finalPosition D σ) first) (byPaths D σ) ms (λ ks u. set-partial-path) (λ ks u. set-path) refl j)

@@ -1,18 +1,20 @@
--- The rows of nil, a move, any move and a test.
+-- The rows of nil, a move, any move and a test, and of a row that has a variable.
 -- Assumes nothing.
 use Prim.Native.Nat.{ℕ, zero, suc, _+_, _≤_, _<_}
 use mathlib.Core.Path.{_≡_, refl}
+use mathlib.Core.Option.{Option, none, some}
 use mathlib.Core.List.{List, [], _∷_}
 use native.Mathlib.Omega.{arith}
 use Rattle.semantics.specs.Label.{Label, noop, holds, make}
 use Rattle.semantics.specs.Program.{Program, nil, move, any, test}
 use Rattle.semantics.specs.Domain.{Domain}
 use Rattle.semantics.specs.Transition.{Transition, moves, any-moves, tests}
-use Rattle.semantics.specs.CompilingTable.{arc, moveSteps}
+use Rattle.semantics.specs.CompilingTable.{arc, moveSteps, objectSteps}
 use Rattle.semantics.specs.Path.{Does, idles, passes, moves-on, StepAt, here, there}
 use Rattle.semantics.proofs.Chains.{Chain, halt, one}
 use Rattle.semantics.proofs.Taken.{taken}
-use Rattle.semantics.proofs.Part.{Part}
+use Rattle.semantics.proofs.Part.{IsNil, Part}
+use Rattle.semantics.proofs.Objects.{filled}
 use Rattle.semantics.proofs.Leaf.{LeafStep, leaf-step, LeafNext, leaf-next, leaf-part}
 
 -- the step of a move among those of all moves
@@ -63,3 +65,11 @@ module _ {D : Domain} where
 
   pub any-part : {n : ℕ} → Part D any n (suc n) (moveSteps (D .moves) 0 n)
   any-part {n} = leaf-part (any-step (D .moves) 0 n (omega arith)) any-next (λ s i. elim i [ ])
+
+  -- where its variable has no object, a row has neither steps nor transitions
+  pub object-part : {f : ℕ → Program} {unfilled : Program} {x : ℕ → Label} {n : ℕ} → ((o : ℕ) → Part D (f o) n (suc n) (arc (x o) n (suc n) ∷ []))
+      → ((s t : ℕ) (ks : List ℕ) (ρ : Program) → Transition D s unfilled ks t ρ → ⊥) → (IsNil unfilled → ⊥)
+      → (r : Option ℕ) → Part D (filled f unfilled r) n (suc n) (objectSteps x r n)
+  unfolding filled objectSteps
+  object-part part no-next some-left none = leaf-part (λ i p q l h. elim h [ ]) (λ s t ks ρ r. absurd (no-next s t ks ρ r)) (λ s i. absurd (some-left i))
+  object-part part no-next some-left (some o) = part o

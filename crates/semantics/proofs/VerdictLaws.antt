@@ -9,7 +9,7 @@ use mathlib.Core.Logic.{_↔_, Iff·symm}
 use Rattle.semantics.specs.Program.{Program, nil}
 use Rattle.semantics.specs.Domain.{Domain}
 use Rattle.semantics.specs.Transition.{Run}
-use Rattle.semantics.specs.CompilingTable.{Step, end, steps}
+use Rattle.semantics.specs.CompilingTable.{Step, compiledSteps, finalPosition}
 use Rattle.semantics.specs.Path.{Path, movesIn}
 use Rattle.semantics.specs.Plan.{cost}
 use Rattle.semantics.specs.Verdict.{Verdict, plan, Entries, Judged, is-plan, byRuns, bySteps}
@@ -20,8 +20,8 @@ use Rattle.semantics.proofs.OneVerdict.{Lawful, one-verdict, same-verdi
 -- move lists against the compiled job: silent steps may come anywhere
 unfoldable pub byPaths : Domain → Program → Entries
 byPaths D σ = record {
-  Made = λ ms u. (p : ℕ) × (is : List ℕ) × Path D (steps (D .moves) σ 0) (D .start) 0 is ms u p;
-  Completed = λ ms u. (is : List ℕ) × Path D (steps (D .moves) σ 0) (D .start) 0 is ms u (end σ 0);
+  Made = λ ms u. (p : ℕ) × (is : List ℕ) × Path D (compiledSteps D σ) (D .start) 0 is ms u p;
+  Completed = λ ms u. (is : List ℕ) × Path D (compiledSteps D σ) (D .start) 0 is ms u (finalPosition D σ);
   costOf = λ ms. cost D (D .start) ms;
 }
 
@@ -42,7 +42,7 @@ module _ (D : Domain) (σ : Program) where
   unfolding byPaths
   paths-lawful = record {
     same = λ ms u t x y. (cc (path-leads (x .1), path-leads (y .1)));
-    made = λ ms u x. (end σ 0, x .0, x .1);
+    made = λ ms u x. (finalPosition D σ, x .0, x .1);
     fronts = λ i ms u m. let v = front-of-moves i (m .2) in (v .0, (v .1, v .2, v .3));
   }
 
@@ -63,18 +63,18 @@ module _ (D : Domain) (σ : Program) where
   plan-leads {ms} (is-plan {u} x g) = (u, path-leads (complete-runs D (D .start) σ ms u .0 x .1))
 
   abbrev L : List Step
-  L = steps (D .moves) σ 0
+  L = compiledSteps D σ
 
-  pub step-plan-is-move-plan : (is : List ℕ) (c : ℕ) → Judged D (bySteps D (steps (D .moves) σ 0) (end σ 0)) is (plan c)
-      → Judged D (byRuns D σ) (movesIn (steps (D .moves) σ 0) is) (plan c)
+  pub step-plan-is-move-plan : (is : List ℕ) (c : ℕ) → Judged D (bySteps D (compiledSteps D σ) (finalPosition D σ)) is (plan c)
+      → Judged D (byRuns D σ) (movesIn (compiledSteps D σ) is) (plan c)
   unfolding byRuns bySteps
   step-plan-is-move-plan is c (is-plan {u} x g) =
       is-plan {u = u} (subst (λ (ms : List ℕ). Run D (D .start) σ ms u nil) (path-moves (x .1)) (complete-runs D (D .start) σ (x .0) u .1 (is, x .1))) g
 
   pub move-plan-has-step-plan : (ms : List ℕ) (c : ℕ) → Judged D (byRuns D σ) ms (plan c)
-      → (is : List ℕ) × (movesIn (steps (D .moves) σ 0) is ≡ ms) × Judged D (bySteps D (steps (D .moves) σ 0) (end σ 0)) is (plan c)
+      → (is : List ℕ) × (movesIn (compiledSteps D σ) is ≡ ms) × Judged D (bySteps D (compiledSteps D σ) (finalPosition D σ)) is (plan c)
   unfolding byRuns bySteps
   move-plan-has-step-plan ms c (is-plan {u} x g) =
       let k = complete-runs D (D .start) σ ms u .0 x in
       let e : movesIn L (k .0) ≡ ms = sym (path-moves (k .1)) in
-      (k .0, e, subst (λ (ks : List ℕ). Judged D (bySteps D L (end σ 0)) (k .0) (plan (cost D (D .start) ks))) e (is-plan {u = u} (ms, k .1) g))
+      (k .0, e, subst (λ (ks : List ℕ). Judged D (bySteps D L (finalPosition D σ)) (k .0) (plan (cost D (D .start) ks))) e (is-plan {u = u} (ms, k .1) g))

@@ -1,28 +1,40 @@
 -- "Compiling table": the steps of a program that is compiled from position n, and the position e
 -- where it ends.
-use Prim.Native.Nat.{ℕ, zero, suc}
+use Prim.Native.Nat.{ℕ, zero, suc, _+_}
 use mathlib.Core.Bool.{cond}
+use mathlib.Core.Option.{Option, none, some}
 use mathlib.Core.List.{List, [], _∷_, _++_}
 use lib.Dec.{eqb}
-use lib.ListN.{getD, drop}
+use lib.ListN.{getElem?, getD, drop}
 use Rattle.semantics.specs.Label.{Label, noop, holds, fails, make}
-use Rattle.semantics.specs.Program.{Program, nil, move, any, test, seq, ifElse, choice, while, star}
+use Rattle.semantics.specs.Program.{Program, nil, move, any, test, seq, ifElse, choice, while, star, pick, moveOf, testOf}
+use Rattle.semantics.specs.Domain.{Domain}
 
 -- a step under a label, from a position to a position
 pub data Step : Type 0 where
   arc : Label → ℕ → ℕ → Step
 
--- the column "e"
-unfoldable pub end : Program → ℕ → ℕ
-end nil n = suc n
-end (move a) n = suc n
-end any n = suc n
-end (test a) n = suc n
-end (seq a b) n = end b (end a n)
-end (ifElse a b c) n = suc (end c (suc (end b (suc n))))
-end (choice a b) n = suc (end b (suc (end a (suc n))))
-end (while a b) n = suc (end b (suc n))
-end (star a) n = suc (end a (suc n))
+-- "Pick from n compiles object 0's copy from n+1, and each later copy from one past the previous
+-- end": where the copy of object o starts, if a copy from p ends at `ends p`. Past the last copy that
+-- is the pick's own end: "one past the last copy's end, or n+1 when O is 0"
+unfoldable pub copyStart : (ℕ → ℕ) → ℕ → ℕ → ℕ
+copyStart ends n zero = suc n
+copyStart ends n (suc o) = suc (ends (copyStart ends n o))
+
+-- the column "e", where the job has O objects
+unfoldable pub end : ℕ → Program → ℕ → ℕ
+end O nil n = suc n
+end O (move a) n = suc n
+end O any n = suc n
+end O (test a) n = suc n
+end O (seq a b) n = end O b (end O a n)
+end O (ifElse a b c) n = suc (end O c (suc (end O b (suc n))))
+end O (choice a b) n = suc (end O b (suc (end O a (suc n))))
+end O (while a b) n = suc (end O b (suc n))
+end O (star a) n = suc (end O a (suc n))
+end O (pick a) n = copyStart (end O a) n O
+end O (moveOf a b) n = suc n
+end O (testOf a b) n = suc n
 
 -- "one move step for each move, 0 upward": so many moves from number a on
 unfoldable pub moveSteps : ℕ → ℕ → ℕ → List Step
@@ -40,22 +52,48 @@ whileSteps a n n₁ = arc (holds a) n (suc n) ∷ arc (fails a) n (suc n₁) ∷
 unfoldable pub starSteps : ℕ → ℕ → List Step
 starSteps n n₁ = arc noop n (suc n) ∷ arc noop n₁ n ∷ arc noop n (suc n₁) ∷ []
 
--- the column "steps", where the job has M moves; "Steps come in the order written; body steps
--- first."
-unfoldable pub steps : ℕ → Program → ℕ → List Step
-steps M nil n = arc noop n (suc n) ∷ []
-steps M (move a) n = arc (make a) n (suc n) ∷ []
-steps M any n = moveSteps M 0 n
-steps M (test a) n = arc (holds a) n (suc n) ∷ []
-steps M (seq a b) n = steps M a n ++ steps M b (end a n)
-steps M (ifElse a b c) n =
-    let n₁ = end b (suc n) in
-    steps M b (suc n) ++ steps M c (suc n₁) ++ branchSteps (holds a) (fails a) n n₁ (end c (suc n₁))
-steps M (choice a b) n =
-    let n₁ = end a (suc n) in
-    steps M a (suc n) ++ steps M b (suc n₁) ++ branchSteps noop noop n n₁ (end b (suc n₁))
-steps M (while a b) n = steps M b (suc n) ++ whileSteps a n (end b (suc n))
-steps M (star a) n = steps M a (suc n) ++ starSteps n (end a (suc n))
+-- a list of steps for each object, 0 upward: for the first k of them
+unfoldable pub copies : ℕ → (ℕ → List Step) → List Step
+copies zero g = []
+copies (suc k) g = copies k g ++ g k
+
+-- "After all copies come a no-op from n to each start, then one from each end to e."
+unfoldable pub pickSteps : ℕ → ℕ → (ℕ → ℕ) → (ℕ → ℕ) → List Step
+pickSteps O n starts ends = copies O (λ o. arc noop n (starts o) ∷ []) ++ copies O (λ o. arc noop (ends o) (starts O) ∷ [])
+
+-- the step of a row that has a variable, by its object; none where the variable has no pick
+unfoldable pub objectSteps : (ℕ → Label) → Option ℕ → ℕ → List Step
+objectSteps l none n = []
+objectSteps l (some o) n = arc (l o) n (suc n) ∷ []
+
+-- the column "steps", where the job has M moves and O objects, and env has the objects of the
+-- enclosing picks, the nearest first; "Steps come in the order written; body steps first."
+unfoldable pub steps : ℕ → ℕ → List ℕ → Program → ℕ → List Step
+steps M O env nil n = arc noop n (suc n) ∷ []
+steps M O env (move a) n = arc (make a) n (suc n) ∷ []
+steps M O env any n = moveSteps M 0 n
+steps M O env (test a) n = arc (holds a) n (suc n) ∷ []
+steps M O env (seq a b) n = steps M O env a n ++ steps M O env b (end O a n)
+steps M O env (ifElse a b c) n =
+    let n₁ = end O b (suc n) in
+    steps M O env b (suc n) ++ steps M O env c (suc n₁) ++ branchSteps (holds a) (fails a) n n₁ (end O c (suc n₁))
+steps M O env (choice a b) n =
+    let n₁ = end O a (suc n) in
+    steps M O env a (suc n) ++ steps M O env b (suc n₁) ++ branchSteps noop noop n n₁ (end O b (suc n₁))
+steps M O env (while a b) n = steps M O env b (suc n) ++ whileSteps a n (end O b (suc n))
+steps M O env (star a) n = steps M O env a (suc n) ++ starSteps n (end O a (suc n))
+steps M O env (pick a) n =
+    let starts : ℕ → ℕ = copyStart (end O a) n in
+    copies O (λ o. steps M O (o ∷ env) a (starts o)) ++ pickSteps O n starts (λ o. end O a (starts o))
+steps M O env (moveOf a b) n = objectSteps (λ o. make (a + o)) (getElem? env b) n
+steps M O env (testOf a b) n = objectSteps (λ o. holds (a + o)) (getElem? env b) n
+
+-- "The recipe starts at 0; its end is the final position."
+abbrev pub compiledSteps : Domain → Program → List Step
+compiledSteps D σ = steps (D .moves) (D .objects) [] σ 0
+
+abbrev pub finalPosition : Domain → Program → ℕ
+finalPosition D σ = end (D .objects) σ 0
 
 -- "A step is (kind, from, to, arg)"; "a no-op's arg is 0"
 abbrev pub kindOf : Label → ℕ

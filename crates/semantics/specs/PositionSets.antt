@@ -10,7 +10,7 @@ use lib.ListN.{length, getD, set, replicate}
 use Rattle.semantics.specs.Label.{Label, noop, holds, fails, make}
 use Rattle.semantics.specs.Program.{Program}
 use Rattle.semantics.specs.Domain.{Domain}
-use Rattle.semantics.specs.CompilingTable.{Step, arc, end, steps}
+use Rattle.semantics.specs.CompilingTable.{Step, arc, compiledSteps, finalPosition}
 use Rattle.semantics.specs.Verdict.{Verdict}
 use Rattle.semantics.specs.Machine.{Arrival, Machine, verdictFrom}
 
@@ -88,5 +88,5 @@ setMachine D L e = record {
 -- by sets of n marks; any n above the final position gives the same
 unfoldable pub verdictBy : ℕ → Domain → Program → List ℕ → Verdict
 verdictBy n D σ ms =
-    let L = steps (D .moves) σ 0 in
-    verdictFrom D (setMachine D L (end σ 0)) (record { state = D .start; marks = firstSet D L n (D .start) }) ms
+    let L = compiledSteps D σ in
+    verdictFrom D (setMachine D L (finalPosition D σ)) (record { state = D .start; marks = firstSet D L n (D .start) }) ms

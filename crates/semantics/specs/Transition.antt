@@ -1,16 +1,17 @@
--- "What a recipe allows": the transitions of source document 003, equations (4) to (12), and runs
+-- "What a recipe allows": the transitions of source document 003, equations (4) to (13), and runs
 -- of them.
 use Prim.Native.Nat.{ℕ, _<_}
 use mathlib.Core.Path.{_≡_}
 use mathlib.Core.Bool.{true, false}
 use mathlib.Core.Option.{some}
 use mathlib.Core.List.{List, [], _∷_, _++_}
-use Rattle.semantics.specs.Program.{Program, nil, move, any, test, seq, ifElse, choice, while, star}
+use Rattle.semantics.specs.Program.{Program, nil, move, any, test, seq, ifElse, choice, while, star, pick, put}
 use Rattle.semantics.specs.Domain.{Domain}
 
 -- One transition from a state and a program to a state and the residual program, with the moves
 -- that it makes.
--- "Nil has no step; nor has a test that fails or a move that can't be made."
+-- "Nil has no step; nor has a test that fails or a move that can't be made." Nor has a variable
+-- without its pick.
 pub data Transition (D : Domain) : ℕ → Program → List ℕ → ℕ → Program → Type 0 where
   -- (4) "move a: where it can be made, nil is left, in the world after the move"
   moves : {a s t : ℕ} → D .successor a s ≡ some t → Transition D s (move a) (a ∷ []) t nil
@@ -34,6 +35,8 @@ pub data Transition (D : Domain) : ℕ → Program → List ℕ → ℕ → Prog
   -- (12) "star of a: nil, or a then this same star"
   star-ends : {a : Program} {s : ℕ} → Transition D s (star a) [] s nil
   star-does : {a : Program} {s : ℕ} → Transition D s (star a) [] s (seq a (star a))
+  -- (13) "pick: … an execution is one of the body for some object"
+  picks : {a : Program} {s o : ℕ} → o < D .objects → Transition D s (pick a) [] s (put o 0 a)
 
 -- "A run is finitely many steps, perhaps none; it makes its moves in their order"
 pub data Run (D : Domain) : ℕ → Program → List ℕ → ℕ → Program → Type 0 where
