@@ -1,9 +1,9 @@
 -- A program that fits has room for all of its steps.
 -- Assumes nothing.
 use Prim.Native.Nat.{ℕ, _+_, _-_, _*_, _≤_, _<_}
-use mathlib.Core.Path.{_≡_, sym, _∙_, ap, subst}
+use mathlib.Core.Path.{_≡_, sym, _∙_, ap, ap₂}
 use mathlib.Core.Bool.{true}
-use mathlib.Core.List.{List}
+use mathlib.Core.List.{List, []}
 use native.Mathlib.Omega.{arith}
 use lib.Dec.{leb}
 use lib.ListN.{length, getD}
@@ -13,17 +13,18 @@ use Rattle.laws.proofs.Tests.{and-left, and-right}
 use Rattle.limits.specs.Limits.{mostPositions, mostSteps}
 use Rattle.job.specs.Job.{Job}
 use Rattle.job.specs.Store.{jobOf}
+use Rattle.job.specs.declared.head.Counts.{Counts}
 use Rattle.job.specs.declared.head.Head.{Head}
 use Rattle.job.proofs.StoredLaws.{move-count, row-count}
 use Rattle.semantics.specs.Program.{Program}
-use Rattle.semantics.specs.CompilingTable.{end, steps, flat}
+use Rattle.semantics.specs.CompilingTable.{Step, end, steps, flat}
+use Rattle.semantics.specs.Scope.{scoped}
 use Rattle.compile.specs.Program.{rowProgram, programOf}
-use Rattle.compile.specs.CompiledJob.{stepsOf, positionCount, stepCount, fits}
-use Rattle.compile.specs.Size.{sizesOf, capped, cappedSizes, listed}
+use Rattle.compile.specs.CompiledJob.{stepsOf, finalPositionOf, positionCount, stepCount, fits, hasPicks}
+use Rattle.compile.specs.Size.{sizesOf, capped}
 use Rattle.compile.specs.Laid.{StepsLaid, Enough}
-use Rattle.compile.specs.declared.sizes.Sizes.{Sizes}
 use Rattle.compile.specs.declared.steps.Cursor.{Cursor}
-use Rattle.compile.proofs.SizeLaws.{Listed, listed-last}
+use Rattle.compile.proofs.SizeLaws.{has-sizes, Listed}
 
 pub few-positions : (j : Job) → fits j ≡ true → positionCount j ≤ mostPositions
 unfolding fits
@@ -37,35 +38,47 @@ module _ (h : Head) (l : List ℕ) where
   abbrev j : Job
   j = jobOf h l
 
-  abbrev M : ℕ
-  M = h .counts .moves
+  abbrev c : Counts
+  c = h .counts
+
+  abbrev last : ℕ
+  last = c .program - 1
 
   -- the program is the last row
-  last-row : programOf j ≡ rowProgram (j .program) (h .counts .program - 1)
+  pub last-row : programOf j ≡ rowProgram (j .program) last
   last-row = ap (λ (n : ℕ). rowProgram (j .program) (n - 1)) (row-count h l)
 
-  step-count : stepCount j ≡ sizesOf M (programOf j) .steps
-  step-count = ap (λ (m : ℕ). length (steps m (programOf j) 0)) (move-count h l)
+  steps-are : stepsOf j ≡ steps (c .moves) (c .objects) [] (rowProgram (j .program) last) 0
+  steps-are = ap₂ (λ (m : ℕ) (σ : Program). steps m (c .objects) [] σ 0) (move-count h l) last-row
 
-  pub measured : (x y : List ℕ) → 0 < h .counts .program → Listed M (j .program) (h .counts .program) x y
-      → (p q r : ℕ) → p ≡ getD x (h .counts .program - 1) 0 → q ≡ capped (p + 1 + 0) → r ≡ getD y (h .counts .program - 1) 0
-      → (q ≡ capped (positionCount j)) × (r ≡ capped (stepCount j))
-  measured x y g s p q r e f d =
-      let last : listed x y (h .counts .program - 1) ≡ cappedSizes (sizesOf M (programOf j)) = listed-last M j _ x y (sym (row-count h l)) g s in
-      let k : p ≡ capped (end (programOf j) 0) = e ∙ ap (λ (z : Sizes). z .positions) last in
-      (omega (arith, k, f), d ∙ ap (λ (z : Sizes). z .steps) last ∙ ap capped (sym step-count))
+  final-is : finalPositionOf j ≡ sizesOf c (rowProgram (j .program) last) .positions
+  final-is = ap (λ (σ : Program). end (c .objects) σ 0) last-row ∙ omega (arith, has-sizes c (rowProgram (j .program) last) .ends 0)
 
-  abbrev start : Cursor
-  start = record { position = 0; at = 0 }
+  module _ (v : hasPicks j ≡ true) where
+    variables : scoped 0 (rowProgram (j .program) last) ≡ true
+    variables = ap (scoped 0) (sym last-row) ∙ v
 
-  pub all-fit : (places : ℕ) → fits j ≡ true → stepCount j * 4 ≤ places → Enough M (rowProgram (j .program) (h .counts .program - 1)) start places
-  all-fit places e g = subst (λ (σ : Program). Enough M σ start places) last-row (record {
-    positions = omega (arith, few-positions j e);
-    room = omega (arith, g, step-count);
-  })
+    step-count : stepCount j ≡ sizesOf c (rowProgram (j .program) last) .steps
+    step-count = ap length steps-are ∙ has-sizes c (rowProgram (j .program) last) .counts [] 0 variables
 
-  pub all-written : {old new : List ℕ} {to : Cursor} → StepsLaid M (rowProgram (j .program) (h .counts .program - 1)) old start new to
-      → new ≡ sets old 0 (flat (stepsOf j))
-  all-written {old} {new} {to} w =
-      w .laid .list ∙ ap (λ (σ : Program). sets old 0 (flat (steps M σ 0))) (sym last-row)
-      ∙ ap (λ (m : ℕ). sets old 0 (flat (steps m (programOf j) 0))) (sym (move-count h l))
+    pub measured : {x y : List ℕ} → 0 < c .program → Listed c (j .program) (c .program) x y
+        → (p q r : ℕ) → p ≡ getD x last 0 → q ≡ capped (p + 1) → r ≡ getD y last 0 → (q ≡ capped (positionCount j)) × (r ≡ capped (stepCount j))
+    measured g s p q r e f d =
+        let k : p ≡ capped (finalPositionOf j) = e ∙ s .positions-of last (omega arith) ∙ ap capped (sym final-is) in
+        (omega (arith, k, f), d ∙ s .steps-of last (omega arith) ∙ ap capped (sym step-count))
+
+    abbrev start : Cursor
+    start = record { position = 0; at = 0 }
+
+    pub all-fit : {env : List ℕ} {places : ℕ} → env ≡ [] → fits j ≡ true → stepCount j * 4 ≤ places → Enough c env (rowProgram (j .program) last) start places
+    all-fit n e g = rw n (record {
+      variables = variables;
+      positions = omega (arith, few-positions j e, final-is);
+      room = omega (arith, g, step-count);
+    })
+
+  pub all-written : {env old new : List ℕ} {to : Cursor} → env ≡ []
+      → StepsLaid c env (rowProgram (j .program) last) old (record { position = 0; at = 0 }) new to → new ≡ sets old 0 (flat (stepsOf j))
+  all-written {env} {old} n w =
+      w .laid .list ∙ ap (λ (e : List ℕ). sets old 0 (flat (steps (c .moves) (c .objects) e (rowProgram (j .program) last) 0))) n
+      ∙ ap (λ (L : List Step). sets old 0 (flat L)) (sym steps-are)

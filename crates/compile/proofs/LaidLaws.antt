@@ -1,23 +1,25 @@
 -- Numbers laid over a list, one part after another.
 -- Assumes nothing.
-use Prim.Native.Nat.{ℕ, zero, suc, _+_, _*_}
-use mathlib.Core.Path.{_≡_, refl, sym, _∙_, ap}
+use Prim.Native.Nat.{ℕ, zero, suc, _+_, _*_, _≤_, _<_}
+use mathlib.Core.Path.{_≡_, refl, sym, _∙_, ap, fun-ext}
 use mathlib.Core.List.{List, [], _∷_, _++_}
 use native.Mathlib.Omega.{arith}
 use native.Mathlib.Numerals.{add-one}
+use native.Mathlib.Nat.{mul-le-mul-left}
 use lib.ListN.{length, length-append}
 use lib.Seq.{sets}
 use Rattle.laws.proofs.Lists.{sets-append}
 use Rattle.semantics.specs.Label as L
 use Rattle.semantics.proofs.FlatLaws.{flat-append, flat-length}
-use Rattle.semantics.specs.CompilingTable.{Step, arc, flat, moveSteps, branchSteps, whileSteps, starSteps}
+use Rattle.semantics.specs.CompilingTable.{Step, arc, copies, flat, moveSteps, branchSteps, whileSteps, starSteps, pickSteps}
 use Rattle.compile.specs.Construct.{firstLabel, secondLabel}
-use Rattle.compile.specs.Laid.{labelNumbers, guardNumbers, LaidOver}
+use Rattle.compile.specs.Laid.{positionAt, linkSteps, labelNumbers, guardNumbers, LaidOver}
 use Rattle.compile.specs.declared.rows.Guard.{Guard}
 use Rattle.compile.specs.declared.rows.Guard.the-variants.{Free, On}
 use Rattle.compile.specs.declared.steps.StepLabel.{StepLabel}
 use Rattle.compile.specs.declared.steps.Labels.{Labels}
-use Rattle.compile.proofs.SizeLaws.{moves-count}
+use Rattle.compile.specs.declared.steps.Spaced.{Spaced}
+use Rattle.compile.proofs.SizeLaws.{moves-count, copies-count}
 
 pub laid-none : (l : List ℕ) (at : ℕ) → LaidOver [] l at l at
 laid-none l at = record { list = refl; place = omega arith }
@@ -44,6 +46,58 @@ unfolding flat
 moves-more k n =
     let e : 0 + k ≡ k = omega arith in
     rw (add-one k, add-one n) (ap flat (moves-snoc k 0 n) ∙ flat-append (moveSteps k 0 n) _ ∙ rw e)
+
+-- one list more of those for each object
+pub laid-copy : {v old mid new : List ℕ} {at at₁ at₂ : ℕ} (g : ℕ → List Step) (k : ℕ) → flat (g k) ≡ v
+    → LaidOver (flat (copies k g)) old at mid at₁ → LaidOver v mid at₁ new at₂ → LaidOver (flat (copies (k + 1) g)) old at new at₂
+unfolding copies
+laid-copy g k e x y = rw (add-one k, flat-append (copies k g) (g k), e) (laid-append x y)
+
+pub links-length : (from to : Spaced) (k : ℕ) → length (flat (copies k (linkSteps from to))) ≡ k * 4
+links-length from to k = omega (arith, flat-length (copies k (linkSteps from to)), copies-count k 1 (linkSteps from to) (λ o. refl))
+
+-- no-ops to and from the copies of a pick's body: for k of them so far
+pub record LinksLaid (from to : Spaced) (count : ℕ) (old : List ℕ) (at k : ℕ) (new : List ℕ) (next : ℕ) : Type 0 where
+  pub few : k ≤ count
+  pub size : length new ≡ length old
+  pub laid : LaidOver (flat (copies k (linkSteps from to))) old at new next
+
+module _ {from to : Spaced} {count : ℕ} {old : List ℕ} {at : ℕ} where
+  pub links-none : LinksLaid from to count old at 0 old at
+  unfolding copies flat
+  links-none = record { few = omega arith; size = refl; laid = laid-none old at }
+
+  module _ {k : ℕ} {list : List ℕ} {next : ℕ} (l : LinksLaid from to count old at k list next) where
+    pub links-room : at + count * 4 ≤ length old → k < count → next + 4 ≤ length list
+    links-room r h = omega (arith, r, l .size, l .laid .place, links-length from to k)
+
+    pub links-more : {new : List ℕ} {after : ℕ} → k < count → length new ≡ length list
+        → LaidOver (0 ∷ positionAt from k ∷ positionAt to k ∷ 0 ∷ []) list next new after → LinksLaid from to count old at (k + 1) new after
+    unfolding flat
+    links-more h e x = record { few = omega (arith, h); size = e ∙ l .size; laid = laid-copy (linkSteps from to) k refl (l .laid) x }
+
+    pub links-all : count ≤ k → LaidOver (flat (copies count (linkSteps from to))) old at list next
+    links-all h = let e : k ≡ count = omega (arith, h, l .few) in rw (← e) (l .laid)
+
+-- a number k of those that are so far apart is not past the last
+pub position-low : (s : Spaced) (k count : ℕ) → k < count → positionAt s count ≤ 65535 → (s .apart * k ≤ 65535) × (positionAt s k ≤ 65535)
+position-low s k count h g = let m = mul-le-mul-left (s .apart) h in (omega (arith, m, g), omega (arith, m, g))
+
+same-copies : (k : ℕ) (f g : ℕ → List Step) → ((o : ℕ) → f o ≡ g o) → copies k f ≡ copies k g
+same-copies k f g e = ap (copies k) (fun-ext e)
+
+-- both sorts of them, one after another
+pub laid-pick : (O n a : ℕ) {old mid new : List ℕ} {at at₁ at₂ : ℕ}
+    → LaidOver (flat (copies O (linkSteps (record { first = n; apart = 0 }) (record { first = n + 1; apart = a })))) old at mid at₁
+    → LaidOver (flat (copies O (linkSteps (record { first = n + a; apart = a }) (record { first = n + 1 + a * O; apart = 0 })))) mid at₁ new at₂
+    → LaidOver (flat (pickSteps O n (λ k. n + 1 + a * k) (λ k. n + a + a * k))) old at new at₂
+unfolding pickSteps
+laid-pick O n a x y =
+    let f : (k : ℕ) → arc L.noop n (n + 1 + a * k) ∷ [] ≡ linkSteps (record { first = n; apart = 0 }) (record { first = n + 1; apart = a }) k =
+    λ k. let e : n ≡ n + 0 * k = omega arith in ap (λ (p : ℕ). arc L.noop p (n + 1 + a * k) ∷ []) e in
+    let g : (k : ℕ) → arc L.noop (n + a + a * k) (n + 1 + a * O) ∷ [] ≡ linkSteps (record { first = n + a; apart = a }) (record { first = n + 1 + a * O; apart = 0 }) k =
+    λ k. let e : n + 1 + a * O ≡ n + 1 + a * O + 0 * k = omega arith in ap (λ (p : ℕ). arc L.noop (n + a + a * k) p ∷ []) e in
+    rw (same-copies O _ _ f, same-copies O _ _ g, flat-append (copies O _) (copies O _)) (laid-append x y)
 
 -- as the code writes them
 pub leaf-flat : (x : L.Label) (k : StepLabel) → k ≡ labelNumbers x → (n : ℕ) → flat (arc x n (n + 1) ∷ []) ≡ k .kind ∷ n ∷ (n + 1) ∷ k .arg ∷ []

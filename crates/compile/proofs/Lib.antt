@@ -1,7 +1,11 @@
 pub mod ProgramLaws
-pub mod SizeLaws
-pub mod LaidLaws
 pub mod Shapes
+pub mod RowTable
+pub mod SizeLaws
+pub mod ScopeLaws
+pub mod EnvLaws
+pub mod LaidLaws
 pub mod StepsLaidLaws
+pub mod PickLaws
 pub mod CallLaws
 pub mod FitLaws

@@ -1,12 +1,13 @@
 -- The program of a row is built from those of the rows that it refers to.
 -- Assumes nothing.
-use Prim.Native.Nat.{ℕ, _≤_, _<_}
+use Prim.Native.Nat.{ℕ, _+_, _-_, _≤_, _<_}
 use mathlib.Core.Path.{_≡_, refl, sym, _∙_, ap, subst}
 use mathlib.Core.List.{List, [], _∷_, map}
 use native.Mathlib.Omega.{arith}
 use lib.ListN.{length, getD, take}
 use Rattle.laws.proofs.Tables.{getD-map, Pairs, pair-at}
 use Rattle.laws.proofs.Growing.{grown-front, grown-at}
+use Rattle.limits.specs.Limits.{mostFormulas, mostMoves}
 use Rattle.job.specs.Job.{Row, rowOf, programRowAt}
 use Rattle.job.specs.Fields.{rowFields, Within}
 use Rattle.job.specs.Store.{jobOf}
@@ -19,10 +20,10 @@ use Rattle.job.proofs.RowLaws.{kind-listed}
 use Rattle.job.proofs.StoredLaws.{row-count, row-within}
 use Rattle.semantics.specs.Program.{Program, nil}
 use Rattle.compile.specs.Program.{kinds, build, programs, rowProgram}
-use Rattle.compile.specs.Construct.{constructs, constructOf, programIn, Earlier, RowSays}
+use Rattle.compile.specs.Construct.{Base, constructs, constructOf, programIn, Earlier, RowSays}
 use Rattle.compile.specs.declared.rows.Simple.the-variants.{Nil}
 use Rattle.compile.specs.declared.rows.Construct.{Construct}
-use Rattle.compile.specs.declared.rows.Construct.the-variants.{Leaf, Any, Seq, Branch, Loop}
+use Rattle.compile.specs.declared.rows.Construct.the-variants.{Leaf, Any, Seq, Branch, Loop, Pick}
 
 row-built : (program : List Row) (i : ℕ) → i < length program → rowProgram program i ≡ build (programs (take i program)) (getD program i (rowOf []))
 unfolding programs
@@ -43,14 +44,18 @@ build-says ps r =
     ∙ getD-map (programIn (λ k. getD ps k nil)) (constructs r) (r .kind) (Leaf Nil)
 
 -- a row with right fields refers to earlier rows alone
-module _ (c : Counts) (r : Row) where
+module _ (c : Counts) (few-moves : c .moves ≤ mostMoves) (few-formulas : c .formulas ≤ mostFormulas) (r : Row) where
+  base : {a : ℕ} (count : ℕ) → count ≤ mostFormulas → a < count + 1 - c .objects → Base a
+  base count h g = omega (arith, h, g)
+
   abbrev Refers : List Field → Construct → Type 0
   Refers fields x = Within c fields (r .a ∷ r .b ∷ r .c ∷ []) → Earlier (c .program) x
 
   kinds-refer : Pairs Refers rowFields (constructs r)
   kinds-refer = (
     λ w. tt,
-    (λ w. tt, (λ w. tt, (λ w. tt, (λ w. (w .0, w .1 .0), (λ w. (w .1 .0, w .1 .1 .0), (λ w. (w .0, w .1 .0), (λ w. w .1 .0, (λ w. w .0, tt)))))))),
+    (λ w. tt, (λ w. tt, (λ w. tt, (λ w. (w .0, w .1 .0), (λ w. (w .1 .0, w .1 .1 .0), (λ w. (w .0, w .1 .0), (λ w. w .1 .0, (λ w. w .0,
+    (λ w. w .0, (λ w. base (c .moves) (omega (arith, few-moves)) (w .0), (λ w. base (c .formulas) few-formulas (w .0), tt))))))))))),
   )
 
   refers-back : Within c (getD rowFields (r .kind) []) (r .a ∷ r .b ∷ r .c ∷ []) → Earlier (c .program) (constructOf r)
@@ -62,6 +67,7 @@ same-program f g i e Any h = refl
 same-program f g i e (Seq a b) h = rw (e a (h .0), e b (h .1))
 same-program f g i e (Branch x a b) h = rw (e a (h .0), e b (h .1))
 same-program f g i e (Loop x a) h = rw (e a h)
+same-program f g i e (Pick a) h = rw (e a h)
 
 -- row i of a job, as the code reads it
 pub row-says : {h : Head} {l : List ℕ} → Stored h l → (i : ℕ) → i < h .counts .program → (r : Row) → r ≡ programRowAt (jobOf h l) i
@@ -71,7 +77,7 @@ row-says {h} {l} s i within r row =
     let low : i < length program = omega (arith, within, row-count h l) in
     let ps : List Program = programs (take i program) in
     let earlier : Earlier i (constructOf r) =
-    subst (λ (x : Row). Earlier i (constructOf x)) (sym row) (refers-back (beforeRow (jobOf h l) i) (programRowAt (jobOf h l) i) (row-within s i within)) in
+    subst (λ (x : Row). Earlier i (constructOf x)) (sym row) (refers-back (beforeRow (jobOf h l) i) (s .job .moves) (s .job .formulas) (programRowAt (jobOf h l) i) (row-within s i within)) in
     record {
       is = row-built program i low ∙ ap (build ps) (sym row) ∙ build-says ps r
           ∙ same-program (λ k. getD ps k nil) (rowProgram program) i (row-earlier program i (omega (arith, low))) (constructOf r) earlier;

@@ -1,11 +1,12 @@
 -- Sizes of programs by their shape, and a row's sizes from those of earlier rows.
 -- Assumes nothing.
-use Prim.Native.Nat.{ℕ, zero, suc, _+_, _*_, _<_, min}
+use Prim.Native.Nat.{ℕ, zero, suc, _+_, _*_, _≤_, _<_}
 use mathlib.Core.Path.{_≡_, refl, sym, _∙_, ap, ap₂}
 use mathlib.Core.Bool.{true, _&&_}
 use mathlib.Core.List.{List, [], _∷_}
 use native.Mathlib.Omega.{arith}
 use native.Mathlib.Decide.{decLt}
+use native.Mathlib.Nat.{mul-le-mul-right}
 use lib.ListN.{length, set, length-append}
 use Rattle.laws.proofs.Tests.{and-left, and-right}
 use Rattle.job.specs.Job.{Row}
@@ -49,6 +50,10 @@ unfolding pickSteps
 pick-count O n starts ends =
     simp length-append
     (omega (arith, copies-count O 1 (λ o. arc noop n (starts o) ∷ []) (λ o. refl), copies-count O 1 (λ o. arc noop (ends o) (starts O) ∷ []) (λ o. refl)))
+
+-- a product of two numbers of 16 bits, or two more
+pub product-low : (a b : ℕ) → a ≤ 65535 → b ≤ 65537 → a * b ≤ 4294967295
+product-low a b h g = omega (arith, mul-le-mul-right b h, g)
 
 -- where copies start whose ends are so far from their starts
 pub start-at : (ends : ℕ → ℕ) (w : ℕ) → ((n : ℕ) → ends n ≡ n + w) → (n o : ℕ) → copyStart ends n o ≡ n + 1 + (w + 1) * o

@@ -40,6 +40,7 @@ domainOf t = record {
   states = stateCount (t .job .scalars .facts);
   start = t .job .scalars .init;
   moves = length (t .job .moves);
+  objects = t .job .scalars .objects;
   successor = successorOf (t .job);
   holds = holdsIn (t .job);
   cost = costIn t;

@@ -1,22 +1,30 @@
 use native.Mathlib.Omega.{arith}
-use Rattle.job.proofs.StoredLaws.{some-row}
+use Rattle.job.proofs.StoredLaws.{limited, some-row}
 use Rattle.compile.proofs.FitLaws.{all-fit, all-written}
 use borrow.Author.Needs.{needs}
 use Rattle.compile.proofs.program.compile.Statement.{statement}
 use Rattle.compile.proofs.program.compile.Tie as tie
 
 sub-last : tie.Need-sub-last
-sub-last c = omega (arith, some-row (c .before .before .before .pre .0))
+sub-last c =
+    let at3 = c .before .before .before in
+    omega (arith, some-row (at3 .pre .0 .0))
 
 compile-row-requires : tie.Need-compile-row-requires
 compile-row-requires c κs =
-    let o = c .before .before .before .before in
-    (o .pre .0, (omega (arith, some-row (o .pre .0)), all-fit (o .args .head) (o .args .rows .now) _ (o .pre .1 .0) (o .pre .1 .1)))
+    let at5 = c .before .before .before .before .before in
+    let p = at5 .pre in
+    let e = c .before .outside .ensures in
+    let g = some-row (p .0 .0) in (
+      (p .0 .0, omega (arith, g), e .1, omega (arith, g, e .2, limited (p .0 .0) .program)),
+      all-fit (at5 .args .head) (at5 .args .rows .now) (p .0 .1) (e .0) (p .1 .0) (p .1 .1),
+    )
 
 returns : tie.Need-returns
 returns c =
-    let o = c .before .before .before .before .before .before .before in
-    all-written (o .args .head) (o .args .rows .now) (c .before .before .compile-row .ensures)
+    let at4 = c .before .before .before .before in
+    let at8 = at4 .before .before .before .before in
+    all-written (at8 .args .head) (at8 .args .rows .now) (at4 .outside .ensures .0) (c .before .before .compile-row .ensures)
 
 pub compile-spec : {M : Type 1} → statement M
-compile-spec = tie.close (tie.spec sub-last compile-row-requires (λ c. search needs) returns)
+compile-spec = tie.close (tie.spec sub-last (λ c κs. search needs) compile-row-requires (λ c. search needs) returns)
