@@ -10,7 +10,6 @@ use Rattle.limits.specs.Limits.{mostSteps, mostPositions, mostCost}
 use Rattle.job.specs.Job.{Job}
 use Rattle.job.specs.Store.{jobOf}
 use Rattle.job.specs.declared.head.Head.{Head}
-use Rattle.semantics.specs.CompilingTable.{end}
 use Rattle.semantics.proofs.Bounds.{Bounded}
 use Rattle.semantics.proofs.Compiled.{compiled}
 use Rattle.semantics.proofs.FlatLaws.{steps-at}
@@ -18,6 +17,7 @@ use Rattle.semantics.proofs.Part.{Range}
 use Rattle.domain.specs.Domain.{domainIn}
 use Rattle.domain.proofs.DomainLaws.{stored-bounded}
 use Rattle.compile.specs.Program.{programOf}
+use Rattle.compile.specs.CompiledJob.{finalPositionOf}
 use Rattle.compile.proofs.FitLaws.{few-positions, few-steps}
 use Rattle.compiled.specs.Adjacency.{startIn, Listed}
 use Rattle.compiled.specs.Ready.{Ready}
@@ -29,10 +29,10 @@ module _ {head : Head} {rows list : List ℕ} {positions : ℕ} (r : Ready head 
   pub job-bounded : Bounded (domainIn head rows) mostCost
   job-bounded = stored-bounded (r .stored)
 
-  pub last-final : positions - 1 ≡ end (programOf (jobOf head rows)) 0
+  pub last-final : positions - 1 ≡ finalPositionOf (jobOf head rows)
   last-final = omega (arith, r .positions)
 
-  pub final-below : end (programOf (jobOf head rows)) 0 < mostPositions
+  pub final-below : finalPositionOf (jobOf head rows) < mostPositions
   final-below = omega (arith, few-positions j (r .fit))
 
   pub positions-few : positions ≤ mostPositions
@@ -44,7 +44,7 @@ module _ {head : Head} {rows list : List ℕ} {positions : ℕ} (r : Ready head 
   list-short : length list ≤ mostSteps * 4
   list-short = omega (arith, r .whole, few-steps j (r .fit))
 
-  step-range : (k : ℕ) → k < length list / 4 → Range 0 (end (programOf j) 0) (startIn list k) (getD list (k * 4 + 2) 0)
+  step-range : (k : ℕ) → k < length list / 4 → Range 0 (finalPositionOf j) (startIn list k) (getD list (k * 4 + 2) 0)
   step-range k h = compiled (domainIn head rows) (programOf j) 0 .range (rw (r .steps) at (steps-at (length list / 4) list k h))
 
   pub ready-listed : Listed list

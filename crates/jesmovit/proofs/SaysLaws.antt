@@ -8,7 +8,6 @@ use Rattle.limits.specs.Limits.{mostPositions}
 use Rattle.job.specs.Job.{Job}
 use Rattle.job.specs.Store.{jobOf, taskOf}
 use Rattle.job.specs.declared.head.Head.{Head}
-use Rattle.semantics.specs.CompilingTable.{end}
 use Rattle.semantics.specs.Verdict.{Verdict}
 use Rattle.semantics.specs.PositionSets.{verdictBy}
 use Rattle.semantics.specs.StepVerdict.{stepVerdict}
@@ -17,7 +16,7 @@ use Rattle.semantics.proofs.StepVerdictLaws.{step-verdict-judged}
 use Rattle.domain.specs.Domain.{domainIn}
 use Rattle.domain.specs.Entries.{EntriesBelow}
 use Rattle.compile.specs.Program.{programOf}
-use Rattle.compile.specs.CompiledJob.{stepsOf}
+use Rattle.compile.specs.CompiledJob.{stepsOf, finalPositionOf}
 use Rattle.compiled.specs.Ready.{Ready}
 use Rattle.compiled.proofs.ReadyLaws.{final-below}
 use Rattle.load.specs.Refusals.{boundFor}
@@ -43,6 +42,6 @@ module _ (h : Head) (rows plan : List ℕ) where
     pub step-entries : EntriesBelow plan (boundFor sort (jobOf h rows)) → EntriesBelow plan (length (stepsOf (jobOf h rows)))
     step-entries x = subst (λ (b : ℕ). EntriesBelow plan b) (ap (λ (s : Sort). boundFor s j) e) x
 
-    pub says-steps : {v : Verdict} → v ≡ stepVerdict (domainIn h rows) (stepsOf (jobOf h rows)) (end (programOf (jobOf h rows)) 0) plan
+    pub says-steps : {v : Verdict} → v ≡ stepVerdict (domainIn h rows) (stepsOf (jobOf h rows)) (finalPositionOf (jobOf h rows)) plan
         → Says sort (viewOf (record { task = taskOf h rows; entries = plan })) v
-    says-steps f = rw (e, f) (step-verdict-judged (domainIn h rows) (stepsOf j) (end (programOf j) 0) plan)
+    says-steps f = rw (e, f) (step-verdict-judged (domainIn h rows) (stepsOf j) (finalPositionOf j) plan)

@@ -1,4 +1,4 @@
--- A job text loaded: what is read is refused by 4, or handed on with its sizes.
+-- A job text loaded: what is read is refused by 8 or 4, or handed on with its sizes.
 -- Assumes nothing.
 use Prim.Native.Nat.{ℕ, _≤_, _<_}
 use mathlib.Core.Path.{_≡_, refl, sym, _∙_, ap, subst}
@@ -25,11 +25,11 @@ use Rattle.reader.specs.Reading.{outcomeOf}
 use Rattle.reader.specs.declared.reading.Answer.{Answer}
 use Rattle.reader.proofs.ReadLaws.{read-well-formed}
 use Rattle.domain.specs.Domain.{domainIn}
-use Rattle.compile.specs.CompiledJob.{positionCount, stepCount, fits}
+use Rattle.compile.specs.CompiledJob.{positionCount, stepCount, fits, hasPicks}
 use Rattle.compile.specs.Size.{capped}
 use Rattle.compile.specs.declared.sizes.Sizes.{Sizes}
 use Rattle.load.specs.Refusals.{passed, refused, compilable, jobIn}
-use Rattle.load.specs.Loaded.{jobAs, AtHouse}
+use Rattle.load.specs.Loaded.{jobAs, Measured, AtHouse}
 use Rattle.load.specs.declared.loaded.Loaded.{Loaded}
 
 -- fitting, as two comparisons
@@ -63,59 +63,77 @@ module _ (text rows : List ℕ) where
 -- what it reads, with the house's costs written behind its rows
 module _ (text rows : List ℕ) {a : Answer} (n : ℕ) (h : Head) (g : a ≡ Answer.Read n h) (e : outcomeOf a rows ≡ readJob text)
     (size : length rows ≡ storeSize) {after : List ℕ} (put : after ≡ sets rows costsFrom houseCosts) where
-  abbrev j : Job
-  j = jobOf h after
-
   reads-before : readJob text ≡ R.read n (jobOf h rows)
   reads-before = sym e ∙ ap (λ (x : Answer). outcomeOf x rows) g
 
   right : WellFormed (jobOf h rows)
   right = read-well-formed text n (jobOf h rows) reads-before
 
-  reads : readJob text ≡ R.read n j
-  reads = reads-before ∙ ap (R.read n) (sym (ap (jobOf h) put ∙ job-kept rows houseCosts refl size h right))
-
   pub load-stored : Stored h after
   load-stored = subst (Stored h) (sym put) (costs-stored rows houseCosts refl size h right house-within)
 
-  limited : (b : Bool) → fits j ≡ b → cond b (passed j) (refused 4 n) ≡ jobIn text
+  -- and then what the reasons after reading say of it
+  pub load-told : (r : Loaded) → (jobAs r after ≡ compilable (R.read n (jobOf h after))) × Measured r after → Post text after r
   unfolding jobIn
-  limited b f = ap (λ (x : Bool). cond x (passed j) (refused 4 n)) (sym f) ∙ ap compilable (sym reads)
+  load-told r m = (
+    m .0 ∙ ap (λ (j : Job). compilable (R.read n j)) (ap (jobOf h) put ∙ job-kept rows houseCosts refl size h right) ∙ ap compilable (sym reads-before),
+    at-house r (ap storedCosts put ∙ costs-put rows houseCosts refl size) (m .1),
+  )
+    where
+      at-house : (r : Loaded) → storedCosts after ≡ houseCosts → Measured r after → AtHouse r after
+      at-house (Loaded.Ready x) c k = (k, c)
+      at-house (Loaded.Refused x) c k = tt
 
-  module _ (s : Sizes) (m : (s .positions ≡ capped (positionCount j)) × (s .steps ≡ capped (stepCount j))) where
-    pub load-positions : mostPositions < s .positions → Post text after (Loaded.Refused (record { number = 4; place = n }))
+-- a stored job that was read from n lines
+module _ {h : Head} {rows : List ℕ} (n : ℕ) (stored : Stored h rows) where
+  abbrev j : Job
+  j = jobOf h rows
+
+  abbrev Told : Loaded → Type 0
+  Told answer = (jobAs answer rows ≡ compilable (R.read n j)) × Measured answer rows
+
+  pub load-open : hasPicks j ≡ false → Told (Loaded.Refused (record { number = 8; place = n }))
+  load-open v = (rw v refl, tt)
+
+  module _ (v : hasPicks j ≡ true) (s : Sizes) (m : (s .positions ≡ capped (positionCount j)) × (s .steps ≡ capped (stepCount j))) where
+    limited : (b : Bool) → fits j ≡ b → cond b (passed j) (refused 4 n) ≡ compilable (R.read n j)
+    limited b f = rw (v, f) refl
+
+    pub load-positions : mostPositions < s .positions → Told (Loaded.Refused (record { number = 4; place = n }))
     load-positions k = (limited false (unfit-positions j (omega (arith, m .0))), tt)
 
     module _ (k : s .positions ≤ mostPositions) where
       few : positionCount j ≤ mostPositions
       few = omega (arith, m .0, k)
 
-      pub load-steps : mostSteps < s .steps → Post text after (Loaded.Refused (record { number = 4; place = n }))
+      pub load-steps : mostSteps < s .steps → Told (Loaded.Refused (record { number = 4; place = n }))
       load-steps l = (limited false (unfit-steps j few (omega (arith, m .1))), tt)
 
-      pub load-ready : s .steps ≤ mostSteps → {states : ℕ} → states ≡ domainIn h after .states
-          → Post text after (Loaded.Ready (record { head = h; sizes = s; states = states; entries = 0 }))
+      pub load-ready : s .steps ≤ mostSteps → {states : ℕ} → states ≡ domainIn h rows .states
+          → Told (Loaded.Ready (record { head = h; sizes = s; states = states; entries = 0 }))
       load-ready l d =
           let f = fit j few (omega (arith, m .1, l)) in
           let p : s .positions ≡ positionCount j = omega (arith, m .0, k) in
-          let q : s .steps ≡ stepCount j = omega (arith, m .1, l) in (
-            limited true f,
-            (
-              (record { stored = load-stored; fit = f; positions = p; steps = q; states = d }, refl),
-              ap storedCosts put ∙ costs-put rows houseCosts refl size,
-            ),
-          )
+          let q : s .steps ≡ stepCount j = omega (arith, m .1, l) in
+          (limited true f, (record { stored = stored; picks = v; fit = f; positions = p; steps = q; states = d }, refl))
 
--- what is handed on was read, and fits
+-- what is handed on was read, and no reason after reading refuses it
 module _ (text : List ℕ) (j : Job) where
-  within : (o : R.Outcome) → compilable o ≡ passed j → (n : ℕ) × (o ≡ R.read n j) × (fits j ≡ true)
-  within (R.read n k) f = by (fits k) refl f
-    where
-      by : (b : Bool) → fits k ≡ b → cond b (passed k) (refused 4 n) ≡ passed j → (m : ℕ) × (R.read n k ≡ R.read m j) × (fits j ≡ true)
-      by true x y = let z : k ≡ j = cc in (n, ap (R.read n) z, rw (← z) x)
-      by false x y = never (cc)
-  within (R.refused n p) f = never (cc)
+  pub record ReadWithin : Type 0 where
+    pub lines : ℕ
+    pub is-read : readJob text ≡ R.read lines j
+    pub picks : hasPicks j ≡ true
+    pub fit : fits j ≡ true
 
-  pub passed-read : jobIn text ≡ passed j → (n : ℕ) × (readJob text ≡ R.read n j) × (fits j ≡ true)
+  within : (o : R.Outcome) → readJob text ≡ o → compilable o ≡ passed j → ReadWithin
+  within (R.read n k) e f = by (hasPicks k) (fits k) refl refl f
+    where
+      by : (a b : Bool) → hasPicks k ≡ a → fits k ≡ b → cond a (cond b (passed k) (refused 4 n)) (refused 8 n) ≡ passed j → ReadWithin
+      by true true x y z = let q : k ≡ j = cc in record { lines = n; is-read = e ∙ ap (R.read n) q; picks = rw (← q) x; fit = rw (← q) y }
+      by true false x y z = never (cc)
+      by false b x y z = never (cc)
+  within (R.refused n p) e f = never (cc)
+
+  pub passed-read : jobIn text ≡ passed j → ReadWithin
   unfolding jobIn
-  passed-read e = within (readJob text) e
+  passed-read e = within (readJob text) refl e

@@ -1,5 +1,5 @@
 -- The order of refusals: "The first bad line decides; on it, form before 2 before 3. Then 4, 5, 6."
--- Reason 7 comes "after the job's refusals 1 to 4 and before 5".
+-- Reason 8 comes "before 4", reason 7 "after the job's refusals 1 to 4 and before 5".
 use Prim.Native.Nat.{ℕ, _*_}
 use mathlib.Core.Bool.{cond}
 use mathlib.Core.List.{List, []}
@@ -10,7 +10,7 @@ use Rattle.job.specs.Task.{Task, atHouseCosts}
 use Rattle.job.specs.ReadJob as R
 use Rattle.job.specs.ReadJob.{Outcome, readJob}
 use Rattle.domain.specs.Domain.{domainOf}
-use Rattle.compile.specs.CompiledJob.{positionCount, stepCount, fits}
+use Rattle.compile.specs.CompiledJob.{positionCount, stepCount, fits, hasPicks}
 use Rattle.lists.specs.CountedList as L
 use Rattle.lists.specs.CountedList.{ListOutcome}
 use Rattle.lists.specs.CostsText.{readCosts}
@@ -37,12 +37,13 @@ abbrev pub next : {A B : Type 0} → Checked A → (A → Checked B) → Checked
 next (passed a) reason = reason a
 next (refused number place) reason = refused number place
 
+-- 8: "A variable with too few enclosing picks … is refused as 8 with the last job line, before 4";
 -- 4 "too many positions or steps", at the last job line
 abbrev pub compilable : Outcome → Checked Job
-compilable (R.read lines j) = cond (fits j) (passed j) (refused 4 lines)
+compilable (R.read lines j) = cond (hasPicks j) (cond (fits j) (passed j) (refused 4 lines)) (refused 8 lines)
 compilable (R.refused number place) = refused number place
 
--- reasons 1 to 4: "Texts are accepted where no reason but 6 refuses them."
+-- reasons 1 to 3, 8 and 4: "Texts are accepted where no reason but 6 refuses them."
 unfoldable pub jobIn : List ℕ → Checked Job
 jobIn text = compilable (readJob text)
 
@@ -55,7 +56,7 @@ withCosts j (L.refused line) = refused 7 line
 abbrev pub costsIn : Given → List ℕ → Job → Checked Task
 costsIn g costs j = cond (g .costs) (withCosts j (readCosts costs)) (passed (atHouseCosts j))
 
--- reasons 1 to 4, and 7
+-- reasons 1 to 3, 8, 4 and 7
 unfoldable pub taskIn : Given → List ℕ → List ℕ → Checked Task
 taskIn g text costs = next (jobIn text) (costsIn g costs)
 
@@ -84,7 +85,7 @@ abbrev pub planIn : Request → List ℕ → Task → Checked Offer
 planIn r plan t =
     cond (r .plan) (offered t (readPlan (keyFor (r .sort)) (boundFor (r .sort) (t .job)) plan)) (passed (record { task = t; entries = [] }))
 
--- reasons 1 to 4, 7 and 5
+-- reasons 1 to 3, 8, 4, 7 and 5
 unfoldable pub textsIn : Handed → Checked Offer
 textsIn h = next (taskIn (h .request .given) (h .job) (h .costs)) (planIn (h .request) (h .plan))
 

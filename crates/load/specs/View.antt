@@ -3,7 +3,7 @@ use Prim.Native.Nat.{ℕ, _+_}
 use mathlib.Core.List.{List}
 use Rattle.semantics.specs.Domain.{Domain}
 use Rattle.semantics.specs.Program.{Program}
-use Rattle.semantics.specs.CompilingTable.{Step, end, steps}
+use Rattle.semantics.specs.CompilingTable.{Step, compiledSteps, finalPosition}
 use Rattle.domain.specs.Domain.{domainOf}
 use Rattle.compile.specs.Program.{programOf}
 use Rattle.load.specs.Refusals.{Checked, passed, next, Handed, Offer, loading}
@@ -18,10 +18,10 @@ viewOf o = record { domain = domainOf (o .task); program = programOf (o .task .j
 
 -- "The recipe starts at 0; its end is the final position."
 abbrev pub viewSteps : View → List Step
-viewSteps v = steps (v .domain .moves) (v .program) 0
+viewSteps v = compiledSteps (v .domain) (v .program)
 
 abbrev pub finalOf : View → ℕ
-finalOf v = end (v .program) 0
+finalOf v = finalPosition (v .domain) (v .program)
 
 abbrev pub positionsOf : View → ℕ
 positionsOf v = finalOf v + 1

@@ -6,7 +6,7 @@ ghost use Rattle.load.specs.Loaded.{Loads, EntryRoom};
 use crate::loaded::Loaded;
 use crate::request::Request;
 
-// Reasons 1 to 7.
+// Reasons 1 to 8.
 pub fn load(
     request: Request,
     text: &[u8],

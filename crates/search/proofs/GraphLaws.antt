@@ -9,7 +9,7 @@ use Rattle.job.specs.Store.{jobOf}
 use Rattle.job.specs.declared.head.Head.{Head}
 use Rattle.semantics.specs.Program.{Program}
 use Rattle.semantics.specs.Domain.{Domain}
-use Rattle.semantics.specs.CompilingTable.{end, steps}
+use Rattle.semantics.specs.CompilingTable.{compiledSteps, finalPosition}
 use Rattle.semantics.proofs.Bounds.{Bounded, Closed}
 use Rattle.semantics.proofs.Compiled.{compiled}
 use Rattle.domain.specs.Domain.{domainIn}
@@ -19,8 +19,8 @@ use Rattle.compiled.proofs.ReadyLaws.{job-bounded}
 use Rattle.search.specs.Sweeps.{graphOf}
 
 -- the steps of a compiled program stay between its positions
-pub compiled-closed : (D : Domain) (σ : Program) {positions most : ℕ} → Bounded D most → positions ≡ end σ 0 + 1
-    → Closed (record { domain = D; steps = steps (D .moves) σ 0; positions = positions }) most
+pub compiled-closed : (D : Domain) (σ : Program) {positions most : ℕ} → Bounded D most → positions ≡ finalPosition D σ + 1
+    → Closed (record { domain = D; steps = compiledSteps D σ; positions = positions }) most
 compiled-closed D σ b e = record {
   bounded = b;
   within = λ i p q l a. let g = compiled D σ 0 .range a in (omega (arith, g), omega (arith, g));

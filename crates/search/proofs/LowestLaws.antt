@@ -10,7 +10,7 @@ use mathlib.Core.Logic.{inl, inr, ⊎-elim}
 use lib.ListN.{getD}
 use Rattle.semantics.specs.Program.{Program}
 use Rattle.semantics.specs.Domain.{Domain}
-use Rattle.semantics.specs.CompilingTable.{Step, end, steps}
+use Rattle.semantics.specs.CompilingTable.{Step, compiledSteps, finalPosition}
 use Rattle.semantics.specs.Path.{Path, stop, step}
 use Rattle.semantics.specs.Plan.{cost, Allowed}
 use Rattle.semantics.specs.CostTable.{unreached, Entry, reached, not-reached, Filled, LeastOr, found, no-plan}
@@ -63,7 +63,7 @@ module _ (D : Domain) (σ : Program) where
   abbrev LowerBound : ℕ → Type 0
   LowerBound r = (ms : List ℕ) → Allowed D σ ms → (r < unreached) × (r ≤ cost D (D .start) ms)
 
-  goal-entry-least : (s : ℕ) {r : ℕ} → D .goal s ≡ true → LowerBound r → Entry D (steps (D .moves) σ 0) s (end σ 0) r → LeastOr D σ r
+  goal-entry-least : (s : ℕ) {r : ℕ} → D .goal s ≡ true → LowerBound r → Entry D (compiledSteps D σ) s (finalPosition D σ) r → LeastOr D σ r
   goal-entry-least s g low (reached h k) = found h (record {
     best = k .moves;
     allowed = record { last = s; run = complete-runs D (D .start) σ (k .moves) s .1 (k .numbers, k .path); reached = g };
@@ -72,11 +72,11 @@ module _ (D : Domain) (σ : Program) where
   })
   goal-entry-least s g low (not-reached f) = no-plan (λ ms a. omega (arith, low ms a .0))
 
-  pub lowest-least : {positions most r : ℕ} {old T : List ℕ} → Bounded D most → positions ≡ end σ 0 + 1 → Filled D (steps (D .moves) σ 0) positions old T
-      → Lowest D positions T (end σ 0) (D .states) r → LeastOr D σ r
+  pub lowest-least : {positions most r : ℕ} {old T : List ℕ} → Bounded D most → positions ≡ finalPosition D σ + 1 → Filled D (compiledSteps D σ) positions old T
+      → Lowest D positions T (finalPosition D σ) (D .states) r → LeastOr D σ r
   lowest-least {positions} {r} {T} b e f l =
-      let entry-at : (s : ℕ) → s < D .states → Entry D (steps (D .moves) σ 0) s (end σ 0) (getD T (cell positions s (end σ 0)) 0) =
-      λ s h. f .entries s (end σ 0) h (omega arith) in
+      let entry-at : (s : ℕ) → s < D .states → Entry D (compiledSteps D σ) s (finalPosition D σ) (getD T (cell positions s (finalPosition D σ)) 0) =
+      λ s h. f .entries s (finalPosition D σ) h (omega arith) in
       let low : LowerBound r = λ ms a.
       let path = complete-runs D (D .start) σ ms (a .last) .0 (a .run) .1 in
       let inside = path-inside (compiled-closed D σ b e) (b .start) path in
@@ -84,4 +84,4 @@ module _ (D : Domain) (σ : Program) where
       let y = l .below (a .last) inside (a .reached) in
       (omega (arith, x .0), omega (arith, x .1)) in
       ⊎-elim (λ z. subst (LeastOr D σ) (sym z) (no-plan (λ ms a. omega (arith, low ms a .0))))
-      (λ k. goal-entry-least (k .0) (k .2) low (subst (Entry D (steps (D .moves) σ 0) (k .0) (end σ 0)) (k .3) (entry-at (k .0) (k .1)))) (l .from)
+      (λ k. goal-entry-least (k .0) (k .2) low (subst (Entry D (compiledSteps D σ) (k .0) (finalPosition D σ)) (k .3) (entry-at (k .0) (k .1)))) (l .from)

@@ -12,7 +12,7 @@ use Rattle.job.specs.Job.{Job}
 use Rattle.job.specs.Store.{jobOf}
 use Rattle.job.specs.declared.head.Head.{Head}
 use Rattle.semantics.specs.Domain.{Domain}
-use Rattle.semantics.specs.CompilingTable.{Step, end}
+use Rattle.semantics.specs.CompilingTable.{Step}
 use Rattle.semantics.specs.Verdict.{Verdict, blocked}
 use Rattle.semantics.specs.Machine.{Machine, onward, finished, verdictFrom}
 use Rattle.semantics.specs.PositionSets.{closure, spread, isMove, silentIn, anyMark, firstSet, nextSet, Configurations, moveOn, setMachine, verdictBy}
@@ -23,7 +23,7 @@ use Rattle.domain.specs.Successor.{successorIn}
 use Rattle.domain.specs.declared.Successor.{Successor}
 use Rattle.domain.specs.declared.Successor.the-variants.{To, Inapplicable}
 use Rattle.compile.specs.Program.{programOf}
-use Rattle.compile.specs.CompiledJob.{stepsOf}
+use Rattle.compile.specs.CompiledJob.{stepsOf, finalPositionOf}
 use Rattle.compiled.specs.Adjacency.{stepsOn}
 use Rattle.compiled.specs.Steps.{silentBy}
 use Rattle.compiled.specs.Ready.{Ready}
@@ -44,12 +44,12 @@ module _ (head : Head) (rows list : List ℕ) (plan : List ℕ) where
   L = stepsOf (jobOf head rows)
 
   abbrev e : ℕ
-  e = end (programOf (jobOf head rows)) 0
+  e = finalPositionOf (jobOf head rows)
 
   -- after i moves at this cost, in this state, where its formulas have these values and the program
   -- may be at the positions of S
   pub record Checking (state : ℕ) (values : List Bool) (S : PositionSet) (cost i : ℕ) : Type 0 where
-    pub left : Left (domainIn head rows) (setMachine (domainIn head rows) (stepsOf (jobOf head rows)) (end (programOf (jobOf head rows)) 0)) plan
+    pub left : Left (domainIn head rows) (setMachine (domainIn head rows) (stepsOf (jobOf head rows)) (finalPositionOf (jobOf head rows))) plan
         (verdictBy mostPositions (domainIn head rows) (programOf (jobOf head rows)) plan) (record { state = state; marks = S .marks }) cost i
     pub counted : CountedSet S
     pub told : Tells (domainIn head rows) state values

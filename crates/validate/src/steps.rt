@@ -4,12 +4,10 @@ ghost use Prim.Native.Nat.{_/_, _<_};
 ghost use lib.ListN.{length};
 ghost use Rattle.job.specs.Store.{jobOf};
 ghost use Rattle.job.specs.Stored.{Stored};
-ghost use Rattle.semantics.specs.CompilingTable.{end};
 ghost use Rattle.semantics.specs.StepVerdict.{made, stepVerdict};
 ghost use Rattle.domain.specs.Domain.{domainIn};
 ghost use Rattle.domain.specs.Entries.{EntriesBelow};
-ghost use Rattle.compile.specs.Program.{programOf};
-ghost use Rattle.compile.specs.CompiledJob.{stepsOf, stepCount};
+ghost use Rattle.compile.specs.CompiledJob.{stepsOf, finalPositionOf, stepCount};
 ghost use Rattle.compiled.specs.Adjacency.{stepsOn};
 ghost use Rattle.compiled.specs.Ready.{Ready};
 ghost use Rattle.compiled.specs.Arrival.{arrivalOf};
@@ -41,7 +39,7 @@ pub fn check_steps(head: Head, rows: &[u16], list: &[u16], positions: u16, plan:
     requires { ⌜ Ready head (now rows) (now list) positions ⌝ }
     requires { ⌜ EntriesBelow (now plan) (stepCount (jobOf head (now rows))) ⌝ }
     ensures { λ r. ⌜ verdictOf r ≡ stepVerdict (domainIn head (now (rows .entry))) (stepsOf (jobOf head (now (rows .entry))))
-        (end (programOf (jobOf head (now (rows .entry)))) 0) (now (plan .entry)) ⌝ }
+        (finalPositionOf (jobOf head (now (rows .entry)))) (now (plan .entry)) ⌝ }
 {
     let mut state = domain::states::start(head, rows);
     let mut position: u16 = 0;

@@ -4,10 +4,8 @@ use native.Mathlib.Omega.{arith}
 use lib.ListN.{length}
 use Rattle.limits.specs.Limits.{mostCost}
 use Rattle.job.specs.Store.{jobOf}
-use Rattle.semantics.specs.CompilingTable.{end}
 use Rattle.domain.specs.Domain.{domainIn}
-use Rattle.compile.specs.Program.{programOf}
-use Rattle.compile.specs.CompiledJob.{stepsOf}
+use Rattle.compile.specs.CompiledJob.{stepsOf, finalPositionOf}
 use Rattle.compiled.proofs.ReadyLaws.{job-bounded, last-final, some-position}
 use Rattle.validate.proofs.StepLaws.{Stepping, stepping-start, stepping-blocked, stepping-more, stepping-end}
 use borrow.Author.Needs.{needs}
@@ -17,7 +15,7 @@ use Rattle.validate.proofs.steps.check_steps.Tie as tie
 abbrev Inv-loop : tie.InvT-loop
 Inv-loop head rows list positions plan state₀ position₀ cost₀ i₀ state position cost i =
     let j = jobOf head rows in
-    Stepping (domainIn head rows) mostCost (stepsOf j) (end (programOf j) 0) plan state position cost i
+    Stepping (domainIn head rows) mostCost (stepsOf j) (finalPositionOf j) plan state position cost i
 
 abbrev μ-loop : tie.MeasureT-loop
 μ-loop head rows list positions plan state₀ position₀ cost₀ i₀ state position cost i = length plan - i
