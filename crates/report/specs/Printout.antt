@@ -79,7 +79,8 @@ writtenLines output (said v) = verdictLines v
 -- a job's counts
 abbrev pub countLines : Counts → List ℕ
 countLines c =
-    line "facts" (c .facts) ++ line "formulas" (c .formulas) ++ line "moves" (c .moves) ++ line "effects" (c .effects) ++ line "program" (c .program)
+    line "facts" (c .facts) ++ line "formulas" (c .formulas) ++ line "moves" (c .moves) ++ line "effects" (c .effects)
+    ++ line "objects" (c .objects) ++ line "program" (c .program)
 
 -- "The judge program prints"
 abbrev pub judgePrintout : JudgeAnswer → List ℕ → List ℕ

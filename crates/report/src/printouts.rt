@@ -113,19 +113,20 @@ pub fn check(answer: CheckAnswer, out: &mut [u8]) -> usize
 }
 
 fn counts(out: &mut [u8], c: Counts) -> usize
-    requires { ⌜ 160 ≤ length (now out) ⌝ }
-    ensures { λ r. ⌜ Put 160 (countLines c) (now (out .entry)) 0 (now (out .exit)) r ⌝ }
+    requires { ⌜ 192 ≤ length (now out) ⌝ }
+    ensures { λ r. ⌜ Put 192 (countLines c) (now (out .entry)) 0 (now (out .exit)) r ⌝ }
 {
     let f = lines::line(out, 0, b"facts=", c.facts as u64);
     let g = lines::line(out, f, b"formulas=", c.formulas as u64);
     let m = lines::line(out, g, b"moves=", c.moves as u64);
     let e = lines::line(out, m, b"effects=", c.effects as u64);
-    lines::line(out, e, b"program=", c.program as u64)
+    let o = lines::line(out, e, b"objects=", c.objects as u64);
+    lines::line(out, o, b"program=", c.program as u64)
 }
 
 // What reading a job prints.
 pub fn read(answer: ReadAnswer, out: &mut [u8]) -> usize
-    requires { ⌜ 160 ≤ length (now out) ⌝ }
+    requires { ⌜ 192 ≤ length (now out) ⌝ }
     ensures { λ r. ⌜ Prints (readPrintout answer) (now (out .exit)) r ⌝ }
 {
     match answer {

@@ -9,7 +9,7 @@ use Rattle.report.proofs.printouts.read.Tie as tie
 returns : tie.Need-returns
 returns c =
     let at5 = c .before .before .before .before .before in
-    put-prints (omega arith) (put-as 160 (sym (ap readPrintout (at5 .answer .given .1))) (omega arith) (c .before .before .counts .ensures))
+    put-prints (omega arith) (put-as 192 (sym (ap readPrintout (at5 .answer .given .1))) (omega arith) (c .before .before .counts .ensures))
 
 returns-2 : tie.Need-returns-2
 returns-2 c =
