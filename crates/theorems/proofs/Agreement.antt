@@ -9,13 +9,13 @@ use lib.ListN.{length}
 use Rattle.laws.proofs.Tests.{never}
 use Rattle.job.specs.Job.{Job}
 use Rattle.job.specs.Task.{Task, atHouseCosts}
-use Rattle.semantics.specs.CompilingTable.{Step, end, stepsIn}
+use Rattle.semantics.specs.CompilingTable.{Step, stepsIn}
 use Rattle.semantics.specs.Agreement.{Agrees}
 use Rattle.semantics.proofs.Agreement.{agreement}
 use Rattle.semantics.proofs.FlatLaws.{laid-back}
 use Rattle.domain.specs.Domain.{domainOf}
 use Rattle.compile.specs.Program.{programOf}
-use Rattle.compile.specs.CompiledJob.{stepsOf, stepCount}
+use Rattle.compile.specs.CompiledJob.{stepsOf, finalPositionOf, stepCount}
 use Rattle.load.specs.Refusals.{Checked, passed, listNeed, loading}
 use Rattle.load.specs.View.{View}
 use Rattle.jesmovit.specs.Compiling.{compiling, listIn, Compiles}
@@ -31,7 +31,7 @@ module _ (text : List ℕ) (t : Task) (accepted : AcceptedJob text (t .job)) whe
 
   -- "a plan of the compiled job, bookkeeping dropped, is allowed by the program on the original
   -- job, and every allowed plan comes from one"
-  pub accepted-plans-agree : Agrees (domainOf t) (programOf (t .job)) (stepsOf (t .job)) (end (programOf (t .job)) 0)
+  pub accepted-plans-agree : Agrees (domainOf t) (programOf (t .job)) (stepsOf (t .job)) (finalPositionOf (t .job))
   accepted-plans-agree = agreement (domainOf t) (programOf j)
 
   -- a list that is long enough, and whatever answer and list meet the promise of compiling
@@ -54,5 +54,5 @@ module _ (text : List ℕ) (t : Task) (accepted : AcceptedJob text (t .job)) whe
         ∙ laid-back (stepsOf j) list long
 
     -- the same of the steps that it holds after compiling
-    pub compiled-plans-agree : Agrees (domainOf t) (programOf (t .job)) (stepsIn (stepCount (t .job)) after) (end (programOf (t .job)) 0)
-    compiled-plans-agree = subst (λ (L : List Step). Agrees (domainOf t) (programOf j) L (end (programOf j) 0)) (sym list-holds) accepted-plans-agree
+    pub compiled-plans-agree : Agrees (domainOf t) (programOf (t .job)) (stepsIn (stepCount (t .job)) after) (finalPositionOf (t .job))
+    compiled-plans-agree = subst (λ (L : List Step). Agrees (domainOf t) (programOf j) L (finalPositionOf j)) (sym list-holds) accepted-plans-agree

@@ -14,7 +14,6 @@ use Rattle.laws.proofs.Tests.{never, cond-some}
 use Rattle.limits.specs.Limits.{mostCost}
 use Rattle.job.specs.Task.{Task, CostsWithin}
 use Rattle.semantics.specs.Domain.{Domain}
-use Rattle.semantics.specs.CompilingTable.{end}
 use Rattle.semantics.specs.Verdict.{Verdict, plan, blocked, unfinished, missed, Judged, byRuns}
 use Rattle.semantics.specs.CostTable.{unreached, Filled, LeastOr}
 use Rattle.semantics.specs.Cells.{cell, Graph}
@@ -23,7 +22,7 @@ use Rattle.semantics.specs.Judgement.{Judgement, other, Finds, is-other}
 use Rattle.domain.specs.Domain.{domainOf}
 use Rattle.domain.proofs.DomainLaws.{domain-bounded}
 use Rattle.compile.specs.Program.{programOf}
-use Rattle.compile.specs.CompiledJob.{stepsOf, positionCount}
+use Rattle.compile.specs.CompiledJob.{stepsOf, finalPositionOf, positionCount}
 use Rattle.validate.specs.declared.verdict.Verdict.the-variants.{Plan}
 use Rattle.search.specs.Filling.{Lowest, Lower, kept, lower}
 use Rattle.search.proofs.GraphLaws.{compiled-closed}
@@ -65,7 +64,7 @@ abbrev tableOf : Task → List ℕ
 tableOf t = computedTable (graphOf t) 10
 
 abbrev leastOf : Task → ℕ
-leastOf t = lowestBelow (domainOf t) (positionCount (t .job)) (tableOf t) (end (programOf (t .job)) 0) (domainOf t .states)
+leastOf t = lowestBelow (domainOf t) (positionCount (t .job)) (tableOf t) (finalPositionOf (t .job)) (domainOf t .states)
 
 -- a list of moves of this verdict; none where more rounds are needed
 unfoldable pub computedJudgement : Task → Verdict → Option Judgement

@@ -29,7 +29,7 @@ use Rattle.job.specs.declared.head.Counts.{Counts}
 use Rattle.job.specs.declared.fields.Field.{Field}
 use Rattle.job.specs.declared.fields.Field.the-variants as F
 use Rattle.job.specs.declared.line.Heading.{Heading}
-use Rattle.job.specs.declared.line.Heading.the-variants.{Job, Facts, Init, Formulas, Moves, Goal, Program}
+use Rattle.job.specs.declared.line.Heading.the-variants.{Job, Facts, Init, Formulas, Moves, Goal, Objects, Program}
 use Rattle.job.specs.declared.line.RowSort.{RowSort}
 use Rattle.job.specs.declared.line.RowSort.the-variants.{Formula, Move, Effect, Row}
 use Rattle.job.specs.declared.line.Line.{Line}

@@ -8,7 +8,7 @@ use Rattle.limits.specs.Limits.{mostPositions, mostSteps}
 use Rattle.job.specs.Job.{Job}
 use Rattle.job.specs.Task.{Task, houseCosts}
 use Rattle.job.specs.WellFormed.{WellFormed}
-use Rattle.compile.specs.CompiledJob.{positionCount, stepCount}
+use Rattle.compile.specs.CompiledJob.{positionCount, stepCount, hasPicks}
 use Rattle.lists.specs.PlanText.{IsPlanText}
 use Rattle.lists.specs.CostsText.{IsCostsText}
 use Rattle.load.specs.Refusals.{Handed, Offer, keyFor, boundFor, listNeed, tableNeed}
@@ -16,10 +16,11 @@ use Rattle.load.specs.declared.request.Given.{Given}
 use Rattle.load.specs.declared.request.Sort.{Sort}
 use Rattle.theorems.specs.JobText.{jobText}
 
--- no reason from 1 to 4 refuses the text of a well-formed job: "At most 256 positions and 1,024
--- steps."
+-- no reason from 1 to 4, nor 8, refuses the text of a well-formed job whose program has a pick for
+-- each variable: "At most 256 positions and 1,024 steps."
 pub record AcceptedJob (text : List ℕ) (j : Job) : Type 0 where
   pub right : WellFormed j
+  pub picks : hasPicks j ≡ true
   pub positions : positionCount j ≤ mostPositions
   pub steps : stepCount j ≤ mostSteps
   pub written : text ≡ jobText j

@@ -7,7 +7,7 @@ use Rattle.job.specs.Job as J
 use Rattle.job.specs.Line.{formOf}
 use Rattle.job.specs.declared.line.Line.{Line}
 use Rattle.job.specs.declared.line.Line.the-variants.{One, Of}
-use Rattle.job.specs.declared.line.Heading.the-variants.{Job, Facts, Init, Formulas, Moves, Goal, Program}
+use Rattle.job.specs.declared.line.Heading.the-variants.{Job, Facts, Init, Formulas, Moves, Goal, Objects, Program}
 use Rattle.job.specs.declared.line.RowSort.the-variants.{Formula, Move, Effect, Row}
 
 abbrev pub lineOf : Line → List ℕ → List ℕ
@@ -31,7 +31,11 @@ moveLines [] es = []
 moveLines (m ∷ ms) es = moveLine m ∷ (map effectLine (take (m .effects) es) ++ moveLines ms (drop (m .effects) es))
 
 abbrev pub programLines : J.Job → List (List ℕ)
-programLines j = lineOf (One Goal) (j .scalars .goal ∷ []) ∷ lineOf (One Program) (length (j .program) ∷ []) ∷ map rowLine (j .program)
+programLines j =
+    lineOf (One Goal) (j .scalars .goal ∷ [])
+    ∷ lineOf (One Objects) (j .scalars .objects ∷ [])
+    ∷ lineOf (One Program) (length (j .program) ∷ [])
+    ∷ map rowLine (j .program)
 
 abbrev pub jobLines : J.Job → List (List ℕ)
 jobLines j =

@@ -39,31 +39,31 @@ priced c costs = record {
   says = c .says;
 }
 
--- "The sample", with this init, this goal and this program
+-- "The sample", with this init, this goal and objects, and this program; "marked cases carry 0"
 abbrev pub sampleWith : String → String → String → List ℕ
 sampleWith init goal program =
     bytes "job=1\nfacts=2\n" ++ bytes init
     ++ bytes "formulas=4\nf=1,0,0\nf=2,0,0\nf=2,1,0\nf=3,1,0\nmoves=2\nm=0,3,1\ne=0,1,1\nm=2,1,1\ne=0,0,1\n" ++ bytes goal ++ bytes program
 
 abbrev pub sample : List ℕ
-sample = sampleWith "init=0\n" "goal=1\n" "program=3\np=1,0,0,0\np=1,1,0,0\np=4,0,1,0\n"
+sample = sampleWith "init=0\n" "goal=1\nobjects=0\n" "program=3\np=1,0,0,0\np=1,1,0,0\np=4,0,1,0\n"
 
 -- "With recipe star of (0 or 1), 8 positions and 9 steps"
 abbrev pub starOfChoice : List ℕ
-starOfChoice = sampleWith "init=0\n" "goal=1\n" "program=4\np=1,0,0,0\np=1,1,0,0\np=6,0,1,0\np=8,2,0,0\n"
+starOfChoice = sampleWith "init=0\n" "goal=1\nobjects=0\n" "program=4\np=1,0,0,0\np=1,1,0,0\np=6,0,1,0\np=8,2,0,0\n"
 
 -- "With star of (while formula 3 do 0), 6 positions"
 abbrev pub starOfWhile : List ℕ
-starOfWhile = sampleWith "init=0\n" "goal=1\n" "program=3\np=1,0,0,0\np=7,3,0,0\np=8,1,0,0\n"
+starOfWhile = sampleWith "init=0\n" "goal=1\nobjects=0\n" "program=3\np=1,0,0,0\np=7,3,0,0\np=8,1,0,0\n"
 
 -- "With init 0, goal fact 0 and one move of precondition true that clears and sets fact 0, recipe
 -- that move"; the clearing comes last in the text
 abbrev clearsAndSets : List ℕ
-clearsAndSets = bytes "job=1\nfacts=1\ninit=0\nformulas=2\nf=1,0,0\nf=2,0,0\nmoves=1\nm=0,1,2\ne=0,0,1\ne=0,0,0\ngoal=1\nprogram=1\np=1,0,0,0\n"
+clearsAndSets = bytes "job=1\nfacts=1\ninit=0\nformulas=2\nf=1,0,0\nf=2,0,0\nmoves=1\nm=0,1,2\ne=0,0,1\ne=0,0,0\ngoal=1\nobjects=0\nprogram=1\np=1,0,0,0\n"
 
 -- "init=1 and recipe nil"
 abbrev nilProgram : List ℕ
-nilProgram = sampleWith "init=1\n" "goal=1\n" "program=1\np=0,0,0,0\n"
+nilProgram = sampleWith "init=1\n" "goal=1\nobjects=0\n" "program=1\np=0,0,0,0\n"
 
 -- "Marked, on the sample"
 unfoldable pub marked : List Case
@@ -101,7 +101,7 @@ pricedCases =
 abbrev clearsAnd : String → String → String → List ℕ
 clearsAnd effect init formula =
     bytes "job=1\nfacts=1\n" ++ bytes init ++ bytes "formulas=4\nf=1,0,0\n" ++ bytes formula ++ bytes "f=2,0,0\nf=3,2,0\nmoves=1\nm=0,1,2\n"
-    ++ bytes effect ++ bytes "e=0,0,0\ngoal=3\nprogram=1\np=1,0,0,0\n"
+    ++ bytes effect ++ bytes "e=0,0,0\ngoal=3\nobjects=0\nprogram=1\np=1,0,0,0\n"
 
 -- "a move can't be made in a world where its effects that hold both clear and set one fact": the one
 -- that sets it holds where the fact is true before, or nowhere; and to clear a fact twice is no conflict

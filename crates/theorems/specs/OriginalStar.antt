@@ -16,12 +16,12 @@ use Rattle.domain.specs.Domain.{domainOf}
 use Rattle.compile.specs.Program.{programOf}
 
 -- where it ends
-abbrev pub originalEnd : Program → ℕ → ℕ
-originalEnd a n = suc (end a n)
+abbrev pub originalEnd : Domain → Program → ℕ → ℕ
+originalEnd D a n = suc (end (D .objects) a n)
 
--- its steps, where the job has M moves
-abbrev pub originalSteps : ℕ → Program → ℕ → List Step
-originalSteps M a n = steps M a n ++ (arc noop n (originalEnd a n) ∷ arc noop (end a n) n ∷ [])
+-- its steps
+abbrev pub originalSteps : Domain → Program → ℕ → List Step
+originalSteps D a n = steps (D .moves) (D .objects) [] a n ++ (arc noop n (originalEnd D a n) ∷ arc noop (end (D .objects) a n) n ∷ [])
 
 abbrev houseDomain : Job → Domain
 houseDomain j = domainOf (atHouseCosts j)
@@ -37,6 +37,6 @@ pub record StarFails (text moves : List ℕ) : Type 0 where
   -- some path with these moves reaches the final position
   pub numbers : List ℕ
   pub last : ℕ
-  pub path : Path (houseDomain job) (originalSteps (houseDomain job .moves) body 0) (houseDomain job .start) 0 numbers moves last (originalEnd body 0)
+  pub path : Path (houseDomain job) (originalSteps (houseDomain job) body 0) (houseDomain job .start) 0 numbers moves last (originalEnd (houseDomain job) body 0)
   -- no run of the program that makes them leaves nil
   pub no-run : (t : ℕ) → Run (houseDomain job) (houseDomain job .start) (programOf job) moves t nil → ⊥

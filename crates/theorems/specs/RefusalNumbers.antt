@@ -9,9 +9,14 @@ use Rattle.load.specs.Refusals.{Handed}
 abbrev pub UpTo : ℕ → ℕ → Type 0
 UpTo last number = (1 ≤ number) × (number ≤ last)
 
--- the texts: 1 to 4; 7 where a costs text is given; 5 where there is a plan text
+-- a job text: 1 to 4, and 8
+pub data JobNumber : ℕ → Type 0 where
+  of-line : {number : ℕ} → UpTo 4 number → JobNumber number
+  of-variable : JobNumber 8
+
+-- the texts: those; 7 where a costs text is given; 5 where there is a plan text
 pub data TextNumber (h : Handed) : ℕ → Type 0 where
-  of-job : {number : ℕ} → UpTo 4 number → TextNumber h number
+  of-job : {number : ℕ} → JobNumber number → TextNumber h number
   of-costs : h .request .given .costs ≡ true → TextNumber h 7
   of-plan : h .request .plan ≡ true → TextNumber h 5
 
