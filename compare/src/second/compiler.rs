@@ -191,10 +191,6 @@ impl Compiler<'_> {
 
     /// The object of an enclosing pick, 0 being the nearest.
     fn object(&self, pick: u16) -> u16 {
-        let from_outermost = match self.fault {
-            Fault::NearestForOutermost => usize::from(pick),
-            _ => self.objects.len() - 1 - usize::from(pick),
-        };
-        self.objects[from_outermost]
+        self.objects[self.objects.len() - 1 - usize::from(pick)]
     }
 }

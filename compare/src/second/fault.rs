@@ -46,7 +46,7 @@ pub enum Fault {
     LastDoubling,
     /// A pick's copies are compiled for the last object first.
     ObjectOrder,
-    /// The variable 0 is of the outermost pick.
+    /// In runs of the program the variable 0 is of the outermost pick.
     NearestForOutermost,
 }
 

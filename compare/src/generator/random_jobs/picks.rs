@@ -10,7 +10,7 @@ impl Sketch<'_> {
         let depth = self.depth();
         let row = self.variable(depth);
         let mut body = self.program.add(row);
-        let outermost = if self.random.chance(60) { 2 } else { 1 };
+        let outermost = if self.random.chance(100) { 2 } else { 1 };
         for picks in (outermost..=depth).rev() {
             while self.program.rows.len() + usize::from(picks) + 2 <= MOST_ROWS.into() && self.random.chance(400) {
                 body = self.beside(body, picks);
@@ -62,7 +62,7 @@ impl Sketch<'_> {
 
     /// Puts picks around the program until each variable has its own; a few times one too few.
     pub fn close(&mut self) {
-        let missing = u16::from(self.random.chance(60));
+        let missing = u16::from(self.random.chance(100));
         while self.program.wanted(self.program.last()) > missing && self.program.rows.len() < MOST_ROWS.into() {
             self.program.add(pick(self.program.last()));
         }

@@ -33,12 +33,12 @@ enum ProgramStyle {
 pub fn random_program(random: &mut Random, job: &Job) -> Vec<Row> {
     let style = random.weighted(&[
         (380, ProgramStyle::Mixed),
-        (280, ProgramStyle::Staged),
+        (290, ProgramStyle::Staged),
         (100, ProgramStyle::Loops),
         (70, ProgramStyle::AnyStar),
         (30, ProgramStyle::Free),
         (10, ProgramStyle::Doubling),
-        (100, ProgramStyle::Picks),
+        (if job.objects == 0 { 20 } else { 140 }, ProgramStyle::Picks),
         (15, ProgramStyle::AtPositions),
         (15, ProgramStyle::AtSteps),
     ]);
