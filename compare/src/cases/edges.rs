@@ -9,6 +9,7 @@ use crate::second::compiler::{MOST_POSITIONS, MOST_STEPS};
 use crate::second::domain::clear_and_set;
 use crate::second::job::*;
 use crate::second::reader::read_costs;
+use crate::second::scope::is_variable;
 use crate::second::sheet::PAGE_LINES;
 
 /// A limit, and whether a case meets it.
@@ -50,11 +51,11 @@ pub const EDGES: [Edge; 75] = [
     ("base of a test one more", |look| look.base_too_great(11)),
     ("variable in unused row", |look| look.leaves(is_variable)),
     ("plan by a later object", |look| look.plan_by_later_object()),
-    ("free variable", |look| look.free(|_, _| true)),
-    ("free, 0 objects", |look| look.free(|job, _| job.objects == 0)),
-    ("free and too large", |look| look.free(|_, size| !size.fits())),
-    ("free and bad costs", |look| look.free(|_, _| true) && look.costs_are_bad()),
-    ("free and bad moves", |look| look.free(|_, _| true) && look.moves_are_bad()),
+    ("free variable", |look| look.free(|_| true)),
+    ("free in an empty pick", |look| look.free_in_empty_pick()),
+    ("free and too large", |look| look.free(|size| !size.fits())),
+    ("free and bad costs", |look| look.free(|_| true) && look.costs_are_bad()),
+    ("free and bad moves", |look| look.free(|_| true) && look.moves_are_bad()),
     ("0 rows", |look| look.refused_line == Some(b"program=0")),
     ("128 rows", |look| look.job(|job| job.rows.len() == usize::from(MOST_ROWS))),
     ("129 rows", |look| look.refused_line == Some(b"program=129")),
@@ -102,8 +103,4 @@ pub const EDGES: [Edge; 75] = [
 pub fn edges(case: &Case) -> [bool; EDGES.len()] {
     let look = Look::at(case);
     EDGES.map(|(_, meets)| meets(&look))
-}
-
-fn is_variable(row: &[u16; 4]) -> bool {
-    matches!(row[0], 10 | 11)
 }

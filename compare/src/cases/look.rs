@@ -8,7 +8,7 @@ use crate::second::fault::Fault;
 use crate::second::job::*;
 use crate::second::reader::{read_costs, read_job, read_plan};
 use crate::second::runs::Runs;
-use crate::second::scope::{fewest_picks, has_free_variable};
+use crate::second::scope::{fewest_picks, has_free_variable, is_variable};
 use crate::second::verdict::Verdict;
 
 /// A plan text as it is read.
@@ -107,9 +107,17 @@ impl Look<'_> {
         self.job.as_ref().is_some_and(|own| !own.free && holds(own.size, own.job.facts))
     }
 
-    /// Whether a variable is free, and something holds of the job and the program's size.
-    pub fn free(&self, holds: impl Fn(&Job, Size) -> bool) -> bool {
-        self.job.as_ref().is_some_and(|own| own.free && holds(&own.job, own.size))
+    /// Whether a variable is free, and something holds of the program's size.
+    pub fn free(&self, holds: impl Fn(Size) -> bool) -> bool {
+        self.job.as_ref().is_some_and(|own| own.free && holds(own.size))
+    }
+
+    /// Whether a variable is free that stands inside a pick over no object.
+    pub fn free_in_empty_pick(&self) -> bool {
+        let is_free = |(row, picks): (&[u16; 4], Option<u16>)| {
+            is_variable(row) && picks.is_some_and(|picks| picks > 0 && row[2] >= picks)
+        };
+        self.job.as_ref().is_some_and(|own| own.job.objects == 0 && own.rows().any(is_free))
     }
 
     pub fn compiles(&self) -> bool {
@@ -139,10 +147,12 @@ impl Look<'_> {
 
     /// Whether the job is refused for a variable of this kind whose base is one more than that.
     pub fn base_too_great(&self, kind: usize) -> bool {
+        let Some([own_kind, base, ..]) = self.wrong_line.and_then(variable_of) else {
+            return false;
+        };
         let lines: Vec<&[u8]> = self.case.job.split_inclusive(|byte| *byte == b'\n').collect();
         let count = number_of(&lines, if kind == 10 { "moves" } else { "formulas" });
-        let sum = |row: [usize; 4]| row[1] + number_of(&lines, "objects");
-        self.wrong_line.and_then(variable_of).is_some_and(|row| row[0] == kind && sum(row) == count + 1)
+        own_kind == kind && base + number_of(&lines, "objects") == count + 1
     }
 
     /// Whether a costs text is handed in and read, for a job that compiles, and something holds of the costs.

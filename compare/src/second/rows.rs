@@ -27,8 +27,7 @@ impl Rows {
         self.rows[number]
     }
 
-    /// The body of a pick, by its number, with an object put in for the pick's variable, which inside another pick has
-    /// the next number.
+    /// The body of a pick with an object put in for the pick's variable, which is 0, and inside another pick one more.
     pub fn put_in(&mut self, body: usize, object: usize) -> usize {
         let put = |[kind, a, b, c]: Row, picks: usize| match kind {
             10 if b == picks => [1, a + object, 0, 0],
@@ -38,14 +37,13 @@ impl Rows {
         self.change(body, 0, &put, &mut HashMap::new())
     }
 
-    /// Fault: a program with its variables numbered from the outermost pick.
+    /// Fault: a program whose variables counted from the outermost pick, counted from the nearest.
     pub fn turn(&mut self, program: usize) -> usize {
         let turned = |[kind, a, b, c]: Row, picks: usize| [kind, a, picks - 1 - b, c];
         self.change(program, 0, &turned, &mut HashMap::new())
     }
 
-    /// The number of a row whose variables are changed; `picks` of those around it count. What is `done` is not done
-    /// again.
+    /// The row that comes of a row inside so many picks when its variables are changed; what is `done` is not done again.
     fn change(&mut self, row: usize, picks: usize, change: Change, done: &mut HashMap<[usize; 2], usize>) -> usize {
         if let Some(number) = done.get(&[row, picks]) {
             return *number;

@@ -23,8 +23,12 @@ pub fn fewest_picks(job: &Job) -> Vec<Option<u16>> {
 
 /// Whether a row that the program reaches has a variable with too few enclosing picks.
 pub fn has_free_variable(job: &Job) -> bool {
-    let is_free = |([kind, _, b, _], around): (&[u16; 4], Option<u16>)| {
-        matches!(kind, 10 | 11) && around.is_some_and(|around| *b >= around)
-    };
+    let is_free =
+        |(row, around): (&[u16; 4], Option<u16>)| is_variable(row) && around.is_some_and(|around| row[2] >= around);
     job.rows.iter().zip(fewest_picks(job)).any(is_free)
+}
+
+/// Whether a row is a move or a test of an object.
+pub fn is_variable(row: &[u16; 4]) -> bool {
+    matches!(row[0], 10 | 11)
 }

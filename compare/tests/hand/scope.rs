@@ -122,7 +122,7 @@ fn after_1_to_3() {
     all(sample_over(2, &[[10, 0, 0, 0], [9, 1, 0, 0]]), 3, 18);
 }
 
-/// Every operation refuses the sample with this row, and a pick around it, by 3, or each but reading accepts it.
+/// The sample with this row and a pick around it compiles, or is refused by 3.
 fn row_is_right(objects: u16, row: [u16; 4], right: bool) {
     let job = sample_over(objects, &[row, [9, 0, 0, 0]]);
     if right {
