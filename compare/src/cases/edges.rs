@@ -1,6 +1,6 @@
 //! Which limits of documents 01 and 02 a case meets, or passes by one; which costs texts it has, and which bad texts
-//! beside each other; where effects conflict; which picks and variables its program has; how its moves fill the pages of
-//! a sheet.
+//! beside each other; where effects conflict; which picks and variables its program has; how its moves fill the pages
+//! of a sheet.
 
 use super::costs::GREATEST_COSTS;
 use super::look::{is_cost, is_longest, Look};

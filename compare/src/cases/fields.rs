@@ -37,13 +37,14 @@ pub fn change_fields(random: &mut Random, lines: &mut [Vec<u8>]) {
     }
 }
 
-/// Gives a move or a test of an object a base at its limit or one past it, or a pick that is one further out.
+/// Gives a move or a test of an object a base at its limit or one past it, or a pick that is one further out; where
+/// there is none, any fields are changed.
 pub fn change_variable(random: &mut Random, lines: &mut [Vec<u8>]) {
     let [moves, formulas, objects] = ["moves", "formulas", "objects"].map(|key| number_of(lines, key));
     let variables: Vec<(usize, [usize; 4])> =
         lines.iter().enumerate().filter_map(|(place, line)| Some((place, variable_of(line)?))).collect();
     if variables.is_empty() {
-        return;
+        return change_fields(random, lines);
     }
     let (place, [kind, base, pick, _]) = random.pick(&variables);
     let count = if kind == 10 { moves } else { formulas };

@@ -154,7 +154,7 @@ fn formula_is_right([kind, a, b]: [u16; 3], facts: u16, earlier: u16) -> bool {
     }
 }
 
-/// Whether kind, references and unused fields of a program row are right. Which pick a variable is of is not asked here.
+/// Whether kind, references and unused fields of a program row are right. Which pick a variable is of isn't asked here.
 fn row_is_right(row: [u16; 4], bounds: Bounds, earlier: usize) -> bool {
     let Bounds { formulas, moves, objects } = bounds;
     let [kind, a, b, c] = row.map(usize::from);

@@ -1,5 +1,5 @@
-//! Residual programs and their transitions, by the section of document 01 on what a program allows, and by equation (13)
-//! of document 003 for a pick. No positions occur here.
+//! Residual programs and their transitions, by the section of document 01 on what a program allows, and for a pick by
+//! equation (13) of document 003. No positions occur here.
 
 use std::collections::HashMap;
 

@@ -43,7 +43,7 @@ impl Rows {
         self.change(program, 0, &turned, &mut HashMap::new())
     }
 
-    /// The row that comes of a row inside so many picks when its variables are changed; what is `done` is not done again.
+    /// What becomes of a row inside so many picks when its variables are changed; what is `done` is not done again.
     fn change(&mut self, row: usize, picks: usize, change: Change, done: &mut HashMap<[usize; 2], usize>) -> usize {
         if let Some(number) = done.get(&[row, picks]) {
             return *number;

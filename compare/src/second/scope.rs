@@ -1,4 +1,4 @@
-//! Which rows the program reaches, inside how many picks, and whether one of its variables is of a pick that isn't there.
+//! Which rows the program reaches, inside how many picks, and whether one of its variables has too few of them.
 
 use super::job::{part_fields, Job};
 

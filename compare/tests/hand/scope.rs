@@ -1,5 +1,5 @@
-//! Variables and their picks, request (f) of document 02: refusal 8, its place in the order of refusals, and the bounds of
-//! the objects line and of rows with a variable.
+//! Variables and their picks, request (f) of document 02: refusal 8, its place in the order of refusals, and the bounds
+//! of the objects line and of rows with a variable.
 
 use jesmovit_compare::answer::{Answer, COSTS, LEAST};
 use jesmovit_compare::comparison::operation::Operation::*;

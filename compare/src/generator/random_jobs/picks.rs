@@ -39,8 +39,8 @@ impl Sketch<'_> {
         body
     }
 
-    /// A move or a test of the object of one of so many enclosing picks, mostly of the nearest or of the outermost; a row
-    /// without a variable where there are more objects than moves and formulas.
+    /// A move or a test of the object of one of so many enclosing picks, mostly of the nearest or of the outermost; a
+    /// row without a variable where there are more objects than moves and formulas.
     pub fn variable(&mut self, picks: u16) -> Row {
         let any = self.random.below_u16(picks);
         let pick = self.random.weighted(&[(5, 0), (3, picks - 1), (2, any)]);
@@ -53,7 +53,7 @@ impl Sketch<'_> {
         }
     }
 
-    /// A number that becomes one of so many moves or formulas by every object that is added; often the last such number.
+    /// A number that becomes one of so many moves or formulas by every object that is added; often the last such one.
     fn base(&mut self, count: usize) -> Option<u16> {
         let last = count.checked_sub(self.job.objects.into())?;
         let any = self.random.between(0, last);

@@ -63,7 +63,7 @@ impl Sketch<'_> {
         self.program.size(self.program.last())
     }
 
-    /// Rows of all kinds, of which none is longer than a bound; the last is the longest whose variables have their picks.
+    /// Rows of all kinds, of which none is longer than a bound; the last is the longest whose variables have picks.
     pub fn mixed(&mut self, facts: u16) {
         let usual = if facts > 8 { (4, 14) } else { (4, 30) };
         let bound = self.random.ranged(&[(850, usual), (130, (30, 80)), (20, (80, 255))]) as u64;
