@@ -1,6 +1,6 @@
 //! Damage done to texts.
 
-use super::fields::change_fields;
+use super::fields::{change_fields, change_variable};
 use crate::generator::random::Random;
 
 /// Bytes that take another's place.
@@ -22,6 +22,7 @@ const TAILS: [&[u8]; 11] =
 #[derive(Clone, Copy)]
 enum Damage {
     Fields,
+    Variable,
     Number,
     Count,
     Byte,
@@ -36,6 +37,7 @@ pub fn damage(random: &mut Random, text: &mut Vec<u8>) {
     for _ in 0..random.ranged(&[(850, (1, 1)), (150, (2, 4))]) {
         let kind = random.weighted(&[
             (260, Damage::Fields),
+            (60, Damage::Variable),
             (200, Damage::Number),
             (40, Damage::Count),
             (160, Damage::Byte),
@@ -46,6 +48,7 @@ pub fn damage(random: &mut Random, text: &mut Vec<u8>) {
         ]);
         match kind {
             Damage::Fields => by_lines(random, text, |random, lines| change_fields(random, lines)),
+            Damage::Variable => by_lines(random, text, |random, lines| change_variable(random, lines)),
             Damage::Number => change_number(random, text, |_| true),
             Damage::Count => change_number(random, text, follows_long_key),
             Damage::Byte => change_byte(random, text),

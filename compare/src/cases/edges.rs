@@ -1,22 +1,22 @@
 //! Which limits of documents 01 and 02 a case meets, or passes by one; which costs texts it has, and which bad texts
-//! beside each other; where effects conflict; how its moves fill the pages of a sheet.
+//! beside each other; where effects conflict; which picks and variables its program has; how its moves fill the pages
+//! of a sheet.
 
 use super::costs::GREATEST_COSTS;
+use super::look::{is_cost, is_longest, Look};
 use super::Case;
-use crate::second::compiler::{program_size, Size, MOST_POSITIONS, MOST_STEPS};
-use crate::second::domain::{clear_and_set, Domain};
-use crate::second::fault::Fault;
+use crate::second::compiler::{MOST_POSITIONS, MOST_STEPS};
+use crate::second::domain::clear_and_set;
 use crate::second::job::*;
-use crate::second::reader::{read_costs, read_job, read_plan};
-use crate::second::runs::Runs;
+use crate::second::reader::read_costs;
+use crate::second::scope::is_variable;
 use crate::second::sheet::PAGE_LINES;
-use crate::second::verdict::Verdict;
 
 /// A limit, and whether a case meets it.
 type Edge = (&'static str, fn(&Look) -> bool);
 
 /// The limits, in the order in which they are printed.
-pub const EDGES: [Edge; 54] = [
+pub const EDGES: [Edge; 75] = [
     ("0 facts", |look| look.job(|job| job.facts == 0)),
     ("12 facts", |look| look.job(|job| job.facts == MOST_FACTS)),
     ("13 facts", |look| look.refused_line == Some(b"facts=13")),
@@ -36,6 +36,26 @@ pub const EDGES: [Edge; 54] = [
     ("conflict if all held", |look| look.plan_with(|action| clear_and_set(&action.effects))),
     ("class 15", |look| look.job(|job| job.moves.iter().any(|action| action.class == CLASSES - 1))),
     ("any over 0 moves", |look| look.job(|job| job.moves.is_empty() && job.rows.iter().any(|row| row[0] == 2))),
+    ("17 objects", |look| look.refused_line == Some(b"objects=17")),
+    ("pick over 0 objects", |look| look.reaches(|job, row, _| row[0] == 9 && job.objects == 0)),
+    ("pick over 1 object", |look| look.reaches(|job, row, _| row[0] == 9 && job.objects == 1)),
+    ("pick over 16 objects", |look| look.reaches(|job, row, _| row[0] == 9 && job.objects == MOST_OBJECTS)),
+    ("6 picks deep, 2 objects", |look| look.reaches(|job, _, picks| picks == 6 && job.objects == 2)),
+    ("127 picks deep", |look| look.reaches(|_, _, picks| picks == MOST_ROWS - 1)),
+    ("move of an object", |look| look.reaches(|job, row, _| row[0] == 10 && job.objects > 0)),
+    ("test of an object", |look| look.reaches(|job, row, _| row[0] == 11 && job.objects > 0)),
+    ("object of an outer pick", |look| look.reaches(|job, row, _| is_variable(row) && row[2] > 0 && job.objects > 1)),
+    ("greatest base of a move", |look| look.greatest_base(10)),
+    ("greatest base of a test", |look| look.greatest_base(11)),
+    ("base of a move one more", |look| look.base_too_great(10)),
+    ("base of a test one more", |look| look.base_too_great(11)),
+    ("variable in unused row", |look| look.leaves(is_variable)),
+    ("plan by a later object", |look| look.plan_by_later_object()),
+    ("free variable", |look| look.free(|_| true)),
+    ("free in an empty pick", |look| look.free_in_empty_pick()),
+    ("free and too large", |look| look.free(|size| !size.fits())),
+    ("free and bad costs", |look| look.free(|_| true) && look.costs_are_bad()),
+    ("free and bad moves", |look| look.free(|_| true) && look.moves_are_bad()),
     ("0 rows", |look| look.refused_line == Some(b"program=0")),
     ("128 rows", |look| look.job(|job| job.rows.len() == usize::from(MOST_ROWS))),
     ("129 rows", |look| look.refused_line == Some(b"program=129")),
@@ -67,7 +87,8 @@ pub const EDGES: [Edge; 54] = [
     ("cost of wrong form", |look| look.bad_costs(|place, line| place > 1 && line.is_some_and(|line| !is_cost(line)))),
     ("cost missing", |look| look.bad_costs(|place, line| place > 1 && line.is_none())),
     ("cost extra", |look| look.bad_costs(|place, line| place == 18 && line.is_some_and(is_cost))),
-    ("bad job and costs", |look| look.job.is_none() && look.costs_are_bad()),
+    ("bad job and costs", |look| !look.job(|_| true) && look.costs_are_bad()),
+    ("too large and bad moves", |look| look.size(|size, _| !size.fits()) && look.moves_are_bad()),
     ("too large and bad costs", |look| look.size(|size, _| !size.fits()) && look.costs_are_bad()),
     ("bad costs and moves", |look| look.costs_are_bad() && matches!(look.moves(), Some(Err(_)))),
     ("bad costs and steps", |look| look.costs_are_bad() && matches!(look.steps(), Some(Err(_)))),
@@ -78,134 +99,8 @@ pub const EDGES: [Edge; 54] = [
     ("sheet of 4000 moves", |look| look.laid(|moves| moves == usize::from(MOST_ENTRIES))),
 ];
 
-/// A plan text as it is read.
-type Plan = Result<Vec<u16>, Refusal>;
-
-/// A job, and the size of its program.
-struct Measured {
-    job: Job,
-    size: Size,
-}
-
-/// A case, with its job where it is read, and otherwise the line that is refused by reason 2; and with its costs text
-/// as it is read, where one is handed in.
-pub struct Look<'a> {
-    case: &'a Case,
-    job: Option<Measured>,
-    refused_line: Option<&'a [u8]>,
-    costs: Option<Result<ClassCosts, Refusal>>,
-}
-
 /// Whether the case meets each limit.
 pub fn edges(case: &Case) -> [bool; EDGES.len()] {
-    let read = read_job(&case.job);
-    let refused_line = match read {
-        Err(Refusal { number: 2, place }) => line_of(&case.job, place),
-        _ => None,
-    };
-    let job = read.ok().map(|job| Measured { size: program_size(&job), job });
-    let look = Look { case, job, refused_line, costs: case.texts().costs.map(read_costs) };
+    let look = Look::at(case);
     EDGES.map(|(_, meets)| meets(&look))
-}
-
-/// A line of a text by its number, without its line feed; none past the last.
-fn line_of(text: &[u8], place: usize) -> Option<&[u8]> {
-    let line = text.split_inclusive(|byte| *byte == b'\n').nth(place - 1)?;
-    Some(line.strip_suffix(b"\n").unwrap_or(line))
-}
-
-/// Whether a plan that is read has as many entries as are allowed.
-fn is_longest(plan: Option<Plan>) -> bool {
-    matches!(plan, Some(Ok(entries)) if entries.len() == usize::from(MOST_ENTRIES))
-}
-
-/// The verdict on a list of moves, with a fault in the domain or none; costs don't matter.
-fn verdict(job: &Job, moves: &[u16], fault: Fault) -> Verdict {
-    let domain = Domain::new(job, HOUSE_COSTS, fault);
-    Runs::new(&domain, Fault::None).verdict(moves)
-}
-
-fn is_plan(job: &Job, moves: &[u16]) -> bool {
-    matches!(verdict(job, moves, Fault::None), Verdict::Plan(_))
-}
-
-/// Whether a list of moves is blocked, and there it would not be if a conflict were ignored.
-fn is_blocked_by_conflict(job: &Job, moves: &[u16]) -> bool {
-    let said = verdict(job, moves, Fault::None);
-    matches!(said, Verdict::Blocked(_)) && said != verdict(job, moves, Fault::ConflictIgnored)
-}
-
-/// Whether a line is of the form of a cost.
-fn is_cost(line: &[u8]) -> bool {
-    line.strip_prefix(b"c=").is_some_and(|value| !value.is_empty() && value.iter().all(u8::is_ascii_digit))
-}
-
-impl Look<'_> {
-    fn job(&self, holds: impl Fn(&Job) -> bool) -> bool {
-        self.job.as_ref().is_some_and(|own| holds(&own.job))
-    }
-
-    /// Whether something holds of the program's size and the number of facts.
-    fn size(&self, holds: impl Fn(Size, u16) -> bool) -> bool {
-        self.job.as_ref().is_some_and(|own| holds(own.size, own.job.facts))
-    }
-
-    fn compiles(&self) -> bool {
-        self.size(|size, _| size.fits())
-    }
-
-    /// Whether a costs text is handed in and read, for a job that compiles, and something holds of the costs.
-    fn costs(&self, holds: impl Fn(&ClassCosts) -> bool) -> bool {
-        self.compiles() && matches!(&self.costs, Some(Ok(costs)) if holds(costs))
-    }
-
-    fn costs_are_bad(&self) -> bool {
-        matches!(self.costs, Some(Err(_)))
-    }
-
-    /// Whether the costs text decides, and something holds of the place and the line there.
-    fn bad_costs(&self, holds: impl Fn(usize, Option<&[u8]>) -> bool) -> bool {
-        let Some(Err(Refusal { place, .. })) = self.costs else {
-            return false;
-        };
-        self.compiles() && holds(place, line_of(&self.case.costs, place))
-    }
-
-    /// The text of moves as it is read, where the job compiles.
-    fn moves(&self) -> Option<Plan> {
-        self.plan(&self.case.moves, b'm', |own| own.job.moves.len())
-    }
-
-    /// The text of steps as it is read, where the job compiles.
-    fn steps(&self) -> Option<Plan> {
-        self.plan(&self.case.steps, b't', |own| own.size.steps as usize)
-    }
-
-    /// Whether the moves get the verdict of a check, and something holds of the job and of them.
-    fn checked(&self, holds: impl Fn(&Job, &[u16]) -> bool) -> bool {
-        let Some(Ok(moves)) = self.moves() else {
-            return false;
-        };
-        !self.costs_are_bad() && self.job(|job| holds(job, &moves))
-    }
-
-    fn blocked_by_conflict(&self) -> bool {
-        self.checked(is_blocked_by_conflict)
-    }
-
-    /// Whether the moves are a plan, and something holds of one of them.
-    fn plan_with(&self, holds: impl Fn(&Move) -> bool) -> bool {
-        let one = |job: &Job, moves: &[u16]| moves.iter().any(|index| holds(&job.moves[usize::from(*index)]));
-        self.checked(|job, moves| one(job, moves) && is_plan(job, moves))
-    }
-
-    /// Whether the moves get a sheet, where there is room for it, and something holds of how many they are.
-    fn laid(&self, holds: impl Fn(usize) -> bool) -> bool {
-        self.checked(|job, moves| holds(moves.len()) && is_plan(job, moves))
-    }
-
-    fn plan(&self, text: &[u8], key: u8, bound: impl Fn(&Measured) -> usize) -> Option<Plan> {
-        let own = self.job.as_ref().filter(|own| own.size.fits())?;
-        Some(read_plan(text, key, bound(own)))
-    }
 }

@@ -9,12 +9,14 @@ fn own_edges(key: &[u8]) -> &'static [usize] {
         b"init" => &[1, 2, 3, 4, 7, 8, 15, 16, 31, 32, 63, 64, 127, 128, 255, 256, 1023, 1024, 4095, 4096],
         b"formulas" => &[0, 1, 254, 255, 256],
         b"moves" => &[0, 63, 64, 65],
+        b"objects" => &[0, 1, 2, 15, 16, 17],
         b"program" => &[0, 1, 127, 128, 129],
         b"costs" => &[0, 15, 16, 17],
         b"c" => &[0, 1, 3600, 3601, 65534, 65535, 65536],
         b"plan" => &[0, 3999, 4000, 4001],
         b"m" => &[15, 16, 17],
-        b"f" | b"p" => &[0, 1, 2, 3, 4, 5, 6, 7, 8, 9],
+        b"f" => &[0, 1, 2, 3, 4, 5, 6, 7, 8, 9],
+        b"p" => &[0, 1, 2, 3, 4, 5, 6, 7, 8, 9, 10, 11, 12],
         _ => &[0, 1, 2],
     }
 }
@@ -33,6 +35,40 @@ pub fn change_fields(random: &mut Random, lines: &mut [Vec<u8>]) {
     for _ in 0..random.pick(&[1, 1, 2]) {
         replace_field(random, &mut lines[place], &edges);
     }
+}
+
+/// Gives a move or a test of an object a base at its limit or one past it, or a pick that is one further out; where
+/// there is none, any fields are changed.
+pub fn change_variable(random: &mut Random, lines: &mut [Vec<u8>]) {
+    let [moves, formulas, objects] = ["moves", "formulas", "objects"].map(|key| number_of(lines, key));
+    let variables: Vec<(usize, [usize; 4])> =
+        lines.iter().enumerate().filter_map(|(place, line)| Some((place, variable_of(line)?))).collect();
+    if variables.is_empty() {
+        return change_fields(random, lines);
+    }
+    let (place, [kind, base, pick, _]) = random.pick(&variables);
+    let count = if kind == 10 { moves } else { formulas };
+    let last = count.saturating_sub(objects);
+    let [base, pick] = random.pick(&[[last, pick], [last + 1, pick], [last + 1, pick], [base, pick + 1]]);
+    lines[place] = format!("p={kind},{base},{pick},0\n").into_bytes();
+}
+
+/// The number on the line of a key that one line has; 0 where there is none.
+pub fn number_of<T: AsRef<[u8]>>(lines: &[T], key: &str) -> usize {
+    let line = lines.iter().find(|line| key_of(line.as_ref()) == key.as_bytes());
+    line.and_then(|line| numbers(line.as_ref())?.first().copied()).unwrap_or(0)
+}
+
+/// The numbers of a program row that is a move or a test of an object.
+pub fn variable_of(line: &[u8]) -> Option<[usize; 4]> {
+    let row: [usize; 4] = numbers(line)?.try_into().ok()?;
+    (key_of(line) == b"p" && matches!(row[0], 10 | 11)).then_some(row)
+}
+
+/// The numbers behind a line's equals sign.
+fn numbers(line: &[u8]) -> Option<Vec<usize>> {
+    let (_, value) = std::str::from_utf8(line).ok()?.trim_end().split_once('=')?;
+    value.split(',').map(|number| number.parse().ok()).collect()
 }
 
 /// The bytes before a line's equals sign.

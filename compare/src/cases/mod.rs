@@ -3,12 +3,14 @@
 //! The mix: jobs come from the generator; 7 of 10 goals are replaced by ones that some complete run reaches. Plans are
 //! walks, walks that are cut, continued or changed, and random lists (`plans`, `walks`). In 6 of 10 cases a costs text
 //! is handed in (`costs`). In a few the least cost is above 2^32. Of each sort of text 23 in 100 are then damaged
-//! (`damage`, `fields`); a damaged text may still be a right one. `edges` says which limits a case meets.
+//! (`damage`, `fields`); a damaged text may still be a right one. `edges` says which limits a case meets, by what
+//! `look` finds in it.
 
 mod costs;
 mod damage;
 pub mod edges;
 mod fields;
+mod look;
 mod plans;
 mod walks;
 

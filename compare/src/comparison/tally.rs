@@ -7,7 +7,8 @@ use crate::answer::Answer;
 use crate::cases::edges::EDGES;
 
 /// What is counted apart: refusals by number, but those by 6 by what is too short; otherwise what is said.
-const REFUSALS: [&str; 7] = ["refused 1", "refused 2", "refused 3", "refused 4", "refused 5", "refused 6", "refused 7"];
+const REFUSALS: [&str; 8] =
+    ["refused 1", "refused 2", "refused 3", "refused 4", "refused 5", "refused 6", "refused 7", "refused 8"];
 const SHORT: [&str; 3] = ["list too short", "table too short", "output too short"];
 const SAYINGS: [&str; 9] = ["plan", "blocked", "unfinished", "missed", "least", "dearer", "costs", "none", "laid"];
 const DEAR: &str = "costs >2^32";
@@ -103,19 +104,21 @@ fn refusal(answer: Answer) -> Option<&'static str> {
 
 /// All that an operation can answer.
 fn outcomes(operation: Operation) -> Vec<&'static str> {
-    let [one, two, three, four, five, _, seven] = REFUSALS;
+    let [one, two, three, four, five, _, seven, eight] = REFUSALS;
     let [list, table, out] = SHORT;
     let [plan, blocked, unfinished, missed, least, dearer, costs, none, laid] = SAYINGS;
     match operation {
         Operation::ReadJob => vec![DONE, one, two, three],
-        Operation::Compile => vec![DONE, one, two, three, four, list],
+        Operation::Compile => vec![DONE, one, two, three, eight, four, list],
         Operation::CheckMoves | Operation::CheckSteps => {
-            vec![plan, blocked, unfinished, missed, one, two, three, four, seven, five, list]
+            vec![plan, blocked, unfinished, missed, one, two, three, eight, four, seven, five, list]
         }
-        Operation::LeastCost => vec![costs, DEAR, none, one, two, three, four, seven, list, table],
+        Operation::LeastCost => vec![costs, DEAR, none, one, two, three, eight, four, seven, list, table],
         Operation::Judge => {
-            vec![least, dearer, blocked, unfinished, missed, one, two, three, four, seven, five, list, table]
+            vec![least, dearer, blocked, unfinished, missed, one, two, three, eight, four, seven, five, list, table]
         }
-        Operation::Sheet => vec![laid, blocked, unfinished, missed, one, two, three, four, seven, five, list, out],
+        Operation::Sheet => {
+            vec![laid, blocked, unfinished, missed, one, two, three, eight, four, seven, five, list, out]
+        }
     }
 }

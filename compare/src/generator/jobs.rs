@@ -6,12 +6,12 @@ use super::program::{any, branch, either, make, nil, repeat_while, star, then, P
 use super::random::Random;
 use super::shapes;
 use crate::second::compiler::Size;
-use crate::second::job::{Job, Move, MOST_EFFECTS, MOST_FORMULAS, MOST_ROWS};
+use crate::second::job::{part_fields, Job, Move, MOST_EFFECTS, MOST_FORMULAS, MOST_ROWS};
 
-/// A job from init 0, whose goal is that all facts are true.
+/// A job from init 0 without objects, whose goal is that all facts are true.
 pub fn job_of(facts: u16, moves: Vec<Move>, rows: Vec<Row>) -> Job {
     let formulas = Formulas { facts };
-    Job { facts, init: 0, formulas: formulas.rows(), moves, goal: formulas.all(facts - 1), rows }
+    Job { facts, init: 0, formulas: formulas.rows(), moves, goal: formulas.all(facts - 1), objects: 0, rows }
 }
 
 /// The sample, with these program rows.
@@ -22,6 +22,7 @@ fn sample_with(rows: Vec<Row>) -> Job {
         formulas: vec![[1, 0, 0], [2, 0, 0], [2, 1, 0], [3, 1, 0]],
         moves: vec![unconditional(0, 3, &[(1, 1)]), unconditional(2, 1, &[(0, 1)])],
         goal: 1,
+        objects: 0,
         rows,
     }
 }
@@ -78,14 +79,7 @@ pub fn longest() -> Job {
 
 /// Adds one to each number of another row that a program row has.
 fn shift(row: &mut Row) {
-    let fields: &[usize] = match row[0] {
-        4 | 6 => &[1, 2],
-        5 => &[2, 3],
-        7 => &[2],
-        8 => &[1],
-        _ => &[],
-    };
-    for field in fields {
+    for field in part_fields(row[0]) {
         row[*field] += 1;
     }
 }

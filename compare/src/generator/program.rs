@@ -1,6 +1,7 @@
 //! Programs under construction, and their rows by name.
 
 use crate::second::compiler::{size_of, Size};
+use crate::second::job::part_fields;
 
 /// A program row: kind, and the fields a, b and c.
 pub type Row = [u16; 4];
@@ -41,23 +42,54 @@ pub fn star(body: u16) -> Row {
     [8, body, 0, 0]
 }
 
-/// Rows so far, with their sizes, for a job of so many moves.
+pub fn pick(body: u16) -> Row {
+    [9, body, 0, 0]
+}
+
+/// The move whose number is `base` plus the object of an enclosing pick, 0 being the nearest.
+pub fn make_of(base: u16, pick: u16) -> Row {
+    [10, base, pick, 0]
+}
+
+/// The test of such a formula.
+pub fn test_of(base: u16, pick: u16) -> Row {
+    [11, base, pick, 0]
+}
+
+/// Rows so far, with their sizes, and with the number of picks that each still wants around it, for a job of so many
+/// moves and objects.
 pub struct Program {
     pub rows: Vec<Row>,
-    pub sizes: Vec<Size>,
+    sizes: Vec<Size>,
+    wanted: Vec<u16>,
     moves: usize,
+    objects: u16,
 }
 
 impl Program {
+    /// For a job without objects.
     pub fn new(moves: usize) -> Program {
-        Program { rows: Vec::new(), sizes: Vec::new(), moves }
+        Program::over(moves, 0)
+    }
+
+    pub fn over(moves: usize, objects: u16) -> Program {
+        Program { rows: Vec::new(), sizes: Vec::new(), wanted: Vec::new(), moves, objects }
     }
 
     /// Adds a row, and gives its number.
     pub fn add(&mut self, row: Row) -> u16 {
         self.sizes.push(self.size_with(row));
+        self.wanted.push(self.wanted_with(row));
         self.rows.push(row);
         self.last()
+    }
+
+    /// Drops the rows behind this one.
+    pub fn end_at(&mut self, row: u16) {
+        let length = usize::from(row) + 1;
+        self.rows.truncate(length);
+        self.sizes.truncate(length);
+        self.wanted.truncate(length);
     }
 
     /// The number of the last row.
@@ -72,7 +104,27 @@ impl Program {
 
     /// The size that the program would have with one more row.
     pub fn size_with(&self, row: Row) -> Size {
-        size_of(row, self.moves, &self.sizes)
+        size_of(row, self.moves, self.objects, &self.sizes)
+    }
+
+    /// Whether a row would fit inside so many picks.
+    pub fn fits_inside(&self, row: Row, picks: u16) -> bool {
+        let around = |size, _| size_of(pick(0), self.moves, self.objects, &[size]);
+        (0..picks).fold(self.size_with(row), around).fits()
+    }
+
+    /// How many picks a row still wants around it, so that each of its variables has its pick.
+    pub fn wanted(&self, row: u16) -> u16 {
+        self.wanted[usize::from(row)]
+    }
+
+    fn wanted_with(&self, row: Row) -> u16 {
+        let most = part_fields(row[0]).iter().map(|field| self.wanted(row[*field])).max().unwrap_or(0);
+        match row {
+            [9, ..] => most.saturating_sub(1),
+            [10 | 11, _, pick, _] => pick.saturating_add(1),
+            _ => most,
+        }
     }
 
     /// A row so many times in sequence.

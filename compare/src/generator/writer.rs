@@ -16,6 +16,7 @@ pub fn job_text(job: &Job) -> Vec<u8> {
         text.lines("e", &action.effects);
     }
     text.line("goal", &[job.goal]);
+    text.line("objects", &[job.objects]);
     text.count("program", job.rows.len());
     text.lines("p", &job.rows);
     text.bytes

@@ -1,7 +1,8 @@
-//! The compiling table: from program rows to numbered steps, and refusal 4.
+//! The compiling table, with the pick of document 02: from program rows to numbered steps, and refusals 8 and 4.
 
 use super::fault::Fault;
 use super::job::{Job, Refusal};
+use super::scope::has_free_variable;
 
 /// The highest number of positions.
 pub const MOST_POSITIONS: u64 = 256;
@@ -37,10 +38,15 @@ impl Size {
     fn plus(self, other: Size) -> Size {
         Size { length: self.length.saturating_add(other.length), steps: self.steps.saturating_add(other.steps) }
     }
+
+    fn times(self, count: u16) -> Size {
+        let count = count.into();
+        Size { length: self.length.saturating_mul(count), steps: self.steps.saturating_mul(count) }
+    }
 }
 
-/// The size of a row over `moves` moves, given the sizes of the rows before it.
-pub fn size_of(row: [u16; 4], moves: usize, earlier: &[Size]) -> Size {
+/// The size of a row over `moves` moves and `objects` objects, given the sizes of the rows before it.
+pub fn size_of(row: [u16; 4], moves: usize, objects: u16, earlier: &[Size]) -> Size {
     let size = |length, steps| Size { length, steps };
     let part = |index: u16| earlier[usize::from(index)];
     let [kind, a, b, c] = row;
@@ -51,6 +57,8 @@ pub fn size_of(row: [u16; 4], moves: usize, earlier: &[Size]) -> Size {
         6 => size(3, 4).plus(part(a)).plus(part(b)),
         7 => size(2, 3).plus(part(b)),
         8 => size(2, 3).plus(part(a)),
+        // Each copy of the body with the position behind it, and with a step into it and one out of it.
+        9 => size(1, 0).plus(size(1, 2).plus(part(a)).times(objects)),
         _ => size(1, 1),
     }
 }
@@ -59,30 +67,36 @@ pub fn size_of(row: [u16; 4], moves: usize, earlier: &[Size]) -> Size {
 pub fn program_size(job: &Job) -> Size {
     let mut sizes = Vec::new();
     for row in &job.rows {
-        sizes.push(size_of(*row, job.moves.len(), &sizes));
+        sizes.push(size_of(*row, job.moves.len(), job.objects, &sizes));
     }
     sizes[job.rows.len() - 1]
 }
 
-/// Compiles the job's program; refused by 4.
+/// Compiles the job's program; refused by 8 and 4.
 pub fn compile(job: &Job) -> Result<Compiled, Refusal> {
     compile_with(job, Fault::None)
 }
 
 /// Compiles the job's program with a seeded fault.
 pub fn compile_with(job: &Job, fault: Fault) -> Result<Compiled, Refusal> {
-    if !program_size(job).fits() {
-        return Err(Refusal { number: 4, place: job.lines() });
+    let refused = |number| Err(Refusal { number, place: job.lines() });
+    if has_free_variable(job) {
+        return refused(8);
     }
-    let mut compiler = Compiler { job, fault, steps: Vec::new() };
+    if !program_size(job).fits() {
+        return refused(4);
+    }
+    let mut compiler = Compiler { job, fault, steps: Vec::new(), objects: Vec::new() };
     let end = compiler.row(job.rows.len() as u16 - 1, 0);
     Ok(Compiled { positions: usize::from(end) + 1, steps: compiler.steps })
 }
 
+/// The steps so far, and the objects of the picks around the present row, the nearest last.
 struct Compiler<'a> {
     job: &'a Job,
     fault: Fault,
     steps: Vec<[u16; 4]>,
+    objects: Vec<u16>,
 }
 
 impl Compiler<'_> {
@@ -101,7 +115,10 @@ impl Compiler<'_> {
             5 => self.branch(n, b, c, HOLDS, FAILS, a),
             6 => self.branch(n, a, b, NO_OP, NO_OP, 0),
             7 => self.repeat(n, b, a),
-            _ => self.star(n, a),
+            8 => self.star(n, a),
+            9 => self.pick(n, a),
+            10 => self.one(MOVE, n, a + self.object(b)),
+            _ => self.one(HOLDS, n, a + self.object(b)),
         }
     }
 
@@ -150,5 +167,30 @@ impl Compiler<'_> {
         self.steps.push([NO_OP, n1, n, 0]);
         self.steps.push([NO_OP, n, n1 + 1, 0]);
         n1 + 1
+    }
+
+    /// A copy of row `body` for each object, one behind the other.
+    fn pick(&mut self, n: u16, body: u16) -> u16 {
+        let mut objects: Vec<u16> = (0..self.job.objects).collect();
+        if self.fault == Fault::ObjectOrder {
+            objects.reverse();
+        }
+        let mut copies = Vec::new();
+        let mut next = n + 1;
+        for object in objects {
+            self.objects.push(object);
+            let end = self.row(body, next);
+            self.objects.pop();
+            copies.push((next, end));
+            next = end + 1;
+        }
+        self.steps.extend(copies.iter().map(|(start, _)| [NO_OP, n, *start, 0]));
+        self.steps.extend(copies.iter().map(|(_, end)| [NO_OP, *end, next, 0]));
+        next
+    }
+
+    /// The object of an enclosing pick, 0 being the nearest.
+    fn object(&self, pick: u16) -> u16 {
+        self.objects[self.objects.len() - 1 - usize::from(pick)]
     }
 }

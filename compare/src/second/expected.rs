@@ -23,7 +23,8 @@ pub struct Texts<'a> {
     pub costs: Option<&'a [u8]>,
 }
 
-/// What the operations should answer to some texts: `job` is refused by 1 to 3, `built` by 4 too, `known` also by 7.
+/// What the operations should answer to some texts: `job` is refused by 1 to 3, `built` by 8 and 4 too, `known`
+/// also by 7.
 pub struct Expected {
     job: Result<Job, Refusal>,
     built: Result<Built, Refusal>,

@@ -44,10 +44,14 @@ pub enum Fault {
     EarlyList,
     /// A cost table for the most facts needs no more numbers than for one fact fewer.
     LastDoubling,
+    /// A pick's copies are compiled for the last object first.
+    ObjectOrder,
+    /// In runs of the program the variable 0 is of the outermost pick.
+    NearestForOutermost,
 }
 
 /// The faults by their names on the command line.
-pub const FAULTS: [(&str, Fault); 20] = [
+pub const FAULTS: [(&str, Fault); 22] = [
     ("star", Fault::Star),
     ("effects", Fault::Effects),
     ("conflict-ignored", Fault::ConflictIgnored),
@@ -68,6 +72,8 @@ pub const FAULTS: [(&str, Fault); 20] = [
     ("late-totals", Fault::LateTotals),
     ("early-list", Fault::EarlyList),
     ("last-doubling", Fault::LastDoubling),
+    ("object-order", Fault::ObjectOrder),
+    ("nearest-for-outermost", Fault::NearestForOutermost),
 ];
 
 impl Fault {

@@ -8,6 +8,8 @@ pub const MOST_FORMULAS: u16 = 255;
 pub const MOST_MOVES: u16 = 64;
 /// The highest number of effects of one move.
 pub const MOST_EFFECTS: u16 = 16;
+/// The highest number of objects.
+pub const MOST_OBJECTS: u16 = 16;
 /// The highest number of program rows.
 pub const MOST_ROWS: u16 = 128;
 /// The number of cost classes.
@@ -42,6 +44,7 @@ pub struct Job {
     pub formulas: Vec<[u16; 3]>,
     pub moves: Vec<Move>,
     pub goal: u16,
+    pub objects: u16,
     pub rows: Vec<[u16; 4]>,
 }
 
@@ -51,9 +54,20 @@ impl Job {
         self.moves.iter().map(|action| action.effects.len()).sum()
     }
 
-    /// The number of lines of its text: seven that every job has, and one for each row.
+    /// The number of lines of its text: eight that every job has, and one for each row.
     pub fn lines(&self) -> usize {
-        7 + self.formulas.len() + self.moves.len() + self.effects() + self.rows.len()
+        8 + self.formulas.len() + self.moves.len() + self.effects() + self.rows.len()
+    }
+}
+
+/// The fields of a program row of this kind that are numbers of other rows.
+pub fn part_fields(kind: u16) -> &'static [usize] {
+    match kind {
+        4 | 6 => &[1, 2],
+        5 => &[2, 3],
+        7 => &[2],
+        8 | 9 => &[1],
+        _ => &[],
     }
 }
 

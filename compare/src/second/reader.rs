@@ -48,6 +48,14 @@ pub fn read_plan(text: &[u8], key: u8, bound: usize) -> Result<Vec<u16>, Refusal
     Ok(entries)
 }
 
+/// The counts that bound what program rows refer to.
+#[derive(Clone, Copy)]
+struct Bounds {
+    formulas: usize,
+    moves: usize,
+    objects: usize,
+}
+
 /// A job text that is being read.
 struct JobReader<'a> {
     lines: Lines<'a>,
@@ -63,9 +71,11 @@ impl JobReader<'_> {
         let moves = self.moves(facts, formulas.len())?;
         let [goal] = self.row(b"goal")?;
         self.demand(usize::from(goal) < formulas.len(), 3)?;
-        let rows = self.rows(formulas.len(), moves.len())?;
+        let objects = self.count(b"objects", 0, MOST_OBJECTS)?;
+        let bounds = Bounds { formulas: formulas.len(), moves: moves.len(), objects: objects.into() };
+        let rows = self.rows(bounds)?;
         self.lines.end().map_err(wrong_form)?;
-        Ok(Job { facts, init, formulas, moves, goal, rows })
+        Ok(Job { facts, init, formulas, moves, goal, objects, rows })
     }
 
     fn formulas(&mut self, facts: u16) -> Result<Vec<[u16; 3]>, Refusal> {
@@ -97,12 +107,12 @@ impl JobReader<'_> {
         Ok(moves)
     }
 
-    fn rows(&mut self, formulas: usize, moves: usize) -> Result<Vec<[u16; 4]>, Refusal> {
+    fn rows(&mut self, bounds: Bounds) -> Result<Vec<[u16; 4]>, Refusal> {
         let count = self.count(b"program", 1, MOST_ROWS)?;
         let mut rows = Vec::new();
         for earlier in 0..usize::from(count) {
             let row = self.row(b"p")?;
-            self.demand(row_is_right(row, formulas, moves, earlier), 3)?;
+            self.demand(row_is_right(row, bounds, earlier), 3)?;
             rows.push(row);
         }
         Ok(rows)
@@ -144,8 +154,9 @@ fn formula_is_right([kind, a, b]: [u16; 3], facts: u16, earlier: u16) -> bool {
     }
 }
 
-/// Whether kind, references and unused fields of a program row are right.
-fn row_is_right(row: [u16; 4], formulas: usize, moves: usize, earlier: usize) -> bool {
+/// Whether kind, references and unused fields of a program row are right. Which pick a variable is of isn't asked here.
+fn row_is_right(row: [u16; 4], bounds: Bounds, earlier: usize) -> bool {
+    let Bounds { formulas, moves, objects } = bounds;
     let [kind, a, b, c] = row.map(usize::from);
     match kind {
         0 | 2 => a == 0 && b == 0 && c == 0,
@@ -154,7 +165,9 @@ fn row_is_right(row: [u16; 4], formulas: usize, moves: usize, earlier: usize) ->
         4 | 6 => a < earlier && b < earlier && c == 0,
         5 => a < formulas && b < earlier && c < earlier,
         7 => a < formulas && b < earlier && c == 0,
-        8 => a < earlier && b == 0 && c == 0,
+        8 | 9 => a < earlier && b == 0 && c == 0,
+        10 => a + objects <= moves && c == 0,
+        11 => a + objects <= formulas && c == 0,
         _ => false,
     }
 }

@@ -1,10 +1,11 @@
-//! Residual programs and their transitions, by the section of document 01 on what a program allows. No positions occur
-//! here.
+//! Residual programs and their transitions, by the section of document 01 on what a program allows, and for a pick by
+//! equation (13) of document 003. No positions occur here.
 
 use std::collections::HashMap;
 
 use super::fault::Fault;
 use super::job::Job;
+use super::rows::Rows;
 
 /// A residual program by its number; equal ones have the same number.
 pub type Residual = usize;
@@ -16,8 +17,8 @@ pub const NIL: Residual = 0;
 #[derive(Clone, Copy, PartialEq, Eq, Hash)]
 enum Term {
     Nil,
-    Row(u16),
-    Then(Residual, u16),
+    Row(usize),
+    Then(Residual, usize),
 }
 
 /// What a transition asks for: nothing, a formula that holds or doesn't, or a move that is made.
@@ -40,6 +41,7 @@ pub struct Transition {
 pub struct Residuals<'a> {
     job: &'a Job,
     fault: Fault,
+    rows: Rows,
     terms: Vec<Term>,
     numbers: HashMap<Term, Residual>,
     transitions: Vec<Option<Vec<Transition>>>,
@@ -47,15 +49,18 @@ pub struct Residuals<'a> {
 
 impl<'a> Residuals<'a> {
     pub fn new(job: &'a Job, fault: Fault) -> Self {
+        let rows = Rows::new(&job.rows);
         let mut residuals =
-            Residuals { job, fault, terms: Vec::new(), numbers: HashMap::new(), transitions: Vec::new() };
+            Residuals { job, fault, rows, terms: Vec::new(), numbers: HashMap::new(), transitions: Vec::new() };
         residuals.number(Term::Nil);
         residuals
     }
 
     /// The whole program.
     pub fn program(&mut self) -> Residual {
-        self.row(self.job.rows.len() as u16 - 1)
+        let last = self.job.rows.len() - 1;
+        let program = if self.fault == Fault::NearestForOutermost { self.rows.turn(last) } else { last };
+        self.row(program)
     }
 
     /// The transitions of a residual program.
@@ -83,29 +88,31 @@ impl<'a> Residuals<'a> {
         self.transitions[from] = Some(found);
     }
 
-    fn of_row(&mut self, index: u16) -> Vec<Transition> {
-        let [kind, a, b, c] = self.job.rows[usize::from(index)];
+    fn of_row(&mut self, index: usize) -> Vec<Transition> {
+        let [kind, a, b, c] = self.rows.get(index);
         let to = |label, to| Transition { label, to };
+        let [holds, fails] = [Label::Holds(a as u16), Label::Fails(a as u16)];
         match kind {
-            1 => vec![to(Label::Move(a), NIL)],
+            1 => vec![to(Label::Move(a as u16), NIL)],
             2 => (0..self.job.moves.len() as u16).map(|index| to(Label::Move(index), NIL)).collect(),
-            3 => vec![to(Label::Holds(a), NIL)],
-            5 => vec![to(Label::Holds(a), self.row(b)), to(Label::Fails(a), self.row(c))],
+            3 => vec![to(holds, NIL)],
+            5 => vec![to(holds, self.row(b)), to(fails, self.row(c))],
             6 => self.choice(a, b),
             7 => {
                 let body = self.row(b);
                 let again = self.number(Term::Then(body, index));
-                vec![to(Label::Holds(a), again), to(Label::Fails(a), NIL)]
+                vec![to(holds, again), to(fails, NIL)]
             }
             8 => {
                 let body = self.row(a);
                 vec![to(Label::Silent, NIL), to(Label::Silent, self.number(Term::Then(body, index)))]
             }
+            9 => (0..self.job.objects).map(|object| to(Label::Silent, self.picked(a, object))).collect(),
             _ => Vec::new(),
         }
     }
 
-    fn choice(&mut self, a: u16, b: u16) -> Vec<Transition> {
+    fn choice(&mut self, a: usize, b: usize) -> Vec<Transition> {
         let first = Transition { label: Label::Silent, to: self.row(a) };
         let second = Transition { label: Label::Silent, to: self.row(b) };
         if self.fault == Fault::FirstBranch {
@@ -114,9 +121,15 @@ impl<'a> Residuals<'a> {
         vec![first, second]
     }
 
+    /// The residual program that is the body of a pick for an object.
+    fn picked(&mut self, body: usize, object: u16) -> Residual {
+        let row = self.rows.put_in(body, object.into());
+        self.row(row)
+    }
+
     /// The residual program that is this row; a sequence is its first part with the second behind it.
-    fn row(&mut self, index: u16) -> Residual {
-        match self.job.rows[usize::from(index)] {
+    fn row(&mut self, index: usize) -> Residual {
+        match self.rows.get(index) {
             [0, ..] => NIL,
             [4, a, b, _] => {
                 let first = self.row(a);

@@ -173,7 +173,7 @@ fn the_order_of_refusals() {
         (sample.replace("job=1", "job=2"), 1, 1),
         (sample.replace("facts=2", "facts=13"), 2, 2),
         (sample.replace("goal=1", "goal=4"), 3, 14),
-        (sample_with(&format!("program=9\np=1,0,0,0\n{doubled}")), 4, 24),
+        (sample_with(&format!("program=9\np=1,0,0,0\n{doubled}")), 4, 25),
     ];
     for (operation, _) in TAKERS {
         // The job before the costs, whatever the plan.

@@ -80,7 +80,7 @@ fn positions() {
     worked.costs([NONE, 0]);
     worked.judges(&[0; 254], [UNFINISHED, 0, 0]);
     rows.push("p=4,14,0,0\n".to_string());
-    all_refuse(with_rows(&rows).as_bytes(), 4, 15 + 16);
+    all_refuse(with_rows(&rows).as_bytes(), 4, 16 + 16);
 }
 
 #[test]
@@ -98,12 +98,12 @@ fn steps() {
     worked.costs([COSTS, 0]);
     worked.judges(&[63; 16], [LEAST, 0, 0]);
     rows.extend([[1, 0, 0, 0], [4, 4, 5, 0]]);
-    all_refuse(text(&rows).as_bytes(), 4, 6 + 64 + 2 + 7);
+    all_refuse(text(&rows).as_bytes(), 4, 6 + 64 + 3 + 7);
 }
 
 #[test]
 fn doubled_rows_are_refused_at_once() {
     let mut rows = vec!["p=1,0,0,0\n".to_string()];
     rows.extend((0..127).map(|row| format!("p=4,{row},{row},0\n")));
-    all_refuse(with_rows(&rows).as_bytes(), 4, 15 + 128);
+    all_refuse(with_rows(&rows).as_bytes(), 4, 16 + 128);
 }

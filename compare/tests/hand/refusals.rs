@@ -25,7 +25,7 @@ fn examples_of_the_table() {
     changed("goal=1", "goal=4", 3, 14);
     let rows: String = (0..8).map(|row| format!("p=4,{row},{row},0\n")).collect();
     let job = sample_with(&format!("program=9\np=1,0,0,0\n{rows}"));
-    all_refuse(job.as_bytes(), 4, 24);
+    all_refuse(job.as_bytes(), 4, 25);
     refused(CheckMoves, sample_text().as_bytes(), b"plan=1\nm=2\n", 5, 2);
     refused(Judge, sample_text().as_bytes(), b"plan=1\nm=2\n", 5, 2);
     let short = ask(LeastCost, sample_text().as_bytes(), b"", 8, 11);
@@ -40,7 +40,7 @@ fn forms_and_fields() {
     changed("facts=2", "facts=65535", 2, 2);
     changed("facts=2", "facts=2\r", 1, 2);
     changed("m=0,3,1", "m=9,16,17", 2, 10);
-    changed("p=4,0,1,0", "p=9,0,0,0", 3, 18);
+    changed("p=4,0,1,0", "p=12,0,0,0", 3, 19);
 }
 
 /// An operation refuses this plan text for the sample by 5.

@@ -8,7 +8,7 @@ use crate::worked::Worked;
 /// An entry of the cost table that can't be reached.
 pub const X: u64 = 18_446_744_073_709_551_615;
 
-/// The sample's text; its 18 lines are job, facts, init, formulas, 4 f, moves, m, e, m, e, goal, program, 3 p.
+/// The sample's text; its 19 lines are job, facts, init, formulas, 4 f, moves, m, e, m, e, goal, objects, program, 3 p.
 pub fn sample_text() -> String {
     include_str!("../../../sample/job.txt").to_string()
 }
@@ -18,6 +18,13 @@ pub fn sample_with(program: &str) -> String {
     let text = sample_text();
     let domain = text.split("program=").next().expect("a text has a first part");
     format!("{domain}{program}")
+}
+
+/// The sample's text with so many objects and another program.
+pub fn sample_over(objects: u16, rows: &[[u16; 4]]) -> String {
+    let rows: String = rows.iter().map(|[kind, a, b, c]| format!("p={kind},{a},{b},{c}\n")).collect();
+    let program = format!("program={}\n{rows}", rows.lines().count());
+    sample_with(&program).replace("objects=0", &format!("objects={objects}"))
 }
 
 /// The sample. Move 0 leads from state 0 to state 2 at 20, move 1 from there to state 3 at 5.
@@ -77,9 +84,9 @@ pub fn star_of_while() -> Worked {
     }
 }
 
-/// The text of a job from init 0.
+/// The text of a job from init 0 without objects.
 pub fn text_of(facts: u16, formulas: &[[u16; 3]], moves: Vec<Move>, goal: u16, rows: &[[u16; 4]]) -> String {
-    let job = Job { facts, init: 0, formulas: formulas.to_vec(), moves, goal, rows: rows.to_vec() };
+    let job = Job { facts, init: 0, formulas: formulas.to_vec(), moves, goal, objects: 0, rows: rows.to_vec() };
     String::from_utf8(job_text(&job)).expect("a job text is ASCII")
 }
 

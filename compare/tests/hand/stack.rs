@@ -17,6 +17,11 @@ fn deep() -> String {
     sample_with(&format!("program=128\np=1,0,0,0\n{inner}"))
 }
 
+/// The same of picks over one object.
+fn deep_picks() -> String {
+    deep().replace("objects=0", "objects=1").replace("p=1,0,0,0", "p=10,0,126,0").replace("p=8,", "p=9,")
+}
+
 fn all_operations(job: &[u8], given: Given) {
     let (mut list, mut table, mut out) = (vec![0; 4096], vec![0; 1024], vec![0; 1860]);
     library::read_job(job);
@@ -30,7 +35,7 @@ fn all_operations(job: &[u8], given: Given) {
 
 #[test]
 fn each_operation_runs_on_the_stack_that_the_header_names() {
-    for job in [sample_text(), deep()] {
+    for job in [sample_text(), deep(), deep_picks()] {
         let thread = Builder::new().stack_size(STACK).spawn(move || {
             let costs = costs_text(&HOUSE_COSTS);
             all_operations(job.as_bytes(), NONE_GIVEN);

@@ -6,7 +6,7 @@ use crate::generator::moves::increments;
 use crate::generator::random::Random;
 use crate::second::job::{Job, MOST_FACTS};
 
-/// A counter of some facts, perhaps with a few random moves beside, and with no program yet.
+/// A counter of some facts, perhaps with a few random moves beside, and with no objects and no program yet.
 pub fn random_counter(random: &mut Random) -> Job {
     let facts = random.ranged(&[(20, (1, 6)), (8, (7, 9)), (1, (10, 12))]) as u16;
     let moves = increments(facts, || random.pick(&[0, 1, 3, 15, 15]));

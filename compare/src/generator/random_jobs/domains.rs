@@ -1,9 +1,9 @@
 //! Random facts, formulas and moves.
 
 use crate::generator::random::Random;
-use crate::second::job::{Job, Move};
+use crate::second::job::{Job, Move, MOST_OBJECTS};
 
-/// A job with random facts, formulas and moves, and with no program yet.
+/// A job with random facts, formulas and moves, and with no objects and no program yet.
 pub fn random_domain(random: &mut Random) -> Job {
     let facts =
         random.ranged(&[(30, (0, 0)), (440, (1, 3)), (370, (4, 5)), (120, (6, 8)), (30, (9, 11)), (10, (12, 12))]);
@@ -11,7 +11,7 @@ pub fn random_domain(random: &mut Random) -> Job {
     let formulas = random_formulas(random, facts);
     let moves = random_moves(random, facts, &formulas);
     let goal = random.below(formulas.len()) as u16;
-    Job { facts: facts as u16, init, formulas, moves, goal, rows: Vec::new() }
+    Job { facts: facts as u16, init, formulas, moves, goal, objects: 0, rows: Vec::new() }
 }
 
 fn random_formulas(random: &mut Random, facts: usize) -> Vec<[u16; 3]> {
@@ -50,6 +50,14 @@ pub fn random_move(random: &mut Random, facts: usize, formulas: &[[u16; 3]]) -> 
         effects.push([condition, random.below(facts) as u16, value]);
     }
     Move { pre, class, effects }
+}
+
+/// A number of objects for a job, mostly one for which it has moves enough.
+pub fn random_objects(random: &mut Random, job: &Job) -> u16 {
+    let most = if random.chance(850) { MOST_OBJECTS.min(job.moves.len() as u16) } else { MOST_OBJECTS };
+    let objects =
+        random.ranged(&[(400, (0, 0)), (120, (1, 1)), (270, (2, 2)), (90, (3, 4)), (40, (5, 15)), (80, (16, 16))]);
+    most.min(objects as u16)
 }
 
 /// A formula; so many times in a thousand one that is true everywhere, where there is one.

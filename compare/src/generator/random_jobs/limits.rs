@@ -15,7 +15,7 @@ impl Sketch<'_> {
         let positions = self.random.pick(&[MOST_POSITIONS - 1, MOST_POSITIONS, MOST_POSITIONS, MOST_POSITIONS + 1]);
         let wanted = (positions - 1).saturating_sub(self.size().length);
         let quiet = self.random.pick(&[nil(), nil(), test(0)]);
-        let row = if self.random.chance(300) { self.leaf() } else { quiet };
+        let row = if self.random.chance(300) { self.plain_leaf() } else { quiet };
         self.pad(row, wanted as usize);
     }
 

@@ -1,11 +1,12 @@
 //! Random jobs: random facts, formulas and moves (`domains`) or a counter (`counters`), with a random program
-//! (`programs`), perhaps one at the limits (`limits`); a few jobs of the greatest size (`largest`), and jobs of long
-//! plans.
+//! (`programs`), perhaps one of nested picks (`picks`) or at the limits (`limits`); a few jobs of the greatest size
+//! (`largest`), and jobs of long plans.
 
 mod counters;
 mod domains;
 mod largest;
 mod limits;
+mod picks;
 mod programs;
 
 pub use counters::long_counter;
@@ -13,7 +14,8 @@ pub use counters::long_counter;
 use super::random::Random;
 use crate::second::job::Job;
 
-/// A job that is well-formed, though perhaps of too many positions or steps.
+/// A job that is read, though perhaps of too many positions or steps, or with a variable that has too few picks around
+/// it.
 pub fn random_job(random: &mut Random) -> Job {
     match random.below(10_000) {
         0..=2 => largest::largest_job(random),
@@ -22,9 +24,10 @@ pub fn random_job(random: &mut Random) -> Job {
     }
 }
 
-/// A random program for a job that has none yet.
+/// Objects and a random program for a job that has none yet.
 fn with_program(random: &mut Random, domain: fn(&mut Random) -> Job) -> Job {
     let mut job = domain(random);
+    job.objects = domains::random_objects(random, &job);
     job.rows = programs::random_program(random, &job);
     job
 }
