@@ -46,18 +46,18 @@ read-iff text n j = (
       ap readJob (h .1) ∙ t ∙ ap (λ k. read k j) (read-lines (jobText j) (length (jobLines j)) j t ∙ ap (λ q. length (lines q)) (sym (h .1)) ∙ sym (h .2)),
 )
 
--- of a job text: reasons 1 to 4
+-- of a job text: reasons 1 to 4, and 8
 module _ (text : List ℕ) (j : Job) where
   job-passes : AcceptedJob text j → jobIn text ≡ passed j
   unfolding jobIn
-  job-passes a = ap compilable (read-iff text (length (lines text)) j .1 (a .right, a .written, refl)) ∙ rw (fit j (a .positions) (a .steps))
+  job-passes a = ap compilable (read-iff text (length (lines text)) j .1 (a .right, a .written, refl)) ∙ rw (a .picks, fit j (a .positions) (a .steps))
 
   pub job-iff : (jobIn text ≡ passed j) ↔ AcceptedJob text j
   job-iff = (
     λ e.
         let r = passed-read text j e in
-        let w = read-iff text (r .0) j .0 (r .1) in
-        record { right = w .0; positions = few-positions j (r .2); steps = few-steps j (r .2); written = w .1 },
+        let w = read-iff text (r .lines) j .0 (r .is-read) in
+        record { right = w .0; picks = r .picks; positions = few-positions j (r .fit); steps = few-steps j (r .fit); written = w .1 },
     job-passes,
   )
 
@@ -76,7 +76,7 @@ module _ (sort : Sort) (j : Job) (plan entries : List ℕ) where
     pub plan-iff : (readPlan (keyFor sort) (boundFor sort j) plan ≡ listed entries) ↔ AcceptedPlan sort j plan entries
     plan-iff = plan-text-iff (keyFor sort) (boundFor sort j) plan entries (key-plain sort) (bound-small sort)
 
--- of a job text and a costs text: reasons 1 to 4, and 7
+-- of a job text and a costs text: reasons 1 to 4, 8 and 7
 module _ (g : Given) (text costs : List ℕ) (t : Task) where
   -- without a costs text, and with one
   costs-pass : (b : Bool) → g .costs ≡ b → AcceptedTask g text costs t → costsIn g costs (t .job) ≡ passed t

@@ -35,6 +35,7 @@ module _ (D : Domain) (f : ℕ → ℕ) (by-move : (m s : ℕ) → D .cost m s �
   transition-sum ms (T.while-ends h) e = e
   transition-sum ms T.star-ends e = e
   transition-sum ms T.star-does e = e
+  transition-sum ms (T.picks h) e = e
 
   run-sum : {s u : ℕ} {σ ρ : Program} {ms : List ℕ} → Run D s σ ms u ρ → cost D s ms ≡ sumOf f ms
   unfolding cost sumOf

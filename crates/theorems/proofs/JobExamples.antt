@@ -11,8 +11,8 @@ use Rattle.theorems.specs.MarkedCases.{sampleWith}
 use Rattle.job.specs.ReadJob.{read, refused, taken, ended, readFrom, readJob}
 
 -- one fact, one move that sets it, and the program of that move
-reads-job : readJob (bytes "job=1\nfacts=1\ninit=0\nformulas=1\nf=2,0,0\nmoves=1\nm=0,3,1\ne=0,0,1\ngoal=0\nprogram=1\np=1,0,0,0\n") ≡ read 11 (record {
-  scalars = record { facts = 1; init = 0; goal = 0 };
+reads-job : readJob (bytes "job=1\nfacts=1\ninit=0\nformulas=1\nf=2,0,0\nmoves=1\nm=0,3,1\ne=0,0,1\ngoal=0\nobjects=0\nprogram=1\np=1,0,0,0\n") ≡ read 12 (record {
+  scalars = record { facts = 1; init = 0; goal = 0; objects = 0 };
   formulas = record { kind = 2; a = 0; b = 0 } ∷ [];
   moves = record { pre = 0; class = 3; effects = 1; first = 0 } ∷ [];
   effects = record { cond = 0; fact = 0; value = 1 } ∷ [];
@@ -32,7 +32,7 @@ unfolding bytes lines hasKey valueOf byteRead numbers lineNumbers fault taken en
 refuses-count = refl
 
 -- "sample with `goal=4`: line 14"
-refuses-goal : readJob (sampleWith "init=0\n" "goal=4\n" "program=3\np=1,0,0,0\np=1,1,0,0\np=4,0,1,0\n") ≡ refused 3 14
+refuses-goal : readJob (sampleWith "init=0\n" "goal=4\n" "objects=0\n" "program=3\np=1,0,0,0\np=1,1,0,0\np=4,0,1,0\n") ≡ refused 3 14
 unfolding bytes lines hasKey valueOf byteRead numbers lineNumbers fault taken ended readFrom readJob
 refuses-goal = refl
 
@@ -40,3 +40,17 @@ refuses-goal = refl
 refuses-missing : readJob (bytes "job=1\n") ≡ refused 1 2
 unfolding bytes lines hasKey valueOf byteRead numbers lineNumbers fault taken ended readFrom readJob
 refuses-missing = refl
+
+-- "`objects=O`, 0 to 16"
+refuses-objects : readJob (sampleWith "init=0\n" "goal=1\n" "objects=17\n" "") ≡ refused 2 15
+unfolding bytes lines hasKey valueOf byteRead numbers lineNumbers fault taken ended readFrom readJob
+refuses-objects = refl
+
+-- "The sum of a and O may not exceed the count of moves or formulas, else 3": two moves, four formulas
+refuses-base : readJob (sampleWith "init=0\n" "goal=1\n" "objects=1\n" "program=1\np=10,2,0,0\n") ≡ refused 3 17
+unfolding bytes lines hasKey valueOf byteRead numbers lineNumbers fault taken ended readFrom readJob
+refuses-base = refl
+
+refuses-formula-base : readJob (sampleWith "init=0\n" "goal=1\n" "objects=16\n" "program=1\np=11,0,0,0\n") ≡ refused 3 17
+unfolding bytes lines hasKey valueOf byteRead numbers lineNumbers fault taken ended readFrom readJob
+refuses-formula-base = refl

@@ -10,6 +10,7 @@ pub mod LongLists
 pub mod Agreement
 pub mod StepPlans
 pub mod Conflicts
+pub mod Picks
 pub mod CostSum
 pub mod TableWidths
 pub mod OneAnswer

@@ -36,15 +36,16 @@ numbers-short k line r e = line-short (formOf k .key) (formOf k .width) r line e
 
 -- the lines that are no rows and may still come; End is the line past the last, which is refused
 abbrev singles : Line → List Line
-singles (One Job) = One Job ∷ One Facts ∷ One Init ∷ One Formulas ∷ One Moves ∷ One Goal ∷ One Program ∷ End ∷ []
-singles (One Facts) = One Facts ∷ One Init ∷ One Formulas ∷ One Moves ∷ One Goal ∷ One Program ∷ End ∷ []
-singles (One Init) = One Init ∷ One Formulas ∷ One Moves ∷ One Goal ∷ One Program ∷ End ∷ []
-singles (One Formulas) = One Formulas ∷ One Moves ∷ One Goal ∷ One Program ∷ End ∷ []
-singles (Of Formula) = One Moves ∷ One Goal ∷ One Program ∷ End ∷ []
-singles (One Moves) = One Moves ∷ One Goal ∷ One Program ∷ End ∷ []
-singles (Of Move) = One Goal ∷ One Program ∷ End ∷ []
-singles (Of Effect) = One Goal ∷ One Program ∷ End ∷ []
-singles (One Goal) = One Goal ∷ One Program ∷ End ∷ []
+singles (One Job) = One Job ∷ One Facts ∷ One Init ∷ One Formulas ∷ One Moves ∷ One Goal ∷ One Objects ∷ One Program ∷ End ∷ []
+singles (One Facts) = One Facts ∷ One Init ∷ One Formulas ∷ One Moves ∷ One Goal ∷ One Objects ∷ One Program ∷ End ∷ []
+singles (One Init) = One Init ∷ One Formulas ∷ One Moves ∷ One Goal ∷ One Objects ∷ One Program ∷ End ∷ []
+singles (One Formulas) = One Formulas ∷ One Moves ∷ One Goal ∷ One Objects ∷ One Program ∷ End ∷ []
+singles (Of Formula) = One Moves ∷ One Goal ∷ One Objects ∷ One Program ∷ End ∷ []
+singles (One Moves) = One Moves ∷ One Goal ∷ One Objects ∷ One Program ∷ End ∷ []
+singles (Of Move) = One Goal ∷ One Objects ∷ One Program ∷ End ∷ []
+singles (Of Effect) = One Goal ∷ One Objects ∷ One Program ∷ End ∷ []
+singles (One Goal) = One Goal ∷ One Objects ∷ One Program ∷ End ∷ []
+singles (One Objects) = One Objects ∷ One Program ∷ End ∷ []
 singles (One Program) = One Program ∷ End ∷ []
 singles (Of Row) = End ∷ []
 singles End = End ∷ []
@@ -109,6 +110,7 @@ module _ (s : Reading) where
         (λ y z. omega arith) (λ y z. omega arith) (λ z. omega arith),
   )
   falls-at r (One Goal) h = omega arith
+  falls-at r (One Objects) h = omega arith
   falls-at r (One Program) h = (
     omega arith,
     λ x. rows-has (Falls (One Program) _ _) Row (getD r 0 0) 0

@@ -1,5 +1,5 @@
--- The ten marked cases, and three by other costs, from the bytes of their texts, by position sets
--- and computed cost tables.
+-- The ten marked cases, and those of requests, from the bytes of their texts, by position sets and
+-- computed cost tables.
 -- Assumes nothing.
 use Prim.Native.Nat.{ℕ}
 use mathlib.Core.Path.{_≡_, refl, ap}
@@ -13,7 +13,8 @@ use Rattle.text.specs.Numbers.{byteRead, numbers}
 use Rattle.job.specs.Line.{lineNumbers}
 use Rattle.job.specs.Fault.{fault}
 use Rattle.job.specs.ReadJob.{taken, ended, readFrom, readJob}
-use Rattle.semantics.specs.CompilingTable.{end, steps, branchSteps, whileSteps, starSteps}
+use Rattle.semantics.specs.CompilingTable.{copyStart, end, copies, steps, branchSteps, whileSteps, starSteps, pickSteps, objectSteps}
+use Rattle.semantics.specs.Scope.{scoped}
 use Rattle.semantics.specs.Judgement.{Judgement}
 use Rattle.semantics.specs.Machine.{onward, finished, verdictFrom}
 use Rattle.semantics.specs.PositionSets.{spread, close, silentIn, isMove, anyMark, firstSet, nextSet, moveOn, verdictBy}
@@ -27,7 +28,7 @@ use Rattle.compile.specs.Program.{build, programs, programOf}
 use Rattle.compile.specs.CompiledJob.{positionCount, stepCount, fits}
 use Rattle.lists.specs.CountedList.{entryIn, countIn, readEntries, readLines, readList}
 use Rattle.load.specs.Refusals.{Checked, passed, refused, Offer, next, jobIn, taskIn, textsIn, loading}
-use Rattle.theorems.specs.MarkedCases.{Case, marked, pricedCases, conflictCases, handedByProgram, Right}
+use Rattle.theorems.specs.MarkedCases.{Case, marked, pricedCases, conflictCases, pickCases, handedByProgram, Right}
 use Rattle.theorems.proofs.Acceptance.{accepted-within, accepted-iff}
 use Rattle.theorems.proofs.ComputedTable.{follow, followAll, sweep, sweeps, computedTable, keeps, every, relaxedBelow}
 use Rattle.theorems.proofs.ComputedJudgement.{lowestBelow, computedJudgement, computed-finds}
@@ -54,17 +55,17 @@ said c = passed (record { positions = c .positions; steps = c .steps; says = som
 
 -- the cases of requests
 abbrev others : List Case
-others = pricedCases ++ conflictCases
+others = pricedCases ++ (conflictCases ++ pickCases)
 
 computed : map judged (marked ++ others) ≡ map said (marked ++ others)
 unfolding bytes lines hasKey valueOf byteRead numbers
     lineNumbers fault taken ended readFrom readJob
-    end steps branchSteps whileSteps starSteps build programs fits
+    copyStart end copies steps branchSteps whileSteps starSteps pickSteps objectSteps scoped build programs fits
     fact stateWith value values anyOf gives gets conflicts factAfter affected classCost holdsIn successorOf costIn
     spread close silentIn isMove anyMark firstSet nextSet onward finished verdictFrom moveOn verdictBy
     entryIn countIn readEntries readLines readList jobIn taskIn textsIn loading
     arrives follow followAll sweep sweeps computedTable keeps every relaxedBelow lowestBelow computedJudgement
-    marked pricedCases conflictCases judged
+    marked pricedCases conflictCases pickCases judged
 computed = refl
 
 judged-right : (c : Case) → judged c ≡ said c → Right c
@@ -103,10 +104,17 @@ in-second (d ∷ xs) ys m = List·Memᴰ·tail (in-second xs ys m)
 pub marked-cases : (c : Case) → List·Memᴰ c marked → Right c
 marked-cases c m = each-right (marked ++ others) computed c (in-first marked others m)
 
+other-right : (c : Case) → List·Memᴰ c others → Right c
+other-right c m = each-right (marked ++ others) computed c (in-second marked others m)
+
 -- of the table by other costs
 pub priced-cases : (c : Case) → List·Memᴰ c pricedCases → Right c
-priced-cases c m = each-right (marked ++ others) computed c (in-second marked others (in-first pricedCases conflictCases m))
+priced-cases c m = other-right c (in-first pricedCases _ m)
 
--- and of the one with effects that conflict
+-- of the one with effects that conflict
 pub conflict-cases : (c : Case) → List·Memᴰ c conflictCases → Right c
-conflict-cases c m = each-right (marked ++ others) computed c (in-second marked others (in-second pricedCases conflictCases m))
+conflict-cases c m = other-right c (in-second pricedCases _ (in-first conflictCases pickCases m))
+
+-- and of the one with picks
+pub pick-cases : (c : Case) → List·Memᴰ c pickCases → Right c
+pick-cases c m = other-right c (in-second pricedCases _ (in-second conflictCases pickCases m))

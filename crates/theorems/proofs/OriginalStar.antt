@@ -17,7 +17,7 @@ use Rattle.job.specs.ReadJob.{read, taken, ended, readFrom, readJob}
 use Rattle.semantics.specs.Program.{Program, nil, move, while, star}
 use Rattle.semantics.specs.Domain.{Domain}
 use Rattle.semantics.specs.Transition.{Run}
-use Rattle.semantics.specs.CompilingTable.{end, steps, whileSteps, starSteps}
+use Rattle.semantics.specs.CompilingTable.{end, steps, whileSteps, starSteps, finalPosition}
 use Rattle.semantics.specs.Path as P
 use Rattle.semantics.specs.Path.{Path, here, there, idles, passes, moves-on}
 use Rattle.semantics.specs.Verdict.{Entries, Judged, unfinished, byRuns, is-unfinished}
@@ -33,14 +33,14 @@ use Rattle.theorems.specs.OriginalStar.{originalEnd, originalSteps, Star
 
 abbrev caseEight : Job
 caseEight = record {
-  scalars = record { facts = 2; init = 0; goal = 1 };
+  scalars = record { facts = 2; init = 0; goal = 1; objects = 0 };
   formulas = record { kind = 1; a = 0; b = 0 } ∷ record { kind = 2; a = 0; b = 0 } ∷ record { kind = 2; a = 1; b = 0 } ∷ record { kind = 3; a = 1; b = 0 } ∷ [];
   moves = record { pre = 0; class = 3; effects = 1; first = 0 } ∷ record { pre = 2; class = 1; effects = 1; first = 1 } ∷ [];
   effects = record { cond = 0; fact = 1; value = 1 } ∷ record { cond = 0; fact = 0; value = 1 } ∷ [];
   program = record { kind = 1; a = 0; b = 0; c = 0 } ∷ record { kind = 7; a = 3; b = 0; c = 0 } ∷ record { kind = 8; a = 1; b = 0; c = 0 } ∷ [];
 }
 
-case-read : readJob starOfWhile ≡ read 18 caseEight
+case-read : readJob starOfWhile ≡ read 19 caseEight
 unfolding bytes lines hasKey valueOf byteRead numbers lineNumbers fault taken ended readFrom readJob
 case-read = refl
 
@@ -57,13 +57,13 @@ star-of-body = refl
 
 -- into the while, move 0, back to the while's position, which is the star's too, and out through
 -- the star
-way-out : Path D (originalSteps (D .moves) body 0) (D .start) 0 (1 ∷ 0 ∷ 3 ∷ 4 ∷ []) (0 ∷ []) 2 (originalEnd body 0)
+way-out : Path D (originalSteps D body 0) (D .start) 0 (1 ∷ 0 ∷ 3 ∷ 4 ∷ []) (0 ∷ []) 2 (originalEnd D body 0)
 unfolding end steps whileSteps fact stateWith value values anyOf gives gets conflicts factAfter affected holdsIn successorOf
 way-out =
     P.step (there here) (passes refl)
     (P.step here (moves-on refl) (P.step (there (there (there here))) idles (P.step (there (there (there (there here)))) idles P.stop)))
 
-final-below : end (star body) 0 < 6
+final-below : finalPosition D (star body) < 6
 unfolding end
 final-below = omega arith
 
@@ -83,7 +83,7 @@ no-run = rw star-of-body (not-completed (byRuns D (star body)) (0 ∷ []) (rw co
 -- marked case 8: "case 8 would say goal missed"
 pub original-star-fails : StarFails starOfWhile (0 ∷ [])
 original-star-fails = record {
-  lines = 18;
+  lines = 19;
   job = caseEight;
   is-read = case-read;
   body = body;

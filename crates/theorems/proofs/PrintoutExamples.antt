@@ -64,8 +64,8 @@ unfolding bytes digitsWithin written
 checked-plan = refl
 
 sampleCounts : Counts
-sampleCounts = record { facts = 2; formulas = 4; moves = 2; effects = 2; program = 3 }
+sampleCounts = record { facts = 2; formulas = 4; moves = 2; effects = 2; objects = 0; program = 3 }
 
-read-sample : readPrintout (Read sampleCounts) ≡ bytes "facts=2\nformulas=4\nmoves=2\neffects=2\nprogram=3\n"
+read-sample : readPrintout (Read sampleCounts) ≡ bytes "facts=2\nformulas=4\nmoves=2\neffects=2\nobjects=0\nprogram=3\n"
 unfolding bytes digitsWithin written sampleCounts
 read-sample = refl

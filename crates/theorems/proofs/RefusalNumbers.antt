@@ -25,11 +25,11 @@ use Rattle.lists.specs.CountedList as L
 use Rattle.lists.specs.CountedList.{ListOutcome}
 use Rattle.lists.specs.CostsText.{readCosts}
 use Rattle.lists.specs.PlanText.{readPlan}
-use Rattle.compile.specs.CompiledJob.{fits}
+use Rattle.compile.specs.CompiledJob.{fits, hasPicks}
 use Rattle.load.specs.Refusals.{Handed, Checked, passed, refused, next, compilable, jobIn, withCosts, costsIn, taskIn}
 use Rattle.load.specs.Refusals.{offered, keyFor, boundFor, planIn, textsIn}
 use Rattle.load.specs.Refusals.{listNeed, tableNeed, loading}
-use Rattle.theorems.specs.RefusalNumbers.{UpTo, TextNumber, of-job, of-costs, of-plan, LoadNumber, of-text, too-short}
+use Rattle.theorems.specs.RefusalNumbers.{UpTo, JobNumber, of-line, of-variable, TextNumber, of-job, of-costs, of-plan, LoadNumber, of-text, too-short}
 
 -- whatever refusal it is, its number meets P
 abbrev RefusedBy : {A : Type 0} → (ℕ → Type 0) → Checked A → Type 0
@@ -80,13 +80,16 @@ length-refuses P a need places six =
     cond-has (RefusedBy P) (leb need places) (passed a) (refused 6 need) (λ z number place e. never (cc))
     (λ z number place e. let y : 6 ≡ number = cc in subst P y six)
 
-compilable-refuses : (o : Outcome) → Ranged o → RefusedBy (UpTo 4) (compilable o)
-compilable-refuses (R.read n j) r = cond-has (RefusedBy (UpTo 4)) (fits j) (passed j) (refused 4 n) (λ z a b e. never (cc))
-    (λ z a b e. let y : a ≡ 4 = cc in (omega arith, omega arith))
-compilable-refuses (R.refused m p) r = λ a b e. let y : m ≡ a = cc in let x = r m p refl in (omega (arith, x .0), omega (arith, x .1))
+compilable-refuses : (o : Outcome) → Ranged o → RefusedBy JobNumber (compilable o)
+compilable-refuses (R.read n j) r =
+    cond-has (RefusedBy JobNumber) (hasPicks j) (cond (fits j) (passed j) (refused 4 n)) (refused 8 n)
+    (λ v. cond-has (RefusedBy JobNumber) (fits j) (passed j) (refused 4 n) (λ z a b e. never (cc))
+    (λ z a b e. let y : a ≡ 4 = cc in of-line {number = a} (omega arith, omega arith)))
+    (λ v a b e. let y : 8 ≡ a = cc in subst JobNumber y of-variable)
+compilable-refuses (R.refused m p) r = λ a b e. let y : m ≡ a = cc in let x = r m p refl in of-line {number = a} (omega (arith, x .0), omega (arith, x .1))
 
--- of a job text: reasons 1 to 4
-pub job-number : (text : List ℕ) (number place : ℕ) → jobIn text ≡ refused number place → UpTo 4 number
+-- of a job text: reasons 1 to 4, and 8
+pub job-number : (text : List ℕ) (number place : ℕ) → jobIn text ≡ refused number place → JobNumber number
 unfolding jobIn
 job-number text = compilable-refuses (readJob text) (read-number text)
 

@@ -14,6 +14,7 @@ use Rattle.job.specs.Task.{classCost}
 use Rattle.job.specs.ReadJob.{taken, ended, readFrom, readJob}
 use Rattle.semantics.specs.Domain.{Domain}
 use Rattle.semantics.specs.CompilingTable.{end, steps}
+use Rattle.semantics.specs.Scope.{scoped}
 use Rattle.domain.specs.State.{fact, stateWith, value, values}
 use Rattle.domain.specs.Effects.{anyOf, gives, gets, conflicts, factAfter, affected}
 use Rattle.domain.specs.Domain.{holdsIn, successorOf, costIn}
@@ -32,7 +33,7 @@ use Rattle.theorems.specs.MarkedCases.{sample}
 -- two rows, then 58 lines of spaces
 sample-sheet : next (viewIn (checking Moves (withoutCosts sample (bytes "plan=2\nm=0\nm=1\n")) 8)) (λ v. passed (sheetOf (v .domain) (v .entries)))
     ≡ passed (bytes "    1    0       20         20\n    2    1        5         25\n" ++ flatten (replicate 58 (bytes "                              \n")))
-unfolding bytes lines hasKey valueOf byteRead numbers digitsWithin lineNumbers fault classCost taken ended readFrom readJob end steps build programs fits
+unfolding bytes lines hasKey valueOf byteRead numbers digitsWithin lineNumbers fault classCost taken ended readFrom readJob end steps scoped build programs fits
     fact stateWith value values anyOf gives gets conflicts factAfter affected holdsIn successorOf costIn
     entryIn countIn readEntries readLines readList jobIn taskIn textsIn loading
     column lineBytes planLinesFrom blankLine pagedLines sheetOf flatten

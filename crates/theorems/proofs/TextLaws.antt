@@ -56,8 +56,11 @@ bound-small : (c : Counts) → c .facts ≤ mostFacts → c .formulas ≤ mostFo
 bound-small c a b d e F.Unused = omega arith
 bound-small c a b d e F.Fact = omega arith
 bound-small c a b d e F.Formula = omega arith
+bound-small c a b d e F.FormulaBase = omega arith
 bound-small c a b d e F.Move = omega arith
+bound-small c a b d e F.MoveBase = omega arith
 bound-small c a b d e F.Row = omega arith
+bound-small c a b d e F.Variable = omega arith
 
 -- a row of a table of kinds: its fields pass, and its numbers are small
 abbrev KindText : Counts → List (List Field) → ℕ → List ℕ → Type 0
@@ -228,7 +231,7 @@ module _ (j : J.Job) (w : WellFormed j) where
 
   -- the scalars before the goal is read
   abbrev sc : J.Scalars
-  sc = record { facts = facts; init = j .scalars .init; goal = 0 }
+  sc = J.scalars facts (j .scalars .init) 0 0
 
   head-read : (n : ℕ) (tail : List (List ℕ))
       → readFrom n begun
@@ -238,24 +241,28 @@ module _ (j : J.Job) (w : WellFormed j) where
   head-read n tail =
       one-line Job 0 (begun .job) n 1 _ (omega arith) (omega arith) (omega arith)
       ∙ one-line Facts 1 (begun .job) (n + 1) facts _ (omega (arith, w .facts)) (omega arith) (omega (arith, w .facts))
-      ∙ one-line Init facts (jobWith (record { facts = facts; init = 0; goal = 0 }) [] [] [] []) (n + 1 + 1) (j .scalars .init) _ init-small (omega arith)
+      ∙ one-line Init facts (jobWith (J.scalars facts 0 0 0) [] [] [] []) (n + 1 + 1) (j .scalars .init) _ init-small (omega arith)
       (w .init)
       ∙ one-line Formulas (j .scalars .init) (jobWith sc [] [] [] []) (n + 1 + 1 + 1) (length (j .formulas)) tail
       (omega (arith, w .formulas)) (omega (arith, w .goal)) (omega (arith, w .formulas))
 
   program-read : (n : ℕ) → readFrom n (on (One Goal) 0 0 (jobWith sc (j .formulas) (j .moves) (j .effects) [])) (programLines j) ≡ read
-      (n + 1 + 1 + length (j .program)) j
+      (n + 1 + 1 + 1 + length (j .program)) j
   program-read n =
+      let objects : ℕ = j .scalars .objects in
       let mk : List J.Row → J.Job = λ l. jobWith (j .scalars) (j .formulas) (j .moves) (j .effects) l in
       let st : ℕ → J.Job → Reading = λ k q. on (afterRow Row k 0) k 0 q in
       one-line Goal 0 (jobWith sc (j .formulas) (j .moves) (j .effects) []) n (j .scalars .goal)
-      (lineOf (One Program) (length (j .program) ∷ []) ∷ map rowLine (j .program))
+      (lineOf (One Objects) (objects ∷ []) ∷ lineOf (One Program) (length (j .program) ∷ []) ∷ map rowLine (j .program))
       (omega (arith, w .goal, w .formulas)) (omega arith) (w .goal)
-      ∙ one-line Program (j .scalars .goal) (mk []) (n + 1) (length (j .program)) (map rowLine (j .program)) (omega (arith, w .program)) (w .last)
+      ∙ one-line Objects (j .scalars .goal) (jobWith (J.scalars facts (j .scalars .init) (j .scalars .goal) 0) (j .formulas) (j .moves) (j .effects) [])
+      (n + 1) objects (lineOf (One Program) (length (j .program) ∷ []) ∷ map rowLine (j .program))
+      (omega (arith, w .objects)) (omega arith) (omega (arith, w .objects))
+      ∙ one-line Program objects (mk []) (n + 1 + 1) (length (j .program)) (map rowLine (j .program)) (omega (arith, w .program)) (w .last)
       (omega (arith, w .program))
-      ∙ ap (readFrom (n + 1 + 1) (st (length (j .program)) (mk []))) (sym (append-nil (map rowLine (j .program))))
-      ∙ rows-read (J.rowOf []) mk RowAt st rowLine (λ k i done. row-step k i (mk done)) (j .program) [] (n + 1 + 1) [] row-texts
-      ∙ read-end (n + 1 + 1 + length (j .program)) j
+      ∙ ap (readFrom (n + 1 + 1 + 1) (st (length (j .program)) (mk []))) (sym (append-nil (map rowLine (j .program))))
+      ∙ rows-read (J.rowOf []) mk RowAt st rowLine (λ k i done. row-step k i (mk done)) (j .program) [] (n + 1 + 1 + 1) [] row-texts
+      ∙ read-end (n + 1 + 1 + 1 + length (j .program)) j
 
   lines-read : readFrom 0 begun (jobLines j) ≡ read (length (jobLines j)) j
   lines-read =
@@ -266,7 +273,7 @@ module _ (j : J.Job) (w : WellFormed j) where
       let n : ℕ = 4 + length fs in
       let mk : List J.Formula → J.Job = λ l. jobWith sc l [] [] [] in
       let z : 0 + length es ≡ length es = omega arith in
-      let e : 4 + length fs + 1 + length (moveLines ms es) + 1 + 1 + length (j .program) ≡ length (jobLines j) =
+      let e : 4 + length fs + 1 + length (moveLines ms es) + 1 + 1 + 1 + length (j .program) ≡ length (jobLines j) =
       omega (
         arith,
         length-append (map formulaLine fs) after,
@@ -292,6 +299,7 @@ key-plain (One Init) = refl
 key-plain (One Formulas) = refl
 key-plain (One Moves) = refl
 key-plain (One Goal) = refl
+key-plain (One Objects) = refl
 key-plain (One Program) = refl
 key-plain (Of Formula) = refl
 key-plain (Of Move) = refl
@@ -319,7 +327,7 @@ move-once (m ∷ ms) es = (
 
 job-once : (j : J.Job) → All Once (jobLines j)
 job-once j =
-    let end : All Once (programLines j) = (once (One Goal) _ _, (once (One Program) _ _, once-map rowLine (j .program) (λ r. once (Of Row) _ _))) in (
+    let end : All Once (programLines j) = (once (One Goal) _ _, (once (One Objects) _ _, (once (One Program) _ _, once-map rowLine (j .program) (λ r. once (Of Row) _ _)))) in (
       once (One Job) _ _,
       (
         once (One Facts) _ _,

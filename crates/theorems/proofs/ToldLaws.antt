@@ -100,8 +100,11 @@ module _ (j : J.Job) where
   abbrev goalPart : List (List ℕ)
   goalPart = movePart (length (j .moves)) ++ (lineOf (One Goal) (j .scalars .goal ∷ []) ∷ [])
 
+  abbrev objectPart : List (List ℕ)
+  objectPart = goalPart ++ (lineOf (One Objects) (j .scalars .objects ∷ []) ∷ [])
+
   abbrev rowPart : ℕ → List (List ℕ)
-  rowPart n = goalPart ++ (lineOf (One Program) (n ∷ []) ∷ map rowLine (j .program))
+  rowPart n = objectPart ++ (lineOf (One Program) (n ∷ []) ∷ map rowLine (j .program))
 
   -- the part that ends in rows of a sort, and how many of them it has
   abbrev part : RowSort → ℕ → List (List ℕ)
@@ -123,7 +126,8 @@ toldAt (One Init) due j = lineOf (One Job) (1 ∷ []) ∷ lineOf (One Facts) (j 
 toldAt (One Formulas) due j = scalarLines j
 toldAt (One Moves) due j = part j Formula (count j Formula)
 toldAt (One Goal) due j = part j Move (count j Move)
-toldAt (One Program) due j = goalPart j
+toldAt (One Objects) due j = goalPart j
+toldAt (One Program) due j = objectPart j
 toldAt (Of k) due j = part j k (count j k + due)
 toldAt End due j = part j Row (count j Row)
 
@@ -186,8 +190,8 @@ module _ (j : J.Job) (n : ℕ) where
 
   row-told : (r : J.Row) → rowPart (J.addRow j r) n ≡ rowPart j n ++ (rowLine r ∷ [])
   row-told r =
-      ap (λ q. goalPart j ++ (lineOf (One Program) (n ∷ []) ∷ q)) (map-append rowLine (j .program) (r ∷ []))
-      ∙ behind (goalPart j) (lineOf (One Program) (n ∷ [])) (map rowLine (j .program)) (rowLine r)
+      ap (λ q. objectPart j ++ (lineOf (One Program) (n ∷ []) ∷ q)) (map-append rowLine (j .program) (r ∷ []))
+      ∙ behind (objectPart j) (lineOf (One Program) (n ∷ [])) (map rowLine (j .program)) (rowLine r)
 
 module _ (s : Reading) (r : List ℕ) where
   abbrev j : J.Job
@@ -218,6 +222,7 @@ module _ (s : Reading) (r : List ℕ) where
       rows-told (getD r 0 0) 0 (takenAt (One Moves) s r .job) Move (λ y. refl) (getD r 0 0) (omega arith)
       ∙ rw (nil-of (j .moves) z, no-moves (j .effects)) (told-line (One Moves) w)
   told-one Goal w x h = told-line (One Goal) w
+  told-one Objects w x h = told-line (One Objects) w
   told-one Program w x h =
       let z : length (j .program) ≡ 0 = omega (arith, h .fit .program) in
       rows-told (getD r 0 0) 0 (takenAt (One Program) s r .job) Row (λ y. absurd (y refl)) (getD r 0 0) (omega arith)

@@ -9,3 +9,4 @@ pub mod OriginalStar
 pub mod MarkedCases
 pub mod Printed
 pub mod LaysOut
+pub mod Picks

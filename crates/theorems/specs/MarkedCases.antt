@@ -39,22 +39,23 @@ priced c costs = record {
   says = c .says;
 }
 
--- "The sample", with this init, this goal and objects, and this program; "marked cases carry 0"
-abbrev pub sampleWith : String → String → String → List ℕ
-sampleWith init goal program =
+-- "The sample", with this init, goal, number of objects and program; "marked cases carry 0"
+abbrev pub sampleWith : String → String → String → String → List ℕ
+sampleWith init goal objects program =
     bytes "job=1\nfacts=2\n" ++ bytes init
-    ++ bytes "formulas=4\nf=1,0,0\nf=2,0,0\nf=2,1,0\nf=3,1,0\nmoves=2\nm=0,3,1\ne=0,1,1\nm=2,1,1\ne=0,0,1\n" ++ bytes goal ++ bytes program
+    ++ bytes "formulas=4\nf=1,0,0\nf=2,0,0\nf=2,1,0\nf=3,1,0\nmoves=2\nm=0,3,1\ne=0,1,1\nm=2,1,1\ne=0,0,1\n" ++ bytes goal ++ bytes objects
+    ++ bytes program
 
 abbrev pub sample : List ℕ
-sample = sampleWith "init=0\n" "goal=1\nobjects=0\n" "program=3\np=1,0,0,0\np=1,1,0,0\np=4,0,1,0\n"
+sample = sampleWith "init=0\n" "goal=1\n" "objects=0\n" "program=3\np=1,0,0,0\np=1,1,0,0\np=4,0,1,0\n"
 
 -- "With recipe star of (0 or 1), 8 positions and 9 steps"
 abbrev pub starOfChoice : List ℕ
-starOfChoice = sampleWith "init=0\n" "goal=1\nobjects=0\n" "program=4\np=1,0,0,0\np=1,1,0,0\np=6,0,1,0\np=8,2,0,0\n"
+starOfChoice = sampleWith "init=0\n" "goal=1\n" "objects=0\n" "program=4\np=1,0,0,0\np=1,1,0,0\np=6,0,1,0\np=8,2,0,0\n"
 
 -- "With star of (while formula 3 do 0), 6 positions"
 abbrev pub starOfWhile : List ℕ
-starOfWhile = sampleWith "init=0\n" "goal=1\nobjects=0\n" "program=3\np=1,0,0,0\np=7,3,0,0\np=8,1,0,0\n"
+starOfWhile = sampleWith "init=0\n" "goal=1\n" "objects=0\n" "program=3\np=1,0,0,0\np=7,3,0,0\np=8,1,0,0\n"
 
 -- "With init 0, goal fact 0 and one move of precondition true that clears and sets fact 0, recipe
 -- that move"; the clearing comes last in the text
@@ -63,7 +64,7 @@ clearsAndSets = bytes "job=1\nfacts=1\ninit=0\nformulas=2\nf=1,0,0\nf=2,0,0\nmov
 
 -- "init=1 and recipe nil"
 abbrev nilProgram : List ℕ
-nilProgram = sampleWith "init=1\n" "goal=1\nobjects=0\n" "program=1\np=0,0,0,0\n"
+nilProgram = sampleWith "init=1\n" "goal=1\n" "objects=0\n" "program=1\np=0,0,0,0\n"
 
 -- "Marked, on the sample"
 unfoldable pub marked : List Case
@@ -111,6 +112,49 @@ conflictCases =
     ∷ marks (clearsAnd "e=1,0,1\n" "init=1\n" "f=2,0,0\n") 2 1 "plan=1\nm=0\n" (other (blocked 0))
     ∷ marks (clearsAnd "e=1,0,1\n" "init=1\n" "f=0,0,0\n") 2 1 "plan=1\nm=0\n" (least 5)
     ∷ marks (clearsAnd "e=1,0,0\n" "init=1\n" "f=2,0,0\n") 2 1 "plan=1\nm=0\n" (least 5)
+    ∷ []
+
+-- the sample over two objects, with this init, goal and program
+abbrev overTwo : String → String → String → List ℕ
+overTwo init goal program = sampleWith init goal "objects=2\n" program
+
+-- pick of move 0 plus x, which is row 1 of these programs
+abbrev pub pickMove : String → List ℕ
+pickMove goal = overTwo "init=2\n" goal "program=2\np=10,0,0,0\np=9,0,0,0\n"
+
+abbrev twoPicks : List ℕ
+twoPicks = overTwo "init=0\n" "goal=1\n" "program=3\np=10,0,0,0\np=9,0,0,0\np=4,1,1,0\n"
+
+-- pick of (x then x)
+abbrev sameTwice : List ℕ
+sameTwice = overTwo "init=0\n" "goal=1\n" "program=3\np=10,0,0,0\np=4,0,0,0\np=9,1,0,0\n"
+
+-- pick of (test of formula 1 plus x, then move 0 plus x)
+abbrev testThenMove : List ℕ
+testThenMove = overTwo "init=2\n" "goal=1\n" "program=4\np=11,1,0,0\np=10,0,0,0\np=4,0,1,0\np=9,2,0,0\n"
+
+-- pick of a star of a pick of one move: of the inner pick's object, or of the outer one's
+abbrev rounds : String → List ℕ
+rounds leaf = overTwo "init=0\n" "goal=1\n" "program=4\n" ++ bytes leaf ++ bytes "p=9,0,0,0\np=8,1,0,0\np=9,2,0,0\n"
+
+-- pick over no object
+abbrev overNone : List ℕ
+overNone = sampleWith "init=0\n" "goal=1\n" "objects=0\n" "program=2\np=10,0,0,0\np=9,0,0,0\n"
+
+-- "an execution is one of the body for some object", "0 being the nearest", and "a shop may take the
+-- least over every choice of peg"
+unfoldable pub pickCases : List Case
+pickCases =
+    marks (pickMove "goal=0\n") 6 6 "plan=1\nm=1\n" (least 5)
+    ∷ marks (pickMove "goal=0\n") 6 6 "plan=1\nm=0\n" (dearer 20 5)
+    ∷ marks twoPicks 11 12 "plan=2\nm=0\nm=1\n" (least 25)
+    ∷ marks sameTwice 8 8 "plan=2\nm=0\nm=1\n" (other (blocked 1))
+    ∷ marks sameTwice 8 8 "plan=2\nm=0\nm=0\n" (other missed)
+    ∷ marks testThenMove 8 8 "plan=1\nm=1\n" (least 5)
+    ∷ marks testThenMove 8 8 "plan=1\nm=0\n" (other (blocked 0))
+    ∷ marks (rounds "p=10,0,0,0\n") 18 22 "plan=2\nm=0\nm=1\n" (least 25)
+    ∷ marks (rounds "p=10,0,1,0\n") 18 22 "plan=2\nm=0\nm=1\n" (other (blocked 1))
+    ∷ marks overNone 2 0 "plan=0\n" (other unfinished)
     ∷ []
 
 -- "the judge program's table holds 6,144", "its compiled list 4,096"
