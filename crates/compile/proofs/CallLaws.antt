@@ -20,7 +20,7 @@ use Rattle.compile.specs.Program.{rowProgram}
 use Rattle.compile.specs.Construct.{BaseRight, HasObject, programIn, RowSays}
 use Rattle.compile.specs.Env.{objectsIn, EnvRight}
 use Rattle.compile.specs.Size.{sizesOf, sizesIn}
-use Rattle.compile.specs.Laid.{StepsLaid, Enough, CopiesLaid}
+use Rattle.compile.specs.Laid.{StepsLaid, Enough}
 use Rattle.compile.specs.declared.env.Env.{Env}
 use Rattle.compile.specs.declared.rows.Simple.{Simple}
 use Rattle.compile.specs.declared.rows.Guard.{Guard}
@@ -31,7 +31,7 @@ use Rattle.compile.specs.declared.steps.Cursor.{Cursor}
 use Rattle.compile.proofs.Shapes.{branch-scoped, loop-scoped, has-object}
 use Rattle.compile.proofs.SizeLaws.{row-sizes}
 use Rattle.compile.proofs.StepsLaidLaws.{next, wrote-end}
-use Rattle.compile.proofs.PickLaws.{copy-room}
+use Rattle.compile.proofs.PickLaws.{CopiesLaid, copy-room}
 
 module _ (h : Head) (l : List ℕ) where
   abbrev pub of : ℕ → Program
@@ -175,15 +175,9 @@ module _ {h : Head} {l : List ℕ} {a t places : ℕ} {from : Cursor} {env : Env
     omega (arith, p .0),
     (
       (p .1 .0 .0, p .1 .0 .1, e .1, omega (arith, e .2, p .1 .0 .3)),
-      copy-room (h .counts) (objectsIn env) (of h l a) from (p .1 .1) q k g (e .0),
+      copy-room (p .1 .1) q k g (e .0),
     ),
   )
 
 pub some-object : {objects : ℕ} → (objects ≡ 0 → ⊥) → 0 < objects
 some-object h = omega (arith, h)
-
-pub all-copied : {c : Counts} {env : List ℕ} {σ : Program} {old list : List ℕ} {from last : Cursor} {o : ℕ} → CopiesLaid c env σ old from o list last
-    → c .objects ≤ o → CopiesLaid c env σ old from (c .objects) list last
-all-copied {c} {env} {σ} {old} {list} {from} {last} {o} k h =
-    let e : o ≡ c .objects = omega (arith, h, k .few) in
-    subst (λ (x : ℕ). CopiesLaid c env σ old from x list last) e k

@@ -86,17 +86,27 @@ position-low s k count h g = let m = mul-le-mul-left (s .apart) h in (omega (ari
 same-copies : (k : ℕ) (f g : ℕ → List Step) → ((o : ℕ) → f o ≡ g o) → copies k f ≡ copies k g
 same-copies k f g e = ap (copies k) (fun-ext e)
 
+-- one position, and positions that are so far apart
+abbrev pub only : ℕ → Spaced
+only p = record { first = p; apart = 0 }
+
+abbrev pub spaced : ℕ → ℕ → Spaced
+spaced p a = record { first = p; apart = a }
+
+only-one : (p k : ℕ) → p ≡ positionAt (only p) k
+only-one p k = omega arith
+
 -- both sorts of them, one after another
 pub laid-pick : (O n a : ℕ) {old mid new : List ℕ} {at at₁ at₂ : ℕ}
-    → LaidOver (flat (copies O (linkSteps (record { first = n; apart = 0 }) (record { first = n + 1; apart = a })))) old at mid at₁
-    → LaidOver (flat (copies O (linkSteps (record { first = n + a; apart = a }) (record { first = n + 1 + a * O; apart = 0 })))) mid at₁ new at₂
+    → LaidOver (flat (copies O (linkSteps (only n) (spaced (n + 1) a)))) old at mid at₁
+    → LaidOver (flat (copies O (linkSteps (spaced (n + a) a) (only (n + 1 + a * O))))) mid at₁ new at₂
     → LaidOver (flat (pickSteps O n (λ k. n + 1 + a * k) (λ k. n + a + a * k))) old at new at₂
 unfolding pickSteps
 laid-pick O n a x y =
-    let f : (k : ℕ) → arc L.noop n (n + 1 + a * k) ∷ [] ≡ linkSteps (record { first = n; apart = 0 }) (record { first = n + 1; apart = a }) k =
-    λ k. let e : n ≡ n + 0 * k = omega arith in ap (λ (p : ℕ). arc L.noop p (n + 1 + a * k) ∷ []) e in
-    let g : (k : ℕ) → arc L.noop (n + a + a * k) (n + 1 + a * O) ∷ [] ≡ linkSteps (record { first = n + a; apart = a }) (record { first = n + 1 + a * O; apart = 0 }) k =
-    λ k. let e : n + 1 + a * O ≡ n + 1 + a * O + 0 * k = omega arith in ap (λ (p : ℕ). arc L.noop (n + a + a * k) p ∷ []) e in
+    let f : (k : ℕ) → arc L.noop n (n + 1 + a * k) ∷ [] ≡ linkSteps (only n) (spaced (n + 1) a) k =
+    λ k. ap (λ (p : ℕ). arc L.noop p (n + 1 + a * k) ∷ []) (only-one n k) in
+    let g : (k : ℕ) → arc L.noop (n + a + a * k) (n + 1 + a * O) ∷ [] ≡ linkSteps (spaced (n + a) a) (only (n + 1 + a * O)) k =
+    λ k. ap (λ (p : ℕ). arc L.noop (n + a + a * k) p ∷ []) (only-one (n + 1 + a * O) k) in
     rw (same-copies O _ _ f, same-copies O _ _ g, flat-append (copies O _) (copies O _)) (laid-append x y)
 
 -- as the code writes them

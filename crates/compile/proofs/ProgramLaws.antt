@@ -54,8 +54,31 @@ module _ (c : Counts) (few-moves : c .moves ≤ mostMoves) (few-formulas : c .fo
   kinds-refer : Pairs Refers rowFields (constructs r)
   kinds-refer = (
     λ w. tt,
-    (λ w. tt, (λ w. tt, (λ w. tt, (λ w. (w .0, w .1 .0), (λ w. (w .1 .0, w .1 .1 .0), (λ w. (w .0, w .1 .0), (λ w. w .1 .0, (λ w. w .0,
-    (λ w. w .0, (λ w. base (c .moves) (omega (arith, few-moves)) (w .0), (λ w. base (c .formulas) few-formulas (w .0), tt))))))))))),
+    (
+      λ w. tt,
+      (
+        λ w. tt,
+        (
+          λ w. tt,
+          (
+            λ w. (w .0, w .1 .0),
+            (
+              λ w. (w .1 .0, w .1 .1 .0),
+              (
+                λ w. (w .0, w .1 .0),
+                (
+                  λ w. w .1 .0,
+                  (
+                    λ w. w .0,
+                    (λ w. w .0, (λ w. base (c .moves) (omega (arith, few-moves)) (w .0), (λ w. base (c .formulas) few-formulas (w .0), tt))),
+                  ),
+                ),
+              ),
+            ),
+          ),
+        ),
+      ),
+    ),
   )
 
   refers-back : Within c (getD rowFields (r .kind) []) (r .a ∷ r .b ∷ r .c ∷ []) → Earlier (c .program) (constructOf r)
@@ -77,7 +100,8 @@ row-says {h} {l} s i within r row =
     let low : i < length program = omega (arith, within, row-count h l) in
     let ps : List Program = programs (take i program) in
     let earlier : Earlier i (constructOf r) =
-    subst (λ (x : Row). Earlier i (constructOf x)) (sym row) (refers-back (beforeRow (jobOf h l) i) (s .job .moves) (s .job .formulas) (programRowAt (jobOf h l) i) (row-within s i within)) in
+    subst (λ (x : Row). Earlier i (constructOf x)) (sym row)
+    (refers-back (beforeRow (jobOf h l) i) (s .job .moves) (s .job .formulas) (programRowAt (jobOf h l) i) (row-within s i within)) in
     record {
       is = row-built program i low ∙ ap (build ps) (sym row) ∙ build-says ps r
           ∙ same-program (λ k. getD ps k nil) (rowProgram program) i (row-earlier program i (omega (arith, low))) (constructOf r) earlier;

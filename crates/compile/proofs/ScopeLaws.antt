@@ -1,7 +1,7 @@
 -- A program's variables have their picks just where it asks for no enclosing pick; what a row asks
 -- for, from what earlier rows do.
 -- Assumes nothing.
-use Prim.Native.Nat.{ℕ, suc, _+_, _-_, _≤_, _<_, max}
+use Prim.Native.Nat.{ℕ, suc, _+_, _-_, _<_, max}
 use mathlib.Core.Path.{_≡_, refl, sym, _∙_, ap, ap₂}
 use mathlib.Core.Bool.{_&&_}
 use mathlib.Core.List.{List}
@@ -15,7 +15,7 @@ use Rattle.semantics.specs.Program.{Program, nil, move, any, test, seq, ifElse,
 use Rattle.semantics.specs.Scope.{scoped}
 use Rattle.compile.specs.Program.{rowProgram}
 use Rattle.compile.specs.Construct.{simple, branch, loop, programIn, Earlier, RowSays}
-use Rattle.compile.specs.Scope.{picksNeeded, leafPicks, picksIn}
+use Rattle.compile.specs.Scope.{leafPicks, picksIn}
 use Rattle.compile.specs.declared.rows.Simple.{Simple}
 use Rattle.compile.specs.declared.rows.Simple.the-variants.{Nil, Move, Test, MoveOf, TestOf}
 use Rattle.compile.specs.declared.rows.Guard.{Guard}
@@ -23,6 +23,21 @@ use Rattle.compile.specs.declared.rows.Guard.the-variants.{Free, On}
 use Rattle.compile.specs.declared.rows.Construct.{Construct}
 use Rattle.compile.specs.declared.rows.Construct.the-variants as C
 use Rattle.compile.proofs.RowTable.{Tabled, tabled-more}
+
+-- how many enclosing picks a program asks for
+unfoldable pub picksNeeded : Program → ℕ
+picksNeeded nil = 0
+picksNeeded (move a) = 0
+picksNeeded any = 0
+picksNeeded (test a) = 0
+picksNeeded (seq a b) = max (picksNeeded a) (picksNeeded b)
+picksNeeded (ifElse f a b) = max (picksNeeded a) (picksNeeded b)
+picksNeeded (choice a b) = max (picksNeeded a) (picksNeeded b)
+picksNeeded (while f a) = picksNeeded a
+picksNeeded (star a) = picksNeeded a
+picksNeeded (pick a) = picksNeeded a - 1
+picksNeeded (moveOf a b) = suc b
+picksNeeded (testOf a b) = suc b
 
 both-at-most : (x y d : ℕ) → leb x d && leb y d ≡ leb (max x y) d
 both-at-most x y d = tests-equal _ _

@@ -11,14 +11,13 @@ use lib.ListN.{length, set, length-append}
 use Rattle.laws.proofs.Tests.{and-left, and-right}
 use Rattle.job.specs.Job.{Row}
 use Rattle.job.specs.declared.head.Counts.{Counts}
-use Rattle.semantics.specs.Label.{Label, noop}
+use Rattle.semantics.specs.Label.{noop}
 use Rattle.semantics.specs.Program.{Program, any, seq, pick}
 use Rattle.semantics.specs.CompilingTable.{Step, arc, copyStart, end, copies, steps, moveSteps, branchSteps, whileSteps, starSteps, pickSteps}
 use Rattle.semantics.specs.Scope.{scoped}
 use Rattle.compile.specs.Program.{rowProgram}
 use Rattle.compile.specs.Construct.{simple, branch, loop, loopSteps, programIn, Earlier, RowSays}
 use Rattle.compile.specs.Size.{sizesOf, sizesSum, nothing, copiesSize, sizesIn, sized, capped, cappedSizes, listed}
-use Rattle.compile.specs.Laid.{copyOf}
 use Rattle.compile.specs.declared.rows.Simple.{Simple}
 use Rattle.compile.specs.declared.rows.Simple.the-variants.{Nil, Move, Test, MoveOf, TestOf}
 use Rattle.compile.specs.declared.rows.Guard.{Guard}
@@ -54,6 +53,10 @@ pick-count O n starts ends =
 -- a product of two numbers of 16 bits, or two more
 pub product-low : (a b : ℕ) → a ≤ 65535 → b ≤ 65537 → a * b ≤ 4294967295
 product-low a b h g = omega (arith, mul-le-mul-right b h, g)
+
+-- the copy of a pick's body for object o, where the pick is compiled from n
+abbrev pub copyOf : Counts → List ℕ → Program → ℕ → ℕ → List Step
+copyOf c env σ n o = steps (c .moves) (c .objects) (o ∷ env) σ (copyStart (end (c .objects) σ) n o)
 
 -- where copies start whose ends are so far from their starts
 pub start-at : (ends : ℕ → ℕ) (w : ℕ) → ((n : ℕ) → ends n ≡ n + w) → (n o : ℕ) → copyStart ends n o ≡ n + 1 + (w + 1) * o

@@ -9,7 +9,7 @@ use Rattle.limits.specs.Limits.{mostPositions}
 use Rattle.semantics.specs.Label as L
 use Rattle.semantics.specs.Label.{noop}
 use Rattle.semantics.specs.Program.{Program}
-use Rattle.semantics.specs.CompilingTable.{Step, arc, copyStart, end, copies, steps, flat, kindOf, argOf}
+use Rattle.semantics.specs.CompilingTable.{Step, arc, end, steps, flat, kindOf, argOf}
 use Rattle.semantics.specs.Scope.{scoped}
 use Rattle.job.specs.declared.head.Counts.{Counts}
 use Rattle.compile.specs.Construct.{firstLabel, secondLabel}
@@ -19,10 +19,6 @@ use Rattle.compile.specs.declared.steps.Cursor.{Cursor}
 use Rattle.compile.specs.declared.steps.StepLabel.{StepLabel}
 use Rattle.compile.specs.declared.steps.Labels.{Labels}
 use Rattle.compile.specs.declared.steps.Spaced.{Spaced}
-
--- the copy of a pick's body for object o, where the pick is compiled from n
-abbrev pub copyOf : Counts → List ℕ → Program → ℕ → ℕ → List Step
-copyOf c env σ n o = steps (c .moves) (c .objects) (o ∷ env) σ (copyStart (end (c .objects) σ) n o)
 
 -- position number k of those that are so far apart
 abbrev pub positionAt : Spaced → ℕ → ℕ
@@ -55,10 +51,3 @@ pub record Enough (c : Counts) (env : List ℕ) (σ : Program) (from : Cursor) (
   pub variables : scoped (length env) σ ≡ true
   pub positions : from .position + sizesOf c σ .positions < mostPositions
   pub room : from .at + sizesOf c σ .steps * 4 ≤ places
-
--- the steps of the first o copies of a pick's body, and the cursor after them
-pub record CopiesLaid (c : Counts) (env : List ℕ) (σ : Program) (old : List ℕ) (from : Cursor) (o : ℕ) (new : List ℕ) (to : Cursor) : Type 0 where
-  pub few : o ≤ c .objects
-  pub size : length new ≡ length old
-  pub laid : LaidOver (flat (copies o (copyOf c env σ (from .position)))) old (from .at) new (to .at)
-  pub ends : to .position ≡ copyStart (end (c .objects) σ) (from .position) o

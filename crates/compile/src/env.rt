@@ -1,7 +1,7 @@
 // The objects of the picks around a row, the nearest first: they stand at the end of an array.
 ghost use mathlib.Core.Path.{_≡_};
 ghost use mathlib.Core.List.{[], _∷_};
-ghost use Prim.Native.Nat.{_+_, _≤_, _<_};
+ghost use Prim.Native.Nat.{_+_, _<_};
 ghost use lib.ListN.{length, getD};
 ghost use Rattle.limits.specs.Limits.{mostObjects, mostProgram};
 ghost use Rattle.compile.specs.Env.{objectsIn, EnvRight};

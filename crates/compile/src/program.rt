@@ -58,7 +58,14 @@ fn compile_row(head: Head, rows: &[u16], i: u16, list: &mut [u16], from: Cursor,
 
 // Writes the steps of a pick whose body is row a: a copy for each object, and then the steps to and
 // from them.
-fn compile_pick(head: Head, rows: &[u16], a: u16, list: &mut [u16], from: Cursor, env: Env) -> Cursor
+fn compile_pick(
+    head: Head,
+    rows: &[u16],
+    a: u16,
+    list: &mut [u16],
+    from: Cursor,
+    env: Env,
+) -> Cursor
     requires { ⌜ Stored head (now rows) × (a < head .counts .program) × EnvRight env × (a + 1 < env .start) ⌝ }
     requires { ⌜ Enough (head .counts) (objectsIn env) (pick (rowProgram (jobOf head (now rows) .program) a)) from (length (now list)) ⌝ }
     ensures { λ r. ⌜ StepsLaid (head .counts) (objectsIn env) (pick (rowProgram (jobOf head (now (rows .entry)) .program) a)) (now (list .entry)) from

@@ -1,6 +1,6 @@
 // Variables and their picks.
 ghost use mathlib.Core.Path.{_≡_};
-ghost use Prim.Native.Nat.{_-_, _≤_, max};
+ghost use Prim.Native.Nat.{_-_, max};
 ghost use lib.ListN.{getD};
 ghost use Rattle.job.specs.Store.{jobOf};
 ghost use Rattle.job.specs.Stored.{Stored};

@@ -182,7 +182,14 @@ fn links(list: &mut [u16], at: usize, from: Spaced, to: Spaced, count: u16) -> u
     let mut next = at;
     let mut k: u16 = 0;
     while k < count {
-        next = put_step(list, next, 0, from.first + from.apart * k, to.first + to.apart * k, 0);
+        next = put_step(
+            list,
+            next,
+            0,
+            from.first + from.apart * k,
+            to.first + to.apart * k,
+            0,
+        );
         k += 1;
     }
     next

@@ -11,13 +11,14 @@ use Rattle.theorems.specs.MarkedCases.{sampleWith}
 use Rattle.job.specs.ReadJob.{read, refused, taken, ended, readFrom, readJob}
 
 -- one fact, one move that sets it, and the program of that move
-reads-job : readJob (bytes "job=1\nfacts=1\ninit=0\nformulas=1\nf=2,0,0\nmoves=1\nm=0,3,1\ne=0,0,1\ngoal=0\nobjects=0\nprogram=1\np=1,0,0,0\n") ≡ read 12 (record {
-  scalars = record { facts = 1; init = 0; goal = 0; objects = 0 };
-  formulas = record { kind = 2; a = 0; b = 0 } ∷ [];
-  moves = record { pre = 0; class = 3; effects = 1; first = 0 } ∷ [];
-  effects = record { cond = 0; fact = 0; value = 1 } ∷ [];
-  program = record { kind = 1; a = 0; b = 0; c = 0 } ∷ [];
-})
+reads-job : readJob
+    (bytes "job=1\nfacts=1\ninit=0\nformulas=1\nf=2,0,0\nmoves=1\nm=0,3,1\ne=0,0,1\ngoal=0\nobjects=0\nprogram=1\np=1,0,0,0\n") ≡ read 12 (record {
+      scalars = record { facts = 1; init = 0; goal = 0; objects = 0 };
+      formulas = record { kind = 2; a = 0; b = 0 } ∷ [];
+      moves = record { pre = 0; class = 3; effects = 1; first = 0 } ∷ [];
+      effects = record { cond = 0; fact = 0; value = 1 } ∷ [];
+      program = record { kind = 1; a = 0; b = 0; c = 0 } ∷ [];
+    })
 unfolding bytes lines hasKey valueOf byteRead numbers lineNumbers fault taken ended readFrom readJob
 reads-job = refl
 

@@ -27,7 +27,8 @@ use Rattle.jesmovit.specs.Compiling.{compiling, listAfter, viewSizes}
 
 -- "`positions=3` `steps=2` `s=3,0,1,0` `s=3,1,2,1`"
 compiles-sample : next (viewIn (compiling sample 9)) (λ v. passed (viewSizes v)) ≡ passed (record { positions = 3; steps = 2 })
-unfolding bytes lines hasKey valueOf byteRead numbers lineNumbers fault taken ended readFrom readJob end steps scoped build programs fits jobIn taskIn textsIn loading
+unfolding bytes lines hasKey valueOf byteRead numbers lineNumbers fault taken ended readFrom readJob end steps scoped build programs fits
+    jobIn taskIn textsIn loading
 compiles-sample = refl
 
 -- with a later entry, which does not change
@@ -51,7 +52,8 @@ unfolding bytes lines hasKey valueOf byteRead numbers lineNumbers fault taken en
     scoped build programs fits jobIn
 refuses-variable = refl
 
-refuses-variable-first : jobIn (sampleWith "init=0\n" "goal=1\n" "objects=2\n" "program=9\np=10,0,0,0\np=4,0,0,0\np=4,1,1,0\np=4,2,2,0\np=4,3,3,0\np=4,4,4,0\np=4,5,5,0\np=4,6,6,0\np=4,7,7,0\n") ≡ refused 8 25
+refuses-variable-first : jobIn (sampleWith "init=0\n" "goal=1\n" "objects=2\n"
+    "program=9\np=10,0,0,0\np=4,0,0,0\np=4,1,1,0\np=4,2,2,0\np=4,3,3,0\np=4,4,4,0\np=4,5,5,0\np=4,6,6,0\np=4,7,7,0\n") ≡ refused 8 25
 unfolding bytes lines hasKey valueOf byteRead numbers lineNumbers fault taken ended readFrom readJob scoped build programs jobIn
 refuses-variable-first = refl
 
@@ -63,7 +65,8 @@ accepts-unused = refl
 
 -- a list that is one place too short
 refuses-list : loading (compiling sample 7) ≡ refused 6 8
-unfolding bytes lines hasKey valueOf byteRead numbers lineNumbers fault taken ended readFrom readJob end steps scoped build programs fits jobIn taskIn textsIn loading
+unfolding bytes lines hasKey valueOf byteRead numbers lineNumbers fault taken ended readFrom readJob end steps scoped build programs fits
+    jobIn taskIn textsIn loading
 refuses-list = refl
 
 -- "`p=1,0,0,0`, then `p=4,k,k,0` for k from 0 to 7: 257 positions"
@@ -97,7 +100,8 @@ refuses-before-verdict = refl
 
 -- "11 numbers for the sample's cost table: 12"
 refuses-table : loading (costing (withoutCosts sample []) 8 11) ≡ refused 6 12
-unfolding bytes lines hasKey valueOf byteRead numbers lineNumbers fault taken ended readFrom readJob end steps scoped build programs fits jobIn taskIn textsIn loading
+unfolding bytes lines hasKey valueOf byteRead numbers lineNumbers fault taken ended readFrom readJob end steps scoped build programs fits
+    jobIn taskIn textsIn loading
 refuses-table = refl
 
 -- "Where it and a cost table are both too short, it decides."

@@ -327,7 +327,8 @@ move-once (m ∷ ms) es = (
 
 job-once : (j : J.Job) → All Once (jobLines j)
 job-once j =
-    let end : All Once (programLines j) = (once (One Goal) _ _, (once (One Objects) _ _, (once (One Program) _ _, once-map rowLine (j .program) (λ r. once (Of Row) _ _)))) in (
+    let end : All Once (programLines j) =
+    (once (One Goal) _ _, (once (One Objects) _ _, (once (One Program) _ _, once-map rowLine (j .program) (λ r. once (Of Row) _ _)))) in (
       once (One Job) _ _,
       (
         once (One Facts) _ _,

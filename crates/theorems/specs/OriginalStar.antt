@@ -37,6 +37,7 @@ pub record StarFails (text moves : List ℕ) : Type 0 where
   -- some path with these moves reaches the final position
   pub numbers : List ℕ
   pub last : ℕ
-  pub path : Path (houseDomain job) (originalSteps (houseDomain job) body 0) (houseDomain job .start) 0 numbers moves last (originalEnd (houseDomain job) body 0)
+  pub path : Path (houseDomain job) (originalSteps (houseDomain job) body 0) (houseDomain job .start) 0 numbers moves last
+      (originalEnd (houseDomain job) body 0)
   -- no run of the program that makes them leaves nil
   pub no-run : (t : ℕ) → Run (houseDomain job) (houseDomain job .start) (programOf job) moves t nil → ⊥

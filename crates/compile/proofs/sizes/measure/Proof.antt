@@ -22,31 +22,46 @@ loop-holds : tie.Need-loop-holds Inv-loop μ-loop
 loop-holds c = (omega arith, search needs, search needs, record { positions-of = λ k h. absurd (omega arith); steps-of = λ k h. absurd (omega arith) })
 
 array-write-positions : tie.Need-array-write-positions Inv-loop μ-loop
-array-write-positions c = omega (arith, c .before .before .before .before .loop-test .taken, limited (c .before .before .before .before .before .before .before .before .pre .0) .program)
+array-write-positions c =
+    let at4 = c .before .before .before .before in
+    let at8 = at4 .before .before .before .before in
+    omega (arith, at4 .loop-test .taken, limited (at8 .pre .0) .program)
 
 array-write-steps : tie.Need-array-write-steps Inv-loop μ-loop
-array-write-steps c = omega (arith, c .before .before .before .before .loop-test .taken, limited (c .before .before .before .before .before .before .before .before .pre .0) .program)
+array-write-steps c =
+    let at4 = c .before .before .before .before in
+    let at8 = at4 .before .before .before .before in
+    omega (arith, at4 .loop-test .taken, limited (at8 .pre .0) .program)
 
 loop-again : tie.Need-loop-again Inv-loop μ-loop
 loop-again c =
-    let n = c .before .before .before .before .before .loop .inv in
-    let m = limited (c .before .before .before .before .before .before .before .before .pre .0) .program in
-    let more = listed-more _ (jobOf (c .before .before .before .before .before .before .before .before .args .head) (c .before .before .before .before .before .before .before .before .args .rows .now) .program) (n .3) (c .before .before .before .construct-at .result)
-    (c .construct-sizes .result) (c .before .before .before .construct-at .ensures) (c .construct-sizes .ensures) (omega (arith, n .1, m)) (omega (arith, n .2, m)) in
+    let at3 = c .before .before .before in
+    let at5 = at3 .before .before in
+    let at8 = at5 .before .before .before in
+    let n = at5 .loop .inv in
+    let m = limited (at8 .pre .0) .program in
+    let more = listed-more _ (jobOf (at8 .args .head) (at8 .args .rows .now) .program) (n .3) (at3 .construct-at .result)
+    (c .construct-sizes .result) (at3 .construct-at .ensures) (c .construct-sizes .ensures) (omega (arith, n .1, m)) (omega (arith, n .2, m)) in
     (omega arith, simp length-set (n .1), simp length-set (n .2), more)
 
 sub-last : tie.Need-sub-last Inv-loop μ-loop
-sub-last c = omega (arith, some-row (c .before .before .before .before .pre .0))
+sub-last c =
+    let at4 = c .before .before .before .before in
+    omega (arith, some-row (at4 .pre .0))
 
 returns : tie.Need-returns Inv-loop μ-loop
 returns c =
-    let o = c .before .before .before .before .before .before .before .before .before .args in
-    let p = c .before .before .before .before .before .before .before .before .before .pre in
+    let at3 = c .before .before .before in
+    let at5 = at3 .before .before in
+    let at6 = at5 .before in
+    let at9 = at6 .before .before .before in
+    let o = at9 .args in
+    let p = at9 .pre in
     let j = jobOf (o .head) (o .rows .now) in
-    let x = c .before .before .before .before .before .before .loop in
-    let e : x .i ≡ o .head .counts .program = omega (arith, x .inv .0, c .before .before .before .before .before .loop-test .left) in
+    let x = at6 .loop in
+    let e : x .i ≡ o .head .counts .program = omega (arith, x .inv .0, at5 .loop-test .left) in
     let s = subst (λ (k : ℕ). Listed (o .head .counts) (j .program) k (x .positions) (x .steps)) e (x .inv .3) in
-    measured (o .head) (o .rows .now) (p .1) (some-row (p .0)) s _ _ _ (c .before .before .before .entry .ensures) (c .before .before .capped .ensures) (c .entry2 .ensures)
+    measured (o .head) (o .rows .now) (p .1) (some-row (p .0)) s _ _ _ (at3 .entry .ensures) (c .before .before .capped .ensures) (c .entry2 .ensures)
 
 pub measure-spec : {M : Type 1} → statement M
 measure-spec =

@@ -1,24 +1,30 @@
-use mathlib.Core.Path.{_∙_, ap, subst}
+use mathlib.Core.Path.{subst}
 use native.Mathlib.Omega.{arith}
-use Rattle.compile.specs.Construct.{BaseRight, HasObject, leafLabel}
+use Rattle.compile.specs.Construct.{BaseRight, HasObject}
 use Rattle.compile.specs.Env.{objectsIn}
-use Rattle.compile.specs.Laid.{labelNumbers}
-use Rattle.compile.specs.declared.rows.Simple.{Simple}
 use borrow.Author.Needs.{needs}
 use Rattle.compile.proofs.steps.leaf_label.Statement.{statement}
 use Rattle.compile.proofs.steps.leaf_label.Tie as tie
 
 object-requires : tie.Need-object-requires
-object-requires c κs = (c .before .before .before .pre .0, subst (HasObject (objectsIn (c .before .before .before .args .env))) (c .before .simple3 .given .1) (c .before .before .before .pre .2))
+object-requires c κs =
+    let at3 = c .before .before .before in
+    (at3 .pre .0, subst (HasObject (objectsIn (at3 .args .env))) (c .before .simple3 .given .1) (at3 .pre .2))
 
 add-t11 : tie.Need-add-t11
-add-t11 c = omega (arith, c .object .ensures .1, subst BaseRight (c .before .before .simple3 .given .1) (c .before .before .before .before .pre .1))
+add-t11 c =
+    let at4 = c .before .before .before .before in
+    omega (arith, c .object .ensures .1, subst BaseRight (c .before .before .simple3 .given .1) (at4 .pre .1))
 
 object-requires-2 : tie.Need-object-requires-2
-object-requires-2 c κs = (c .before .before .before .pre .0, subst (HasObject (objectsIn (c .before .before .before .args .env))) (c .before .simple4 .given .1) (c .before .before .before .pre .2))
+object-requires-2 c κs =
+    let at3 = c .before .before .before in
+    (at3 .pre .0, subst (HasObject (objectsIn (at3 .args .env))) (c .before .simple4 .given .1) (at3 .pre .2))
 
 add-t13 : tie.Need-add-t13
-add-t13 c = omega (arith, c .object2 .ensures .1, subst BaseRight (c .before .before .simple4 .given .1) (c .before .before .before .before .pre .1))
+add-t13 c =
+    let at4 = c .before .before .before .before in
+    omega (arith, c .object2 .ensures .1, subst BaseRight (c .before .before .simple4 .given .1) (at4 .pre .1))
 
 returns : tie.Need-returns
 returns c = rw (c .enum-told .given .1)

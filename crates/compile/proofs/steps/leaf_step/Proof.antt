@@ -8,7 +8,10 @@ use Rattle.compile.proofs.steps.leaf_step.Tie as tie
 
 returns : tie.Need-returns
 returns c =
-    (rw (leaf-flat (leafLabel (objectsIn (c .before .before .before .before .before .before .args .env)) (c .before .before .before .before .before .before .args .simple)) _ (c .before .before .before .before .leaf-label .ensures) (c .before .before .before .before .before .before .args .from .position)) (c .before .before .put-step .ensures), refl)
+    let at4 = c .before .before .before .before in
+    let at6 = at4 .before .before in
+    let x = leafLabel (objectsIn (at6 .args .env)) (at6 .args .simple) in
+    (rw (leaf-flat x _ (at4 .leaf-label .ensures) (at6 .args .from .position)) (c .before .before .put-step .ensures), refl)
 
 pub leaf-step-spec : {M : Type 1} → statement M
 leaf-step-spec = tie.close (tie.spec (λ c κs. search needs) (λ c. search needs) (λ c κs. search needs) (λ c. search needs) (λ c. search needs) returns)

@@ -4,9 +4,6 @@ use Rattle.compile.proofs.LaidLaws.{LinksLaid, links-none, links-room, 
 use borrow.Author.Needs.{needs}
 use Rattle.compile.proofs.steps.links.Statement.{statement}
 use Rattle.compile.proofs.steps.links.Tie as tie
-use Rattle.compile.proofs.steps.links.Reads as reads
-use Rattle.compile.proofs.steps.links.Lts as lts
-use Rattle.compile.proofs.steps.put_step.Reads as put-step-reads
 
 abbrev Inv-loop : tie.InvT-loop
 Inv-loop list₀ at from to count next₀ k₀ list next k = LinksLaid from to count list₀ next₀ k list next
@@ -14,47 +11,52 @@ Inv-loop list₀ at from to count next₀ k₀ list next k = LinksLaid from to c
 abbrev μ-loop : tie.MeasureT-loop
 μ-loop list₀ at from to count next₀ k₀ list next k = count - k
 
--- src/steps.rt:184:5
 loop-holds : tie.Need-loop-holds Inv-loop μ-loop
 loop-holds c = links-none
 
--- src/steps.rt:185:53
 mul-put-step : tie.Need-mul-put-step Inv-loop μ-loop
-mul-put-step c = omega (arith, position-low (c .before .before .before .before .before .args .from) (c .before .before .before .loop .k) (c .before .before .before .before .before .args .count) (c .before .before .loop-test .taken) (c .before .before .before .before .before .pre .1))
+mul-put-step c =
+    let at3 = c .before .before .before in
+    let at5 = at3 .before .before in
+    omega (arith, position-low (at5 .args .from) (at3 .loop .k) (at5 .args .count) (c .before .before .loop-test .taken) (at5 .pre .1))
 
--- src/steps.rt:185:40
 add-put-step : tie.Need-add-put-step Inv-loop μ-loop
-add-put-step c = omega (arith, position-low (c .before .before .before .before .before .before .args .from) (c .before .before .before .before .loop .k) (c .before .before .before .before .before .before .args .count) (c .before .before .before .loop-test .taken) (c .before .before .before .before .before .before .pre .1))
+add-put-step c =
+    let at3 = c .before .before .before in
+    let at4 = at3 .before in
+    let at6 = at4 .before .before in
+    omega (arith, position-low (at6 .args .from) (at4 .loop .k) (at6 .args .count) (at3 .loop-test .taken) (at6 .pre .1))
 
--- src/steps.rt:185:80
 mul-put-step-2 : tie.Need-mul-put-step-2 Inv-loop μ-loop
-mul-put-step-2 c = omega (arith, position-low (c .before .before .before .before .before .before .before .args .to) (c .before .before .before .before .before .loop .k) (c .before .before .before .before .before .before .before .args .count) (c .before .before .before .before .loop-test .taken) (c .before .before .before .before .before .before .before .pre .2))
+mul-put-step-2 c =
+    let at4 = c .before .before .before .before in
+    let at5 = at4 .before in
+    let at7 = at5 .before .before in
+    omega (arith, position-low (at7 .args .to) (at5 .loop .k) (at7 .args .count) (at4 .loop-test .taken) (at7 .pre .2))
 
--- src/steps.rt:185:69
 add-put-step-2 : tie.Need-add-put-step-2 Inv-loop μ-loop
-add-put-step-2 c = omega (arith, position-low (c .before .before .before .before .before .before .before .before .args .to) (c .before .before .before .before .before .before .loop .k) (c .before .before .before .before .before .before .before .before .args .count) (c .before .before .before .before .before .loop-test .taken) (c .before .before .before .before .before .before .before .before .pre .2))
+add-put-step-2 c =
+    let at5 = c .before .before .before .before .before in
+    let at6 = at5 .before in
+    let at8 = at6 .before .before in
+    omega (arith, position-low (at8 .args .to) (at6 .loop .k) (at8 .args .count) (at5 .loop-test .taken) (at8 .pre .2))
 
--- src/steps.rt:185:9
 put-step-requires : tie.Need-put-step-requires Inv-loop μ-loop
-put-step-requires c κs = links-room (c .before .before .before .before .before .before .loop .inv) (c .before .before .before .before .before .before .before .before .pre .0) (c .before .before .before .before .before .loop-test .taken)
+put-step-requires c κs =
+    let at5 = c .before .before .before .before .before in
+    let at6 = at5 .before in
+    let at8 = at6 .before .before in
+    links-room (at6 .loop .inv) (at8 .pre .0) (at5 .loop-test .taken)
 
--- src/steps.rt:186:9
-add-k : tie.Need-add-k Inv-loop μ-loop
-add-k c = search needs
-
--- src/steps.rt:184:5
-loop-less : tie.Need-loop-less Inv-loop μ-loop
-loop-less c = search needs
-
--- src/steps.rt:184:5
 loop-again : tie.Need-loop-again Inv-loop μ-loop
-loop-again c = links-more (c .before .before .before .before .before .before .before .before .before .loop .inv) (c .before .before .before .before .before .before .before .before .loop-test .taken) (c .before .before .put-step .kept .0) (c .before .before .put-step .ensures)
+loop-again c =
+    let at8 = c .before .before .before .before .before .before .before .before in
+    let at9 = at8 .before in
+    links-more (at9 .loop .inv) (at8 .loop-test .taken) (c .before .before .put-step .kept .0) (c .before .before .put-step .ensures)
 
--- src/steps.rt:178:1
 same-length : tie.Need-same-length Inv-loop μ-loop
 same-length c = c .before .loop .inv .size
 
--- src/steps.rt:178:1
 returns : tie.Need-returns Inv-loop μ-loop
 returns c = links-all (c .before .loop .inv) (omega (arith, c .loop-test .left))
 
@@ -70,8 +72,8 @@ links-spec =
     mul-put-step-2
     add-put-step-2
     put-step-requires
-    add-k
-    loop-less
+    (λ c. search needs)
+    (λ c. search needs)
     loop-again
     same-length
     returns)

@@ -28,7 +28,8 @@ returns-3 c =
     let at5 = at4 .before in
     let at6 = at5 .before in
     let at8 = at6 .before .before in
-    load-steps _ (at8 .pre) (sym (at6 .has-picks .ensures) ∙ not-false _ (at5 .if1 .left)) _ (at4 .measure .ensures) (c .before .before .if2 .left) (c .if3 .taken)
+    load-steps _ (at8 .pre) (sym (at6 .has-picks .ensures) ∙ not-false _ (at5 .if1 .left)) _ (at4 .measure .ensures)
+    (c .before .before .if2 .left) (c .if3 .taken)
 
 returns-4 : tie.Need-returns-4
 returns-4 c =
@@ -37,7 +38,8 @@ returns-4 c =
     let at6 = at5 .before in
     let at7 = at6 .before in
     let at9 = at7 .before .before in
-    load-ready _ (at9 .pre) (sym (at7 .has-picks .ensures) ∙ not-false _ (at6 .if1 .left)) _ (at5 .measure .ensures) (at3 .if2 .left) (c .before .if3 .left) (c .state-count .ensures)
+    load-ready _ (at9 .pre) (sym (at7 .has-picks .ensures) ∙ not-false _ (at6 .if1 .left)) _ (at5 .measure .ensures)
+    (at3 .if2 .left) (c .before .if3 .left) (c .state-count .ensures)
 
 pub load-read-spec : {M : Type 1} → statement M
 load-read-spec =
