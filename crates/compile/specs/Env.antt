@@ -4,13 +4,12 @@ use mathlib.Core.Path.{_≡_}
 use mathlib.Core.List.{List}
 use lib.ListN.{length, getD, drop}
 use Rattle.limits.specs.Limits.{mostObjects, mostProgram}
-use Rattle.compile.specs.declared.env.Env.{Env}
 
--- the nearest first
-abbrev pub objectsIn : Env → List ℕ
-objectsIn e = drop (e .start) (e .objects)
+-- from a place on, the nearest first
+abbrev pub objectsFrom : ℕ → List ℕ → List ℕ
+objectsFrom start env = drop start env
 
-pub record EnvRight (e : Env) : Type 0 where
-  pub size : length (e .objects) ≡ mostProgram
-  pub start : e .start ≤ mostProgram
-  pub objects : (k : ℕ) → getD (e .objects) k 0 < mostObjects
+pub record EnvRight (start : ℕ) (env : List ℕ) : Type 0 where
+  pub size : length env ≡ mostProgram
+  pub within : start ≤ mostProgram
+  pub objects : (k : ℕ) → getD (objectsFrom start env) k 0 < mostObjects

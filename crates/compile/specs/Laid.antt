@@ -13,6 +13,7 @@ use Rattle.semantics.specs.CompilingTable.{Step, arc, end, steps, flat, kindOf,
 use Rattle.semantics.specs.Scope.{scoped}
 use Rattle.job.specs.declared.head.Counts.{Counts}
 use Rattle.compile.specs.Construct.{firstLabel, secondLabel}
+use Rattle.compile.specs.Env.{objectsFrom}
 use Rattle.compile.specs.Size.{sizesOf}
 use Rattle.compile.specs.declared.rows.Guard.{Guard}
 use Rattle.compile.specs.declared.steps.Cursor.{Cursor}
@@ -45,6 +46,12 @@ pub record LaidOver (v old : List ℕ) (at : ℕ) (new : List ℕ) (next : ℕ) 
 pub record StepsLaid (c : Counts) (env : List ℕ) (σ : Program) (old : List ℕ) (from : Cursor) (new : List ℕ) (to : Cursor) : Type 0 where
   pub laid : LaidOver (flat (steps (c .moves) (c .objects) env σ (from .position))) old (from .at) new (to .at)
   pub ends : to .position ≡ end (c .objects) σ (from .position)
+
+-- the same inside picks whose objects stand in a list from a place on, which then holds the same
+-- objects
+pub record RowLaid (c : Counts) (σ : Program) (start : ℕ) (env old : List ℕ) (from : Cursor) (new : List ℕ) (to : Cursor) (env₂ : List ℕ) : Type 0 where
+  pub steps : StepsLaid c (objectsFrom start env) σ old from new to
+  pub kept : objectsFrom start env₂ ≡ objectsFrom start env
 
 -- its variables have their objects, and there are positions and places left for all of its steps
 pub record Enough (c : Counts) (env : List ℕ) (σ : Program) (from : Cursor) (places : ℕ) : Type 0 where

@@ -1,49 +1,29 @@
-// The objects of the picks around a row, the nearest first: they stand at the end of an array.
+// The objects of the picks around a row: they stand in a lent list from a place on, the nearest first.
 ghost use mathlib.Core.Path.{_≡_};
-ghost use mathlib.Core.List.{[], _∷_};
+ghost use mathlib.Core.List.{_∷_};
 ghost use Prim.Native.Nat.{_+_, _<_};
 ghost use lib.ListN.{length, getD};
-ghost use Rattle.limits.specs.Limits.{mostObjects, mostProgram};
-ghost use Rattle.compile.specs.Env.{objectsIn, EnvRight};
-use limits::PROGRAM;
+ghost use Rattle.limits.specs.Limits.{mostObjects};
+ghost use Rattle.compile.specs.Env.{objectsFrom, EnvRight};
 
 // Each pick stands in a later row than its body, so there are fewer picks around a row than rows.
-const MOST_PICKS: usize = PROGRAM as usize;
+pub const MOST_PICKS: usize = limits::PROGRAM as usize;
 
-pub struct Env {
-    pub start: usize,
-    pub objects: [u16; MOST_PICKS],
-}
-
-// Outside every pick.
-pub fn outside() -> Env
-    ensures { λ r. ⌜ (objectsIn r ≡ []) × EnvRight r × (r .start ≡ mostProgram) ⌝ }
+// The object of one pick more, before the others; then comes the place that they stand from.
+pub fn put_object(env: &mut [u16], start: usize, object: u16) -> usize
+    requires { ⌜ EnvRight start (now env) × (0 < start) × (object < mostObjects) ⌝ }
+    ensures { λ r. ⌜ (objectsFrom r (now (env .exit)) ≡ object ∷ objectsFrom start (now (env .entry))) × EnvRight r (now (env .exit)) × (r + 1 ≡ start) ⌝ }
 {
-    Env {
-        start: MOST_PICKS,
-        objects: [0; MOST_PICKS],
-    }
-}
-
-// Inside one pick more, with its object.
-pub fn inside(env: Env, object: u16) -> Env
-    requires { ⌜ EnvRight env × (0 < env .start) × (object < mostObjects) ⌝ }
-    ensures { λ r. ⌜ (objectsIn r ≡ object ∷ objectsIn env) × EnvRight r × (r .start + 1 ≡ env .start) ⌝ }
-{
-    let mut objects = env.objects;
-    let start = env.start - 1;
-    objects[start] = object;
-    Env {
-        start: start,
-        objects: objects,
-    }
+    let first = start - 1;
+    env[first] = object;
+    first
 }
 
 // The object of a variable, by how many picks its own is further out than the nearest.
-pub fn object(env: Env, variable: u16) -> u16
-    requires { ⌜ EnvRight env × (variable < length (objectsIn env)) ⌝ }
-    ensures { λ r. ⌜ (r ≡ getD (objectsIn env) variable 0) × (r < mostObjects) ⌝ }
+pub fn object_of(env: &[u16], start: usize, variable: u16) -> u16
+    requires { ⌜ EnvRight start (now env) × (variable < length (objectsFrom start (now env))) ⌝ }
+    ensures { λ r. ⌜ (r ≡ getD (objectsFrom start (now (env .entry))) variable 0) × (r < mostObjects) ⌝ }
 {
-    let at = env.start + (variable as usize);
-    env.objects[at]
+    let at = start + (variable as usize);
+    env[at]
 }

@@ -10,20 +10,28 @@ ghost use Rattle.semantics.specs.CompilingTable.{flat};
 ghost use Rattle.semantics.specs.Program.{pick};
 ghost use Rattle.compile.specs.Program.{rowProgram};
 ghost use Rattle.compile.specs.CompiledJob.{stepsOf, stepCount, fits, hasPicks};
-ghost use Rattle.compile.specs.Env.{objectsIn, EnvRight};
-ghost use Rattle.compile.specs.Laid.{StepsLaid, Enough};
-use crate::env::Env;
+ghost use Rattle.compile.specs.Env.{objectsFrom, EnvRight};
+ghost use Rattle.compile.specs.Laid.{RowLaid, Enough};
+use crate::env::MOST_PICKS;
 use crate::rows::Construct;
 use crate::steps::Cursor;
 use job::head::Head;
 
-// Writes the steps of row i, compiled from the cursor's position inside these picks, at its place in
-// the list.
-fn compile_row(head: Head, rows: &[u16], i: u16, list: &mut [u16], from: Cursor, env: Env) -> Cursor
-    requires { ⌜ Stored head (now rows) × (i < head .counts .program) × EnvRight env × (i < env .start) ⌝ }
-    requires { ⌜ Enough (head .counts) (objectsIn env) (rowProgram (jobOf head (now rows) .program) i) from (length (now list)) ⌝ }
-    ensures { λ r. ⌜ StepsLaid (head .counts) (objectsIn env) (rowProgram (jobOf head (now (rows .entry)) .program) i) (now (list .entry)) from
-        (now (list .exit)) r ⌝ }
+// Writes the steps of row i, compiled from the cursor's position inside picks of these objects, at its
+// place in the list.
+fn compile_row(
+    head: Head,
+    rows: &[u16],
+    i: u16,
+    list: &mut [u16],
+    from: Cursor,
+    env: &mut [u16],
+    start: usize,
+) -> Cursor
+    requires { ⌜ Stored head (now rows) × (i < head .counts .program) × EnvRight start (now env) × (i < start) ⌝ }
+    requires { ⌜ Enough (head .counts) (objectsFrom start (now env)) (rowProgram (jobOf head (now rows) .program) i) from (length (now list)) ⌝ }
+    ensures { λ r. ⌜ RowLaid (head .counts) (rowProgram (jobOf head (now (rows .entry)) .program) i) start (now (env .entry)) (now (list .entry)) from
+        (now (list .exit)) r (now (env .exit)) ⌝ }
 {
     let construct = crate::rows::construct_at(head, rows, i);
     let n = from.position;
@@ -32,27 +40,27 @@ fn compile_row(head: Head, rows: &[u16], i: u16, list: &mut [u16], from: Cursor,
         at: from.at,
     };
     match construct {
-        Construct::Leaf(simple) => crate::steps::leaf_step(list, from, simple, env),
+        Construct::Leaf(simple) => crate::steps::leaf_step(list, from, simple, env, start),
         Construct::Any => crate::steps::any_steps(list, from, head.counts.moves),
         Construct::Seq(a, b) => {
-            let x = compile_row(head, rows, a, list, from, env);
-            compile_row(head, rows, b, list, x, env)
+            let x = compile_row(head, rows, a, list, from, env, start);
+            compile_row(head, rows, b, list, x, env, start)
         }
         Construct::Branch(guard, a, b) => {
-            let x = compile_row(head, rows, a, list, inner, env);
+            let x = compile_row(head, rows, a, list, inner, env, start);
             let p = x.position;
             let second = Cursor {
                 position: p + 1,
                 at: x.at,
             };
-            let y = compile_row(head, rows, b, list, second, env);
+            let y = compile_row(head, rows, b, list, second, env, start);
             crate::steps::branch_steps(list, y.at, n, p, y.position, guard)
         }
         Construct::Loop(guard, a) => {
-            let x = compile_row(head, rows, a, list, inner, env);
+            let x = compile_row(head, rows, a, list, inner, env, start);
             crate::steps::loop_steps(list, x.at, n, x.position, guard)
         }
-        Construct::Pick(a) => compile_pick(head, rows, a, list, from, env),
+        Construct::Pick(a) => compile_pick(head, rows, a, list, from, env, start),
     }
 }
 
@@ -64,12 +72,13 @@ fn compile_pick(
     a: u16,
     list: &mut [u16],
     from: Cursor,
-    env: Env,
+    env: &mut [u16],
+    start: usize,
 ) -> Cursor
-    requires { ⌜ Stored head (now rows) × (a < head .counts .program) × EnvRight env × (a + 1 < env .start) ⌝ }
-    requires { ⌜ Enough (head .counts) (objectsIn env) (pick (rowProgram (jobOf head (now rows) .program) a)) from (length (now list)) ⌝ }
-    ensures { λ r. ⌜ StepsLaid (head .counts) (objectsIn env) (pick (rowProgram (jobOf head (now (rows .entry)) .program) a)) (now (list .entry)) from
-        (now (list .exit)) r ⌝ }
+    requires { ⌜ Stored head (now rows) × (a < head .counts .program) × EnvRight start (now env) × (a + 1 < start) ⌝ }
+    requires { ⌜ Enough (head .counts) (objectsFrom start (now env)) (pick (rowProgram (jobOf head (now rows) .program) a)) from (length (now list)) ⌝ }
+    ensures { λ r. ⌜ RowLaid (head .counts) (pick (rowProgram (jobOf head (now (rows .entry)) .program) a)) start (now (env .entry)) (now (list .entry)) from
+        (now (list .exit)) r (now (env .exit)) ⌝ }
 {
     let objects = head.counts.objects;
     let n = from.position;
@@ -83,8 +92,8 @@ fn compile_pick(
     let mut next = first;
     let mut o: u16 = 0;
     while o < objects {
-        let inside = crate::env::inside(env, o);
-        let x = compile_row(head, rows, a, list, next, inside);
+        let inside = crate::env::put_object(env, start, o);
+        let x = compile_row(head, rows, a, list, next, env, inside);
         next = Cursor {
             position: x.position + 1,
             at: x.at,
@@ -103,6 +112,6 @@ pub fn compile(head: Head, rows: &[u16], list: &mut [u16])
 {
     let start = Cursor { position: 0, at: 0 };
     let last = head.counts.program - 1;
-    let env = crate::env::outside();
-    let _ = compile_row(head, rows, last, list, start, env);
+    let mut env = [0u16; MOST_PICKS];
+    let _ = compile_row(head, rows, last, list, start, &mut env, MOST_PICKS);
 }

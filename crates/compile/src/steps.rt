@@ -5,9 +5,8 @@ ghost use Prim.Native.Nat.{_+_, _*_, _≤_, _<_};
 ghost use lib.ListN.{length};
 ghost use Rattle.semantics.specs.CompilingTable.{arc, flat, copies, moveSteps, branchSteps, whileSteps, starSteps, pickSteps};
 ghost use Rattle.compile.specs.Construct.{leafLabel, BaseRight, HasObject, firstLabel, secondLabel, loopSteps};
-ghost use Rattle.compile.specs.Env.{objectsIn, EnvRight};
+ghost use Rattle.compile.specs.Env.{objectsFrom, EnvRight};
 ghost use Rattle.compile.specs.Laid.{labelNumbers, guardNumbers, LaidOver, positionAt, linkSteps};
-use crate::env::Env;
 use crate::rows::Guard;
 use crate::rows::Simple;
 
@@ -34,9 +33,9 @@ pub struct StepLabel {
     pub arg: u16,
 }
 
-fn leaf_label(simple: Simple, env: Env) -> StepLabel
-    requires { ⌜ EnvRight env × BaseRight simple × HasObject (objectsIn env) simple ⌝ }
-    ensures { λ r. ⌜ r ≡ labelNumbers (leafLabel (objectsIn env) simple) ⌝ }
+fn leaf_label(simple: Simple, env: &[u16], start: usize) -> StepLabel
+    requires { ⌜ EnvRight start (now env) × BaseRight simple × HasObject (objectsFrom start (now env)) simple ⌝ }
+    ensures { λ r. ⌜ r ≡ labelNumbers (leafLabel (objectsFrom start (now (env .entry))) simple) ⌝ }
 {
     match simple {
         Simple::Nil => StepLabel { kind: 0, arg: 0 },
@@ -44,11 +43,11 @@ fn leaf_label(simple: Simple, env: Env) -> StepLabel
         Simple::Test(a) => StepLabel { kind: 1, arg: a },
         Simple::MoveOf(a, b) => StepLabel {
             kind: 3,
-            arg: a + crate::env::object(env, b),
+            arg: a + crate::env::object_of(env, start, b),
         },
         Simple::TestOf(a, b) => StepLabel {
             kind: 1,
-            arg: a + crate::env::object(env, b),
+            arg: a + crate::env::object_of(env, start, b),
         },
     }
 }
@@ -78,14 +77,20 @@ fn guard_labels(guard: Guard) -> Labels
 }
 
 // One step to the next position.
-pub fn leaf_step(list: &mut [u16], from: Cursor, simple: Simple, env: Env) -> Cursor
-    requires { ⌜ EnvRight env × BaseRight simple × HasObject (objectsIn env) simple ⌝ }
+pub fn leaf_step(
+    list: &mut [u16],
+    from: Cursor,
+    simple: Simple,
+    env: &[u16],
+    start: usize,
+) -> Cursor
+    requires { ⌜ EnvRight start (now env) × BaseRight simple × HasObject (objectsFrom start (now env)) simple ⌝ }
     requires { ⌜ (from .at + 4 ≤ length (now list)) × (from .position < 65535) ⌝ }
-    ensures { λ r. ⌜ LaidOver (flat (arc (leafLabel (objectsIn env) simple) (from .position) (from .position + 1) ∷ [])) (now (list .entry)) (from .at)
-        (now (list .exit)) (r .at) × (r .position ≡ from .position + 1) ⌝ }
+    ensures { λ r. ⌜ LaidOver (flat (arc (leafLabel (objectsFrom start (now (env .entry))) simple) (from .position) (from .position + 1) ∷ []))
+        (now (list .entry)) (from .at) (now (list .exit)) (r .at) × (r .position ≡ from .position + 1) ⌝ }
 {
     let n = from.position;
-    let x = leaf_label(simple, env);
+    let x = leaf_label(simple, env, start);
     let next = put_step(list, from.at, x.kind, n, n + 1, x.arg);
     Cursor {
         position: n + 1,
