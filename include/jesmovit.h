@@ -32,7 +32,7 @@
  * Tables once had numbers of 32 bits, under the same names of functions. A caller of then compiles anew with this header, and one that has declarations of its
  * own, in C or another language, changes them: the numbers of a table take twice the bytes, and nothing notices an old declaration.
  *
- * The functions keep nothing between calls, use no heap, and may be called from several threads. Each wants at most 96 KB of stack, of which the
+ * The functions keep nothing between calls, use no heap, and may be called from several threads. Each wants at most 128 KB of stack, of which the
  * rows of the job take 24.
  */
 #ifndef JESMOVIT_H

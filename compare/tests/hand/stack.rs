@@ -1,4 +1,4 @@
-//! The stack that the header names is enough: each operation runs on a thread with 96 KB, of which the thread itself
+//! The stack that the header names is enough: each operation runs on a thread with 128 KB, of which the thread itself
 //! takes some 5.
 
 use std::thread::Builder;
@@ -9,7 +9,7 @@ use jesmovit_compare::second::job::HOUSE_COSTS;
 
 use crate::sample::{sample_text, sample_with};
 
-const STACK: usize = 96 * 1024;
+const STACK: usize = 128 * 1024;
 
 /// A job whose program has all its rows one inside the other.
 fn deep() -> String {
