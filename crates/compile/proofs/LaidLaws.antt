@@ -53,7 +53,7 @@ pub laid-copy : {v old mid new : List ℕ} {at at₁ at₂ : ℕ} (g : ℕ → L
 unfolding copies
 laid-copy g k e x y = rw (add-one k, flat-append (copies k g) (g k), e) (laid-append x y)
 
-pub links-length : (from to : Spaced) (k : ℕ) → length (flat (copies k (linkSteps from to))) ≡ k * 4
+links-length : (from to : Spaced) (k : ℕ) → length (flat (copies k (linkSteps from to))) ≡ k * 4
 links-length from to k = omega (arith, flat-length (copies k (linkSteps from to)), copies-count k 1 (linkSteps from to) (λ o. refl))
 
 -- no-ops to and from the copies of a pick's body: for k of them so far
@@ -76,8 +76,8 @@ module _ {from to : Spaced} {count : ℕ} {old : List ℕ} {at : ℕ} where
     unfolding flat
     links-more h e x = record { few = omega (arith, h); size = e ∙ l .size; laid = laid-copy (linkSteps from to) k refl (l .laid) x }
 
-    pub links-all : count ≤ k → LaidOver (flat (copies count (linkSteps from to))) old at list next
-    links-all h = let e : k ≡ count = omega (arith, h, l .few) in rw (← e) (l .laid)
+    pub links-all : count ≤ k → LaidOver (flat (copies count (linkSteps from to))) old at list next × (next ≡ at + count * 4)
+    links-all h = let e : k ≡ count = omega (arith, h, l .few) in (rw (← e) (l .laid), omega (arith, e, l .laid .place, links-length from to k))
 
 -- a number k of those that are so far apart is not past the last
 pub position-low : (s : Spaced) (k count : ℕ) → k < count → positionAt s count ≤ 65535 → (s .apart * k ≤ 65535) × (positionAt s k ≤ 65535)
@@ -87,10 +87,10 @@ same-copies : (k : ℕ) (f g : ℕ → List Step) → ((o : ℕ) → f o ≡ g o
 same-copies k f g e = ap (copies k) (fun-ext e)
 
 -- one position, and positions that are so far apart
-abbrev pub only : ℕ → Spaced
+abbrev only : ℕ → Spaced
 only p = record { first = p; apart = 0 }
 
-abbrev pub spaced : ℕ → ℕ → Spaced
+abbrev spaced : ℕ → ℕ → Spaced
 spaced p a = record { first = p; apart = a }
 
 only-one : (p k : ℕ) → p ≡ positionAt (only p) k

@@ -182,7 +182,7 @@ pub struct Spaced {
 // A no-op from each of so many positions to one of so many.
 fn links(list: &mut [u16], at: usize, from: Spaced, to: Spaced, count: u16) -> usize
     requires { ⌜ (at + count * 4 ≤ length (now list)) × (positionAt from count ≤ 65535) × (positionAt to count ≤ 65535) ⌝ }
-    ensures { λ r. ⌜ LaidOver (flat (copies count (linkSteps from to))) (now (list .entry)) at (now (list .exit)) r ⌝ }
+    ensures { λ r. ⌜ LaidOver (flat (copies count (linkSteps from to))) (now (list .entry)) at (now (list .exit)) r × (r ≡ at + count * 4) ⌝ }
 {
     let mut next = at;
     let mut k: u16 = 0;
