@@ -13,6 +13,7 @@
  *   1  a line of the job text is of wrong form, missing or extra       the place is the line, counted from 1
  *   2  a count, or init, is outside its range                          the line
  *   3  a kind, reference, class, value or unused field is wrong        the line
+ *   8  a variable of the program has too few enclosing picks           the last job line
  *   4  the compiled job has too many positions or steps                the last job line
  *   7  a line of the costs text is of wrong form, missing or extra, or has a cost above 65,535, or one above 0 for class 0    its line
  *   5  the plan text is of wrong form, too long, or has an entry that the job lacks    the line of the plan text
@@ -64,14 +65,14 @@ enum {
     JESMOVIT_LAID = 8        /* a plan that is laid out, with the bytes of its sheet */
 };
 
-/* Reads a job text. answer: facts, formulas, moves, effects of all moves, program rows. Refused by 1 to 3. */
+/* Reads a job text. answer: facts, formulas, moves, effects of all moves, program rows; the objects are not among them. Refused by 1 to 3. */
 uint32_t jesmovit_read_job(const uint8_t *job, size_t job_length, uint64_t answer[5]);
 
-/* Compiles a job's program. answer: positions, steps, 0, 0, 0. Refused by 1 to 4, and by 6. */
+/* Compiles a job's program. answer: positions, steps, 0, 0, 0. Refused by 1 to 4, by 8, and by 6. */
 uint32_t jesmovit_compile(const uint8_t *job, size_t job_length, uint16_t *list, size_t list_length, uint64_t answer[5]);
 
 /* Checks a list of moves, lines `m=move`, against a job's program.
- * answer: JESMOVIT_PLAN and its cost, JESMOVIT_BLOCKED and i, JESMOVIT_UNFINISHED or JESMOVIT_MISSED; then zeros. Refused by 1 to 7. */
+ * answer: JESMOVIT_PLAN and its cost, JESMOVIT_BLOCKED and i, JESMOVIT_UNFINISHED or JESMOVIT_MISSED; then zeros. Refused by 1 to 8. */
 uint32_t jesmovit_check_moves(const uint8_t *job, size_t job_length, const uint8_t *plan, size_t plan_length, const uint8_t *costs, size_t costs_length,
                               uint32_t given, uint16_t *list, size_t list_length, uint64_t answer[5]);
 
@@ -80,19 +81,19 @@ uint32_t jesmovit_check_steps(const uint8_t *job, size_t job_length, const uint8
                               uint32_t given, uint16_t *list, size_t list_length, uint64_t answer[5]);
 
 /* Finds the least cost of all plans that a job's program allows. answer: JESMOVIT_COSTS and the cost, or JESMOVIT_NONE; then zeros. Refused by 1 to 4, by
- * 7, and by 6. */
+ * 8, by 7, and by 6. */
 uint32_t jesmovit_least_cost(const uint8_t *job, size_t job_length, const uint8_t *costs, size_t costs_length, uint32_t given, uint16_t *list,
                              size_t list_length, uint64_t *table, size_t table_length, uint64_t answer[5]);
 
 /* Judges a list of moves. answer: positions, steps, and then JESMOVIT_LEAST or JESMOVIT_DEARER with the plan's cost and the least cost; or, for what is no
- * plan, JESMOVIT_BLOCKED, i and 0, JESMOVIT_UNFINISHED and zeros, or JESMOVIT_MISSED and zeros. The table is filled for a plan alone. Refused by 1 to 7. */
+ * plan, JESMOVIT_BLOCKED, i and 0, JESMOVIT_UNFINISHED and zeros, or JESMOVIT_MISSED and zeros. The table is filled for a plan alone. Refused by 1 to 8. */
 uint32_t jesmovit_judge(const uint8_t *job, size_t job_length, const uint8_t *plan, size_t plan_length, const uint8_t *costs, size_t costs_length,
                         uint32_t given, uint16_t *list, size_t list_length, uint64_t *table, size_t table_length, uint64_t answer[5]);
 
 /* Lays out a list of moves as a sheet, if it is a plan: lines of 30 bytes and a line feed, 60 to a page, the last page filled with lines of spaces. A line has
  * the row, from 1, in 5 bytes, two spaces, the move in 3, two spaces, its cost in 7, two spaces, and the costs so far in 9, numbers set right. An empty plan
  * has no page. answer: JESMOVIT_LAID and the bytes of the sheet; or, for what is no plan, its verdict as from jesmovit_check_moves, with the list filled and
- * the output untouched; then zeros. Refused by 1 to 7. */
+ * the output untouched; then zeros. Refused by 1 to 8. */
 uint32_t jesmovit_sheet(const uint8_t *job, size_t job_length, const uint8_t *plan, size_t plan_length, const uint8_t *costs, size_t costs_length,
                         uint32_t given, uint16_t *list, size_t list_length, uint8_t *output, size_t output_length, uint64_t answer[5]);
 

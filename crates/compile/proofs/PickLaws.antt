@@ -25,17 +25,17 @@ use Rattle.compile.proofs.StepsLaidLaws.{next, wrote-end}
 abbrev apart : Counts → Program → ℕ
 apart c σ = sizesOf c σ .positions + 1
 
-abbrev starts : Counts → Program → ℕ → ℕ → ℕ
-starts c σ n = copyStart (end (c .objects) σ) n
+abbrev startOf : Counts → Program → ℕ → ℕ → ℕ
+startOf c σ n = copyStart (end (c .objects) σ) n
 
 module _ (c : Counts) (σ : Program) (n : ℕ) where
-  starts-at : (k : ℕ) → starts c σ n k ≡ n + 1 + apart c σ * k
+  starts-at : (k : ℕ) → startOf c σ n k ≡ n + 1 + apart c σ * k
   starts-at k = start-at (end (c .objects) σ) (sizesOf c σ .positions) (has-sizes c σ .ends) n k
 
-  ends-at : (k : ℕ) → end (c .objects) σ (starts c σ n k) ≡ n + apart c σ + apart c σ * k
-  ends-at k = has-sizes c σ .ends (starts c σ n k) ∙ omega (arith, starts-at k)
+  ends-at : (k : ℕ) → end (c .objects) σ (startOf c σ n k) ≡ n + apart c σ + apart c σ * k
+  ends-at k = has-sizes c σ .ends (startOf c σ n k) ∙ omega (arith, starts-at k)
 
-  same-steps : pickSteps (c .objects) n (starts c σ n) (λ k. end (c .objects) σ (starts c σ n k))
+  same-steps : pickSteps (c .objects) n (startOf c σ n) (λ k. end (c .objects) σ (startOf c σ n k))
       ≡ pickSteps (c .objects) n (λ k. n + 1 + apart c σ * k) (λ k. n + apart c σ + apart c σ * k)
   same-steps = ap₂ (pickSteps (c .objects) n) (fun-ext starts-at) (fun-ext ends-at)
 
@@ -127,9 +127,9 @@ module _ {c : Counts} {env : List ℕ} {σ : Program} {from : Cursor} {places : 
     unfolding steps end
     wrote-copies {a} {new} {to} d z =
         let e : a ≡ apart c σ = d ∙ apart-is in
-        let own : LaidOver (flat (pickSteps O n (starts c σ n) (λ k. end O σ (starts c σ n k)))) list (last .at) new (to .at) =
+        let own : LaidOver (flat (pickSteps O n (startOf c σ n) (λ k. end O σ (startOf c σ n k)))) list (last .at) new (to .at) =
         subst (λ (L : List Step). LaidOver (flat L) list (last .at) new (to .at)) (sym (same-steps c σ n)) (rw e at (z .0)) in
         record {
-          laid = rw (flat-append (copies O (copyOf c env σ n)) (pickSteps O n (starts c σ n) (λ k. end O σ (starts c σ n k)))) (laid-append (k .laid) own);
+          laid = rw (flat-append (copies O (copyOf c env σ n)) (pickSteps O n (startOf c σ n) (λ k. end O σ (startOf c σ n k)))) (laid-append (k .laid) own);
           ends = z .1 ∙ ap (λ (x : ℕ). n + 1 + x * O) e ∙ sym (starts-at c σ n O);
         }

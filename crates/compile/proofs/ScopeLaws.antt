@@ -111,12 +111,12 @@ same-picks f g i e (C.Pick a) h = rw (e a h)
 
 module _ (program : List Row) where
   -- what each of the rows before row i asks for stands in a list
-  abbrev pub Asked : ℕ → List ℕ → Type 0
-  Asked = Tabled (λ k. picksNeeded (rowProgram program k))
+  abbrev pub PicksTabled : ℕ → List ℕ → Type 0
+  PicksTabled = Tabled (λ k. picksNeeded (rowProgram program k))
 
   -- one row more
-  pub asked-more : (i : ℕ) (l : List ℕ) (r : Construct) (v : ℕ) → Asked i l → RowSays (rowProgram program) i r
-      → v ≡ picksIn (λ k. getD l k 0) r → i < length l → Asked (i + 1) (set l i v)
-  asked-more i l r v s e q h = tabled-more _ i l v s
+  pub picks-more : (i : ℕ) (l : List ℕ) (r : Construct) (v : ℕ) → PicksTabled i l → RowSays (rowProgram program) i r
+      → v ≡ picksIn (λ k. getD l k 0) r → i < length l → PicksTabled (i + 1) (set l i v)
+  picks-more i l r v s e q h = tabled-more _ i l v s
       (q ∙ same-picks (λ k. getD l k 0) (λ k. picksNeeded (rowProgram program k)) i s r (e .earlier)
       ∙ sym (row-needs (rowProgram program) r) ∙ ap picksNeeded (sym (e .is))) h

@@ -22,27 +22,27 @@ use Rattle.compile.specs.declared.rows.Guard.the-variants.{Free, On}
 
 -- what a row makes inside picks of these objects, in a job of these counts
 module _ (c : Counts) (env : List ℕ) where
-  abbrev pub stepsIn : Program → ℕ → List Step
-  stepsIn = steps (c .moves) (c .objects) env
+  abbrev pub rowSteps : Program → ℕ → List Step
+  rowSteps = steps (c .moves) (c .objects) env
 
-  abbrev pub endIn : Program → ℕ → ℕ
-  endIn = end (c .objects)
+  abbrev pub rowEnd : Program → ℕ → ℕ
+  rowEnd = end (c .objects)
 
   -- one step
   pub record Leaf (σ : Program) (l : Label) : Type 0 where
-    pub made : (n : ℕ) → stepsIn σ n ≡ arc l n (suc n) ∷ []
+    pub made : (n : ℕ) → rowSteps σ n ≡ arc l n (suc n) ∷ []
 
   -- two branches, entered under x and y
   pub record Branch (σ a b : Program) (x y : Label) : Type 0 where
     pub made : (n : ℕ)
-        → stepsIn σ n ≡ stepsIn a (suc n) ++ stepsIn b (suc (endIn a (suc n))) ++ branchSteps x y n (endIn a (suc n)) (endIn b (suc (endIn a (suc n))))
-    pub ends : (n : ℕ) → endIn σ n ≡ suc (endIn b (suc (endIn a (suc n))))
+        → rowSteps σ n ≡ rowSteps a (suc n) ++ rowSteps b (suc (rowEnd a (suc n))) ++ branchSteps x y n (rowEnd a (suc n)) (rowEnd b (suc (rowEnd a (suc n))))
+    pub ends : (n : ℕ) → rowEnd σ n ≡ suc (rowEnd b (suc (rowEnd a (suc n))))
 
   -- one part that is repeated, with these steps from the row's first position and from the part's
   -- end
   pub record Loop (σ a : Program) (glue : ℕ → ℕ → List Step) : Type 0 where
-    pub made : (n : ℕ) → stepsIn σ n ≡ stepsIn a (suc n) ++ glue n (endIn a (suc n))
-    pub ends : (n : ℕ) → endIn σ n ≡ suc (endIn a (suc n))
+    pub made : (n : ℕ) → rowSteps σ n ≡ rowSteps a (suc n) ++ glue n (rowEnd a (suc n))
+    pub ends : (n : ℕ) → rowEnd σ n ≡ suc (rowEnd a (suc n))
 
   object-at : (env : List ℕ) (b : ℕ) → b < length env → getElem? env b ≡ some (getD env b 0)
   object-at [] b h = absurd (omega arith)
@@ -57,7 +57,7 @@ module _ (c : Counts) (env : List ℕ) where
   leaf-made (MoveOf a b) h = record { made = λ n. rw (object-at env b h) refl }
   leaf-made (TestOf a b) h = record { made = λ n. rw (object-at env b h) refl }
 
-  pub leaf-ends : (s : Simple) (n : ℕ) → endIn (simple s) n ≡ suc n
+  pub leaf-ends : (s : Simple) (n : ℕ) → rowEnd (simple s) n ≡ suc n
   unfolding end
   leaf-ends Nil n = refl
   leaf-ends (Move a) n = refl

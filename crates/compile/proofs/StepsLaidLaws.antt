@@ -21,7 +21,7 @@ use Rattle.compile.specs.declared.rows.Construct.the-variants.{Leaf, Any
 use Rattle.compile.specs.declared.steps.Cursor.{Cursor}
 use Rattle.compile.proofs.SizeLaws.{has-sizes}
 use Rattle.compile.proofs.LaidLaws.{laid-append}
-use Rattle.compile.proofs.Shapes.{stepsIn, endIn, leaf-made, leaf-ends, branch-made, loop-made}
+use Rattle.compile.proofs.Shapes.{rowSteps, rowEnd, leaf-made, leaf-ends, branch-made, loop-made}
 
 -- one position on
 abbrev pub next : Cursor → Cursor
@@ -33,14 +33,14 @@ pub wrote-end : {c : Counts} {env : List ℕ} {σ : Program} {old new : List ℕ
     → (to .position ≡ from .position + sizesOf c σ .positions) × (to .at ≡ from .at + sizesOf c σ .steps * 4)
 wrote-end {c} {env} {σ} {old} {new} {from} {to} h w =
     let n = from .position in
-    (w .ends ∙ has-sizes c σ .ends n, omega (arith, w .laid .place, flat-length (stepsIn c env σ n), has-sizes c σ .counts env n h))
+    (w .ends ∙ has-sizes c σ .ends n, omega (arith, w .laid .place, flat-length (rowSteps c env σ n), has-sizes c σ .counts env n h))
 
 -- a part that was written, by the position that it starts at
 pub starts : {c : Counts} {env : List ℕ} {σ : Program} {old new : List ℕ} {from to : Cursor} (k : ℕ) → from .position ≡ k
     → StepsLaid c env σ old from new to
-    → LaidOver (flat (stepsIn c env σ k)) old (from .at) new (to .at) × (to .position ≡ endIn c env σ k)
+    → LaidOver (flat (rowSteps c env σ k)) old (from .at) new (to .at) × (to .position ≡ rowEnd c env σ k)
 starts {c} {env} {σ} {old} {new} {from} {to} k e w =
-    subst (λ (n : ℕ). LaidOver (flat (stepsIn c env σ n)) old (from .at) new (to .at) × (to .position ≡ endIn c env σ n)) e (w .laid, w .ends)
+    subst (λ (n : ℕ). LaidOver (flat (rowSteps c env σ n)) old (from .at) new (to .at) × (to .position ≡ rowEnd c env σ n)) e (w .laid, w .ends)
 
 module _ {c : Counts} {env : List ℕ} {of : ℕ → Program} {i : ℕ} {old new : List ℕ} {from to : Cursor} where
   pub wrote-leaf : {s : Simple} → RowSays of i (Leaf s) → HasObject env s
@@ -61,10 +61,10 @@ module _ {c : Counts} {env : List ℕ} {of : ℕ → Program} {i : ℕ} {old new
       → StepsLaid c env (of a) old from mid x → StepsLaid c env (of b) mid x new to → StepsLaid c env (of i) old from new to
   unfolding steps end
   wrote-seq {a} {b} e u w =
-      let n₁ : ℕ = endIn c env (of a) (from .position) in
+      let n₁ : ℕ = rowEnd c env (of a) (from .position) in
       let second = starts n₁ (u .ends) w in
       rw (e .is) (record {
-        laid = rw (flat-append (stepsIn c env (of a) (from .position)) (stepsIn c env (of b) n₁)) (laid-append (u .laid) (second .0));
+        laid = rw (flat-append (rowSteps c env (of a) (from .position)) (rowSteps c env (of b) n₁)) (laid-append (u .laid) (second .0));
         ends = second .1;
       })
 
@@ -79,14 +79,14 @@ module _ {c : Counts} {env : List ℕ} {of : ℕ → Program} {i : ℕ} {g : Gua
       → StepsLaid c env (of i) old from new to
   wrote-branch {b} {l₂} {y} e u w z =
       let n : ℕ = from .position in
-      let n₁ : ℕ = endIn c env (of a) (suc n) in
+      let n₁ : ℕ = rowEnd c env (of a) (suc n) in
       let s = branch-made c env g (of a) (of b) in
       let first = starts (suc n) (add-one n) u in
       let second = starts (suc n₁) (add-one (x .position) ∙ ap suc (first .1)) w in
-      let own : LaidOver (flat (branchSteps (firstLabel g) (secondLabel g) n n₁ (endIn c env (of b) (suc n₁)))) l₂ (y .at) new (to .at) =
+      let own : LaidOver (flat (branchSteps (firstLabel g) (secondLabel g) n n₁ (rowEnd c env (of b) (suc n₁)))) l₂ (y .at) new (to .at) =
       rw (← second .1, ← first .1) (z .0) in
-      let A = stepsIn c env (of a) (suc n) in
-      let B = stepsIn c env (of b) (suc n₁) in
+      let A = rowSteps c env (of a) (suc n) in
+      let B = rowSteps c env (of b) (suc n₁) in
       rw (e .is) (record {
         laid = rw (s .made n, flat-append (A ++ B) _, flat-append A B) (laid-append (laid-append (first .0) (second .0)) own);
         ends = z .1 ∙ add-one (y .position) ∙ ap suc (second .1) ∙ sym (s .ends n);
@@ -100,7 +100,7 @@ module _ {c : Counts} {env : List ℕ} {of : ℕ → Program} {i : ℕ} {g : Gua
       let s = loop-made c env g (of a) in
       let first = starts (suc n) (add-one n) u in
       rw (e .is) (record {
-        laid = rw (s .made n, flat-append (stepsIn c env (of a) (suc n)) (loopSteps g n (endIn c env (of a) (suc n))), ← first .1)
+        laid = rw (s .made n, flat-append (rowSteps c env (of a) (suc n)) (loopSteps g n (rowEnd c env (of a) (suc n))), ← first .1)
             (laid-append (first .0) (z .0));
         ends = z .1 ∙ add-one (x .position) ∙ ap suc (first .1) ∙ sym (s .ends n);
       })

@@ -6,7 +6,7 @@ use lib.ListN.{length, length-set}
 use Rattle.limits.specs.Limits.{mostProgram}
 use Rattle.job.specs.Store.{jobOf}
 use Rattle.job.proofs.StoredLaws.{limited, some-row}
-use Rattle.compile.proofs.ScopeLaws.{picksNeeded, Asked, asked-more, none-needed}
+use Rattle.compile.proofs.ScopeLaws.{picksNeeded, PicksTabled, picks-more, none-needed}
 use Rattle.compile.proofs.FitLaws.{last-row}
 use borrow.Author.Needs.{needs}
 use Rattle.compile.proofs.scope.has_picks.Statement.{statement}
@@ -14,7 +14,7 @@ use Rattle.compile.proofs.scope.has_picks.Tie as tie
 
 abbrev Inv-loop : tie.InvT-loop
 Inv-loop head rows n picks₀ i₀ picks i =
-    (i ≤ n) × (length picks ≡ mostProgram) × Asked (jobOf head rows .program) i picks
+    (i ≤ n) × (length picks ≡ mostProgram) × PicksTabled (jobOf head rows .program) i picks
 
 abbrev μ-loop : tie.MeasureT-loop
 μ-loop head rows n picks₀ i₀ picks i = n - i
@@ -37,7 +37,7 @@ loop-again c =
     let low = limited (at6 .pre) .program in (
       omega (arith, at3 .loop-test .taken),
       simp length-set (n .1),
-      asked-more (jobOf (at6 .args .head) (at6 .args .rows .now) .program) (at4 .loop .i) (at4 .loop .picks)
+      picks-more (jobOf (at6 .args .head) (at6 .args .rows .now) .program) (at4 .loop .i) (at4 .loop .picks)
           (c .before .before .construct-at .result) (c .construct-picks .result) (n .2)
           (c .before .before .construct-at .ensures) (c .construct-picks .ensures) (omega (arith, n .1, low, at3 .loop-test .taken)),
     )
@@ -55,7 +55,7 @@ returns c =
     let h = some-row (at5 .pre) in
     let x = at3 .loop in
     let e : x .i ≡ o .head .counts .program = omega (arith, x .inv .0, c .before .before .loop-test .left) in
-    let s = subst (λ (k : ℕ). Asked (jobOf (o .head) (o .rows .now) .program) k (x .picks)) e (x .inv .2) in
+    let s = subst (λ (k : ℕ). PicksTabled (jobOf (o .head) (o .rows .now) .program) k (x .picks)) e (x .inv .2) in
     ap (λ (k : ℕ). eqb k 0) (c .picks-at .ensures ∙ s (o .head .counts .program - 1) (omega arith) ∙ ap picksNeeded (sym (last-row (o .head) (o .rows .now))))
     ∙ none-needed _
 
