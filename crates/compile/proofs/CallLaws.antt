@@ -95,38 +95,40 @@ module _ {h : Head} {l : List ℕ} {i t places start : ℕ} {from : Cursor} {env
 
   pub leaf-ok : {s : Simple} → RowSays (of h l) i (Leaf s)
       → (EnvRight start env × BaseRight s × HasObject (objectsFrom start env) s) × ((from .at + 4 ≤ places) × (from .position < 65535))
-  leaf-ok {s} x = ((p .1 .0 .2, x .earlier, leaf-object x), (omega (arith, room (Leaf s) x .1), next-ok))
+  leaf-ok {s} x = ((p .1 .0 .2, x .refers, leaf-object x), (omega (arith, room (Leaf s) x .1), next-ok))
 
   pub any-ok : RowSays (of h l) i Any → (from .at + c .moves * 4 ≤ places) × (from .position < 65535)
   any-ok x = (omega (arith, room Any x .1), next-ok)
 
+  -- of both parts
+  both : (a b : ℕ) → scoped d (of h l a) && scoped d (of h l b) ≡ true → (scoped d (of h l a) ≡ true) × (scoped d (of h l b) ≡ true)
+  both a b v = (and-left (scoped d (of h l a)) _ v, and-right (scoped d (of h l a)) _ v)
+
   module _ {a b : ℕ} (s : RowSays (of h l) i (Seq a b)) where
     seq-variables : (scoped d (of h l a) ≡ true) × (scoped d (of h l b) ≡ true)
     unfolding scoped
-    seq-variables = let v = variables (Seq a b) s in (and-left (scoped d (of h l a)) _ v, and-right (scoped d (of h l a)) _ v)
+    seq-variables = both a b (variables (Seq a b) s)
 
     pub seq-first : (2 * a < t) × Fit h l a from start env places
     seq-first =
         let q = room (Seq a b) s in
-        call (s .earlier .0) refl refl refl (record { variables = seq-variables .0; positions = omega (arith, q .0); room = omega (arith, q .1) })
+        call (s .refers .0) refl refl refl (record { variables = seq-variables .0; positions = omega (arith, q .0); room = omega (arith, q .1) })
 
     pub seq-second : {old mid env₂ : List ℕ} {x : Cursor} {z : ℕ} → z ≡ places → length env₂ ≡ length env
         → RowLaid c (of h l a) start env old from mid x env₂ → (2 * b < t) × Fit h l b x start env₂ z
     seq-second e n w =
         let q = room (Seq a b) s in
         let v = wrote-end (seq-variables .0) (w .steps) in
-        call (s .earlier .1) e n (w .kept) (record { variables = seq-variables .1; positions = omega (arith, q .0, v .0); room = omega (arith, q .1, v .1) })
+        call (s .refers .1) e n (w .kept) (record { variables = seq-variables .1; positions = omega (arith, q .0, v .0); room = omega (arith, q .1, v .1) })
 
   module _ {g : Guard} {a b : ℕ} (s : RowSays (of h l) i (Branch g a b)) where
     branch-variables : (scoped d (of h l a) ≡ true) × (scoped d (of h l b) ≡ true)
-    branch-variables =
-        let v : scoped d (of h l a) && scoped d (of h l b) ≡ true = sym (branch-scoped d g (of h l a) (of h l b)) ∙ variables (Branch g a b) s in
-        (and-left (scoped d (of h l a)) _ v, and-right (scoped d (of h l a)) _ v)
+    branch-variables = both a b (sym (branch-scoped d g (of h l a) (of h l b)) ∙ variables (Branch g a b) s)
 
     pub branch-first : (2 * a < t) × Fit h l a (next from) start env places
     branch-first =
         let q = room (Branch g a b) s in
-        call (s .earlier .0) refl refl refl (record { variables = branch-variables .0; positions = omega (arith, q .0); room = omega (arith, q .1) })
+        call (s .refers .0) refl refl refl (record { variables = branch-variables .0; positions = omega (arith, q .0); room = omega (arith, q .1) })
 
     module _ {old mid env₂ : List ℕ} {x : Cursor} (w : RowLaid c (of h l a) start env old (next from) mid x env₂) where
       abbrev first-end : (x .position ≡ from .position + 1 + sizes h l a .positions) × (x .at ≡ from .at + sizes h l a .steps * 4)
@@ -139,7 +141,7 @@ module _ {h : Head} {l : List ℕ} {i t places start : ℕ} {from : Cursor} {env
       branch-second e n =
           let q = room (Branch g a b) s in
           let v = first-end in
-          call (s .earlier .1) e n (w .kept) (record { variables = branch-variables .1; positions = omega (arith, q .0, v .0); room = omega (arith, q .1, v .1) })
+          call (s .refers .1) e n (w .kept) (record { variables = branch-variables .1; positions = omega (arith, q .0, v .0); room = omega (arith, q .1, v .1) })
 
       pub branch-ok : {new env₃ : List ℕ} {y : Cursor} {z : ℕ} → z ≡ places → RowLaid c (of h l b) start env₂ mid (next x) new y env₃
           → (y .at + 16 ≤ z) × (from .position < 65535) × (x .position < 65535) × (y .position < 65535)
@@ -156,7 +158,7 @@ module _ {h : Head} {l : List ℕ} {i t places start : ℕ} {from : Cursor} {env
     pub loop-first : (2 * a < t) × Fit h l a (next from) start env places
     loop-first =
         let q = room (Loop g a) s in
-        call (s .earlier) refl refl refl (record { variables = loop-variables; positions = omega (arith, q .0); room = omega (arith, q .1) })
+        call (s .refers) refl refl refl (record { variables = loop-variables; positions = omega (arith, q .0); room = omega (arith, q .1) })
 
     pub loop-ok : {old mid env₂ : List ℕ} {x : Cursor} {z : ℕ} → z ≡ places → RowLaid c (of h l a) start env old (next from) mid x env₂
         → (x .at + 12 ≤ z) × (from .position < 65535) × (x .position < 65535)
@@ -167,8 +169,8 @@ module _ {h : Head} {l : List ℕ} {i t places start : ℕ} {from : Cursor} {env
 
   pub pick-first : {a : ℕ} → RowSays (of h l) i (Pick a) → (2 * a + 1 < t) × PickFit h l a from start env places
   pick-first s = (
-    omega (arith, s .earlier, p .0),
-    ((p .1 .0 .0, omega (arith, s .earlier, p .1 .0 .1), p .1 .0 .2, omega (arith, s .earlier, p .1 .0 .3)), rw (s .is) at (p .1 .1)),
+    omega (arith, s .refers, p .0),
+    ((p .1 .0 .0, omega (arith, s .refers, p .1 .0 .1), p .1 .0 .2, omega (arith, s .refers, p .1 .0 .3)), rw (s .is) at (p .1 .1)),
   )
 
 -- the first o copies of the body of a pick are laid, and the objects are kept
@@ -209,7 +211,7 @@ module _ {h : Head} {l : List ℕ} {a t places start : ℕ} {from : Cursor} {env
         pub one-copied : length new ≡ length list → length env₄ ≡ length env₂
             → Copied (h .counts) (of h l a) start env old from (o + 1) new (next x) env₄
         one-copied q n = record {
-          copies = copied-more g (k .copies) inside-is (w .steps) q;
+          copies = copied-more (k .copies) g inside-is (w .steps) q;
           size = n ∙ k .size;
           kept = env-behind inside _ (e .2) (w .kept ∙ inside-is);
         }

@@ -20,7 +20,7 @@ use Rattle.semantics.specs.Program.{Program}
 use Rattle.semantics.specs.CompilingTable.{Step, end, steps, flat}
 use Rattle.semantics.specs.Scope.{scoped}
 use Rattle.compile.specs.Program.{rowProgram, programOf}
-use Rattle.compile.specs.CompiledJob.{stepsOf, finalPositionOf, positionCount, stepCount, fits, hasPicks}
+use Rattle.compile.specs.CompiledJob.{stepsOf, finalPositionOf, positionCount, stepCount, fits, programScoped}
 use Rattle.compile.specs.Size.{sizesOf, capped}
 use Rattle.compile.specs.Laid.{StepsLaid, Enough}
 use Rattle.compile.specs.declared.steps.Cursor.{Cursor}
@@ -54,7 +54,7 @@ module _ (h : Head) (l : List ℕ) where
   final-is : finalPositionOf j ≡ sizesOf c (rowProgram (j .program) last) .positions
   final-is = ap (λ (σ : Program). end (c .objects) σ 0) last-row ∙ omega (arith, has-sizes c (rowProgram (j .program) last) .ends 0)
 
-  module _ (v : hasPicks j ≡ true) where
+  module _ (v : programScoped j ≡ true) where
     variables : scoped 0 (rowProgram (j .program) last) ≡ true
     variables = ap (scoped 0) (sym last-row) ∙ v
 

@@ -1,7 +1,7 @@
 -- Numbers laid over a list, one part after another.
 -- Assumes nothing.
 use Prim.Native.Nat.{ℕ, zero, suc, _+_, _*_, _≤_, _<_}
-use mathlib.Core.Path.{_≡_, refl, sym, _∙_, ap, fun-ext}
+use mathlib.Core.Path.{_≡_, refl, sym, _∙_, ap, subst, fun-ext}
 use mathlib.Core.List.{List, [], _∷_, _++_}
 use native.Mathlib.Omega.{arith}
 use native.Mathlib.Numerals.{add-one}
@@ -48,36 +48,41 @@ moves-more k n =
     rw (add-one k, add-one n) (ap flat (moves-snoc k 0 n) ∙ flat-append (moveSteps k 0 n) _ ∙ rw e)
 
 -- one list more of those for each object
-pub laid-copy : {v old mid new : List ℕ} {at at₁ at₂ : ℕ} (g : ℕ → List Step) (k : ℕ) → flat (g k) ≡ v
+laid-copy : {v old mid new : List ℕ} {at at₁ at₂ : ℕ} (g : ℕ → List Step) (k : ℕ) → flat (g k) ≡ v
     → LaidOver (flat (copies k g)) old at mid at₁ → LaidOver v mid at₁ new at₂ → LaidOver (flat (copies (k + 1) g)) old at new at₂
 unfolding copies
 laid-copy g k e x y = rw (add-one k, flat-append (copies k g) (g k), e) (laid-append x y)
 
-links-length : (from to : Spaced) (k : ℕ) → length (flat (copies k (linkSteps from to))) ≡ k * 4
-links-length from to k = omega (arith, flat-length (copies k (linkSteps from to)), copies-count k 1 (linkSteps from to) (λ o. refl))
-
--- no-ops to and from the copies of a pick's body: for k of them so far
-pub record LinksLaid (from to : Spaced) (count : ℕ) (old : List ℕ) (at k : ℕ) (new : List ℕ) (next : ℕ) : Type 0 where
+-- lists of steps laid over a list, one for each object: for k of so many so far
+pub record CopiesOver (g : ℕ → List Step) (count : ℕ) (old : List ℕ) (at k : ℕ) (new : List ℕ) (next : ℕ) : Type 0 where
   pub few : k ≤ count
   pub size : length new ≡ length old
-  pub laid : LaidOver (flat (copies k (linkSteps from to))) old at new next
+  pub laid : LaidOver (flat (copies k g)) old at new next
 
-module _ {from to : Spaced} {count : ℕ} {old : List ℕ} {at : ℕ} where
-  pub links-none : LinksLaid from to count old at 0 old at
+module _ {g : ℕ → List Step} {count : ℕ} {old : List ℕ} {at : ℕ} where
+  pub copies-none : CopiesOver g count old at 0 old at
   unfolding copies flat
-  links-none = record { few = omega arith; size = refl; laid = laid-none old at }
+  copies-none = record { few = omega arith; size = refl; laid = laid-none old at }
 
-  module _ {k : ℕ} {list : List ℕ} {next : ℕ} (l : LinksLaid from to count old at k list next) where
-    pub links-room : at + count * 4 ≤ length old → k < count → next + 4 ≤ length list
-    links-room r h = omega (arith, r, l .size, l .laid .place, links-length from to k)
+  module _ {k : ℕ} {list : List ℕ} {next : ℕ} (l : CopiesOver g count old at k list next) where
+    pub copies-more : {v new : List ℕ} {after : ℕ} → k < count → flat (g k) ≡ v → length new ≡ length list → LaidOver v list next new after
+        → CopiesOver g count old at (k + 1) new after
+    copies-more h e q x = record { few = omega (arith, h); size = q ∙ l .size; laid = laid-copy g k e (l .laid) x }
 
-    pub links-more : {new : List ℕ} {after : ℕ} → k < count → length new ≡ length list
-        → LaidOver (0 ∷ positionAt from k ∷ positionAt to k ∷ 0 ∷ []) list next new after → LinksLaid from to count old at (k + 1) new after
-    unfolding flat
-    links-more h e x = record { few = omega (arith, h); size = e ∙ l .size; laid = laid-copy (linkSteps from to) k refl (l .laid) x }
+    pub copies-all : count ≤ k → CopiesOver g count old at count list next
+    copies-all h = let e : k ≡ count = omega (arith, h, l .few) in subst (λ (n : ℕ). CopiesOver g count old at n list next) e l
 
-    pub links-all : count ≤ k → LaidOver (flat (copies count (linkSteps from to))) old at list next × (next ≡ at + count * 4)
-    links-all h = let e : k ≡ count = omega (arith, h, l .few) in (rw (← e) (l .laid), omega (arith, e, l .laid .place, links-length from to k))
+-- one step for each
+module _ {g : ℕ → List Step} {count : ℕ} {old : List ℕ} {at k : ℕ} {list : List ℕ} {next : ℕ}
+    (l : CopiesOver g count old at k list next) (one : (o : ℕ) → length (g o) ≡ 1) where
+  laid-length : (n : ℕ) → length (flat (copies n g)) ≡ n * 4
+  laid-length n = omega (arith, flat-length (copies n g), copies-count n 1 g one)
+
+  pub steps-room : at + count * 4 ≤ length old → k < count → next + 4 ≤ length list
+  steps-room r h = omega (arith, r, l .size, l .laid .place, laid-length k)
+
+  pub steps-all : count ≤ k → LaidOver (flat (copies count g)) old at list next × (next ≡ at + count * 4)
+  steps-all h = let x = copies-all l h .laid in (x, omega (arith, x .place, laid-length count))
 
 -- a number k of those that are so far apart is not past the last
 pub position-low : (s : Spaced) (k count : ℕ) → k < count → positionAt s count ≤ 65535 → (s .apart * k ≤ 65535) × (positionAt s k ≤ 65535)

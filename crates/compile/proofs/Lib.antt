@@ -2,7 +2,7 @@ pub mod ProgramLaws
 pub mod Shapes
 pub mod RowTable
 pub mod SizeLaws
-pub mod ScopeLaws
+pub mod PickNeeds
 pub mod EnvLaws
 pub mod LaidLaws
 pub mod StepsLaidLaws

@@ -18,7 +18,7 @@ use Rattle.compile.specs.Size.{sizesOf}
 use Rattle.compile.specs.Laid.{LaidOver, StepsLaid, Enough}
 use Rattle.compile.specs.declared.steps.Cursor.{Cursor}
 use Rattle.compile.proofs.SizeLaws.{copyOf, start-at, body-count, has-sizes}
-use Rattle.compile.proofs.LaidLaws.{laid-append, laid-none, laid-copy}
+use Rattle.compile.proofs.LaidLaws.{laid-append, laid-none, CopiesOver, copies-none, copies-more}
 use Rattle.compile.proofs.StepsLaidLaws.{next, wrote-end}
 
 -- how far apart the copies of a body start, where a pick is compiled from n, and where they do
@@ -41,9 +41,7 @@ module _ (c : Counts) (σ : Program) (n : ℕ) where
 
 -- the steps of the first o copies of a pick's body, and the cursor after them
 pub record CopiesLaid (c : Counts) (env : List ℕ) (σ : Program) (old : List ℕ) (from : Cursor) (o : ℕ) (new : List ℕ) (to : Cursor) : Type 0 where
-  pub few : o ≤ c .objects
-  pub size : length new ≡ length old
-  pub laid : LaidOver (flat (copies o (copyOf c env σ (from .position)))) old (from .at) new (to .at)
+  pub over : CopiesOver (copyOf c env σ (from .position)) (c .objects) old (from .at) o new (to .at)
   pub ends : to .position ≡ copyStart (end (c .objects) σ) (from .position) o
 
 module _ {c : Counts} {env : List ℕ} {σ : Program} {from : Cursor} {old : List ℕ} where
@@ -54,25 +52,23 @@ module _ {c : Counts} {env : List ℕ} {σ : Program} {from : Cursor} {old : Lis
 
   -- no copy yet, and one more
   pub copied-none : CopiesLaid c env σ old from 0 old (next from)
-  unfolding copyStart copies flat
-  copied-none = record { few = omega arith; size = refl; laid = laid-none old (from .at); ends = add-one (from .position) }
-
-  pub copied-more : {env₂ mid new : List ℕ} {o : ℕ} {last x : Cursor} → o < c .objects → CopiesLaid c env σ old from o mid last → env₂ ≡ o ∷ env
-      → StepsLaid c env₂ σ mid last new x → length new ≡ length mid → CopiesLaid c env σ old from (o + 1) new (next x)
   unfolding copyStart
-  copied-more {o = o} {x = x} h k e w z = record {
-    few = omega (arith, h);
-    size = z ∙ k .size;
-    laid = laid-copy (copyOf c env σ (from .position)) o
-        (ap₂ (λ (y : List ℕ) (p : ℕ). flat (steps (c .moves) (c .objects) y σ p)) (sym e) (sym (k .ends))) (k .laid) (w .laid);
-    ends = add-one (x .position) ∙ ap suc (w .ends ∙ ap (end (c .objects) σ) (k .ends)) ∙ rw (add-one o) refl;
-  }
+  copied-none = record { over = copies-none; ends = add-one (from .position) }
 
-  pub all-copied : {o : ℕ} {list : List ℕ} {last : Cursor} → CopiesLaid c env σ old from o list last → c .objects ≤ o
-      → CopiesLaid c env σ old from (c .objects) list last
-  all-copied {o} {list} {last} k h =
-      let e : o ≡ c .objects = omega (arith, h, k .few) in
-      subst (λ (x : ℕ). CopiesLaid c env σ old from x list last) e k
+  module _ {o : ℕ} {list : List ℕ} {last : Cursor} (k : CopiesLaid c env σ old from o list last) where
+    pub copied-more : {env₂ new : List ℕ} {x : Cursor} → o < c .objects → env₂ ≡ o ∷ env → StepsLaid c env₂ σ list last new x
+        → length new ≡ length list → CopiesLaid c env σ old from (o + 1) new (next x)
+    unfolding copyStart
+    copied-more {x = x} h e w z = record {
+      over = copies-more (k .over) h
+          (ap₂ (λ (y : List ℕ) (p : ℕ). flat (steps (c .moves) (c .objects) y σ p)) (sym e) (sym (k .ends))) z (w .laid);
+      ends = add-one (x .position) ∙ ap suc (w .ends ∙ ap (end (c .objects) σ) (k .ends)) ∙ rw (add-one o) refl;
+    }
+
+    pub all-copied : c .objects ≤ o → CopiesLaid c env σ old from (c .objects) list last
+    all-copied h =
+        let e : o ≡ c .objects = omega (arith, h, k .over .few) in
+        subst (λ (x : ℕ). CopiesLaid c env σ old from x list last) e k
 
 module _ {c : Counts} {env : List ℕ} {σ : Program} {from : Cursor} {places : ℕ} (r : Enough c env (pick σ) from places) where
   abbrev n : ℕ
@@ -99,7 +95,7 @@ module _ {c : Counts} {env : List ℕ} {σ : Program} {from : Cursor} {places : 
     copy-room h e = record {
       variables = rw e body-variables;
       positions = omega (arith, whole .0, k .ends, starts-at c σ n o, mul-le-mul-left (apart c σ) h, mul-comm O (apart c σ));
-      room = omega (arith, same, k .size, whole .1, k .laid .place, taken o, mul-le-mul-right (sizesOf c σ .steps) h);
+      room = omega (arith, same, k .over .size, whole .1, k .over .laid .place, taken o, mul-le-mul-right (sizesOf c σ .steps) h);
     }
 
     pub copy-next : {env₂ mid : List ℕ} {x : Cursor} → o < O → env₂ ≡ o ∷ env → StepsLaid c env₂ σ list last mid x → x .position < 65535
@@ -117,7 +113,7 @@ module _ {c : Counts} {env : List ℕ} {σ : Program} {from : Cursor} {places : 
 
     pub pick-ok : (a : ℕ) → a ≡ (last .position - (n + 1)) / O → (last .at + O * 8 ≤ length list) × (n + a + a * O < 65535)
     pick-ok a e = rw (e, apart-is) (
-      omega (arith, same, k .size, whole .1, k .laid .place, taken O),
+      omega (arith, same, k .over .size, whole .1, k .over .laid .place, taken O),
       omega (arith, whole .0, mul-comm O (apart c σ), mul-le-mul-left (apart c σ) some),
     )
 
@@ -130,6 +126,6 @@ module _ {c : Counts} {env : List ℕ} {σ : Program} {from : Cursor} {places : 
         let own : LaidOver (flat (pickSteps O n (startOf c σ n) (λ k. end O σ (startOf c σ n k)))) list (last .at) new (to .at) =
         subst (λ (L : List Step). LaidOver (flat L) list (last .at) new (to .at)) (sym (same-steps c σ n)) (rw e at (z .0)) in
         record {
-          laid = rw (flat-append (copies O (copyOf c env σ n)) (pickSteps O n (startOf c σ n) (λ k. end O σ (startOf c σ n k)))) (laid-append (k .laid) own);
+          laid = rw (flat-append (copies O (copyOf c env σ n)) (pickSteps O n (startOf c σ n) (λ k. end O σ (startOf c σ n k)))) (laid-append (k .over .laid) own);
           ends = z .1 ∙ ap (λ (x : ℕ). n + 1 + x * O) e ∙ sym (starts-at c σ n O);
         }

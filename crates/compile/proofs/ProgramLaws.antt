@@ -20,7 +20,7 @@ use Rattle.job.proofs.RowLaws.{kind-listed}
 use Rattle.job.proofs.StoredLaws.{row-count, row-within}
 use Rattle.semantics.specs.Program.{Program, nil}
 use Rattle.compile.specs.Program.{kinds, build, programs, rowProgram}
-use Rattle.compile.specs.Construct.{Base, constructs, constructOf, programIn, Earlier, RowSays}
+use Rattle.compile.specs.Construct.{Base, constructs, constructOf, programIn, Refers, RowSays}
 use Rattle.compile.specs.declared.rows.Simple.the-variants.{Nil}
 use Rattle.compile.specs.declared.rows.Construct.{Construct}
 use Rattle.compile.specs.declared.rows.Construct.the-variants.{Leaf, Any, Seq, Branch, Loop, Pick}
@@ -48,10 +48,10 @@ module _ (c : Counts) (few-moves : c .moves ≤ mostMoves) (few-formulas : c .fo
   base : {a : ℕ} (count : ℕ) → count ≤ mostFormulas → a < count + 1 - c .objects → Base a
   base count h g = omega (arith, h, g)
 
-  abbrev Refers : List Field → Construct → Type 0
-  Refers fields x = Within c fields (r .a ∷ r .b ∷ r .c ∷ []) → Earlier (c .program) x
+  abbrev FieldsRefer : List Field → Construct → Type 0
+  FieldsRefer fields x = Within c fields (r .a ∷ r .b ∷ r .c ∷ []) → Refers (c .program) x
 
-  kinds-refer : Pairs Refers rowFields (constructs r)
+  kinds-refer : Pairs FieldsRefer rowFields (constructs r)
   kinds-refer = (
     λ w. tt,
     (
@@ -81,10 +81,10 @@ module _ (c : Counts) (few-moves : c .moves ≤ mostMoves) (few-formulas : c .fo
     ),
   )
 
-  refers-back : Within c (getD rowFields (r .kind) []) (r .a ∷ r .b ∷ r .c ∷ []) → Earlier (c .program) (constructOf r)
-  refers-back w = pair-at Refers [] (Leaf Nil) rowFields (constructs r) kinds-refer (r .kind) (kind-listed c rowFields (r .kind) (r .a) (r .b ∷ r .c ∷ []) w) w
+  refers-back : Within c (getD rowFields (r .kind) []) (r .a ∷ r .b ∷ r .c ∷ []) → Refers (c .program) (constructOf r)
+  refers-back w = pair-at FieldsRefer [] (Leaf Nil) rowFields (constructs r) kinds-refer (r .kind) (kind-listed c rowFields (r .kind) (r .a) (r .b ∷ r .c ∷ []) w) w
 
-same-program : (f g : ℕ → Program) (i : ℕ) → ((k : ℕ) → k < i → f k ≡ g k) → (r : Construct) → Earlier i r → programIn f r ≡ programIn g r
+same-program : (f g : ℕ → Program) (i : ℕ) → ((k : ℕ) → k < i → f k ≡ g k) → (r : Construct) → Refers i r → programIn f r ≡ programIn g r
 same-program f g i e (Leaf s) h = refl
 same-program f g i e Any h = refl
 same-program f g i e (Seq a b) h = rw (e a (h .0), e b (h .1))
@@ -99,11 +99,11 @@ row-says {h} {l} s i within r row =
     let program : List Row = jobOf h l .program in
     let low : i < length program = omega (arith, within, row-count h l) in
     let ps : List Program = programs (take i program) in
-    let earlier : Earlier i (constructOf r) =
-    subst (λ (x : Row). Earlier i (constructOf x)) (sym row)
+    let refers : Refers i (constructOf r) =
+    subst (λ (x : Row). Refers i (constructOf x)) (sym row)
     (refers-back (beforeRow (jobOf h l) i) (s .job .moves) (s .job .formulas) (programRowAt (jobOf h l) i) (row-within s i within)) in
     record {
       is = row-built program i low ∙ ap (build ps) (sym row) ∙ build-says ps r
-          ∙ same-program (λ k. getD ps k nil) (rowProgram program) i (row-earlier program i (omega (arith, low))) (constructOf r) earlier;
-      earlier = earlier;
+          ∙ same-program (λ k. getD ps k nil) (rowProgram program) i (row-earlier program i (omega (arith, low))) (constructOf r) refers;
+      refers = refers;
     }

@@ -11,12 +11,12 @@ use lib.ListN.{length, getElem?, getD}
 use borrow.Author.Tests.{ltb-true}
 use Rattle.job.specs.declared.head.Counts.{Counts}
 use Rattle.semantics.specs.Label.{Label}
-use Rattle.semantics.specs.Program.{Program, nil, move, any, test, seq, ifElse, choice, while, star, pick, moveOf, testOf}
+use Rattle.semantics.specs.Program.{Program, nil, move, any, test, seq, ifElse, choice, while, star, pick, objectMove, objectTest}
 use Rattle.semantics.specs.CompilingTable.{Step, arc, end, steps, branchSteps, objectSteps}
 use Rattle.semantics.specs.Scope.{scoped}
 use Rattle.compile.specs.Construct.{simple, leafLabel, HasObject, branch, firstLabel, secondLabel, loop, loopSteps}
 use Rattle.compile.specs.declared.rows.Simple.{Simple}
-use Rattle.compile.specs.declared.rows.Simple.the-variants.{Nil, Move, Test, MoveOf, TestOf}
+use Rattle.compile.specs.declared.rows.Simple.the-variants.{Nil, Move, Test, ObjectMove, ObjectTest}
 use Rattle.compile.specs.declared.rows.Guard.{Guard}
 use Rattle.compile.specs.declared.rows.Guard.the-variants.{Free, On}
 
@@ -54,16 +54,16 @@ module _ (c : Counts) (env : List ℕ) where
   leaf-made Nil h = record { made = λ n. refl }
   leaf-made (Move a) h = record { made = λ n. refl }
   leaf-made (Test a) h = record { made = λ n. refl }
-  leaf-made (MoveOf a b) h = record { made = λ n. rw (object-at env b h) refl }
-  leaf-made (TestOf a b) h = record { made = λ n. rw (object-at env b h) refl }
+  leaf-made (ObjectMove a b) h = record { made = λ n. rw (object-at env b h) refl }
+  leaf-made (ObjectTest a b) h = record { made = λ n. rw (object-at env b h) refl }
 
   pub leaf-ends : (s : Simple) (n : ℕ) → rowEnd (simple s) n ≡ suc n
   unfolding end
   leaf-ends Nil n = refl
   leaf-ends (Move a) n = refl
   leaf-ends (Test a) n = refl
-  leaf-ends (MoveOf a b) n = refl
-  leaf-ends (TestOf a b) n = refl
+  leaf-ends (ObjectMove a b) n = refl
+  leaf-ends (ObjectTest a b) n = refl
 
   pub branch-made : (g : Guard) (a b : Program) → Branch (branch g a b) a b (firstLabel g) (secondLabel g)
   unfolding steps end
@@ -89,11 +89,11 @@ module _ (d : ℕ) where
 
 pub has-object : (env : List ℕ) (s : Simple) → scoped (length env) (simple s) ≡ true → HasObject env s
 unfolding scoped
-has-object env Nil h = tt
-has-object env (Move a) h = tt
-has-object env (Test a) h = tt
-has-object env (MoveOf a b) h = ltb-true b (length env) h
-has-object env (TestOf a b) h = ltb-true b (length env) h
+has-object env Nil h = omega arith
+has-object env (Move a) h = omega arith
+has-object env (Test a) h = omega arith
+has-object env (ObjectMove a b) h = ltb-true b (length env) h
+has-object env (ObjectTest a b) h = ltb-true b (length env) h
 
 -- what holds of each shape, if it does of the parts, holds of every program
 module _ (P : Program → Type 0) (leaf : (s : Simple) → P (simple s)) (one : P any) (two : (a b : Program) → P a → P b → P (seq a b))
@@ -110,5 +110,5 @@ module _ (P : Program → Type 0) (leaf : (s : Simple) → P (simple s)) (one : 
   by-shape (while f a) = again (On f) a (by-shape a)
   by-shape (star a) = again Free a (by-shape a)
   by-shape (pick a) = each a (by-shape a)
-  by-shape (moveOf a b) = leaf (MoveOf a b)
-  by-shape (testOf a b) = leaf (TestOf a b)
+  by-shape (objectMove a b) = leaf (ObjectMove a b)
+  by-shape (objectTest a b) = leaf (ObjectTest a b)

@@ -9,6 +9,7 @@ use native.Mathlib.Decide.{decLt}
 use native.Mathlib.Nat.{mul-le-mul-right}
 use lib.ListN.{length, set, length-append}
 use Rattle.laws.proofs.Tests.{and-left, and-right}
+use Rattle.limits.specs.Limits.{mostSteps}
 use Rattle.job.specs.Job.{Row}
 use Rattle.job.specs.declared.head.Counts.{Counts}
 use Rattle.semantics.specs.Label.{noop}
@@ -16,10 +17,10 @@ use Rattle.semantics.specs.Program.{Program, any, seq, pick}
 use Rattle.semantics.specs.CompilingTable.{Step, arc, copyStart, end, copies, steps, moveSteps, branchSteps, whileSteps, starSteps, pickSteps}
 use Rattle.semantics.specs.Scope.{scoped}
 use Rattle.compile.specs.Program.{rowProgram}
-use Rattle.compile.specs.Construct.{simple, branch, loop, loopSteps, programIn, Earlier, RowSays}
+use Rattle.compile.specs.Construct.{simple, branch, loop, loopSteps, programIn, Refers, RowSays}
 use Rattle.compile.specs.Size.{sizesOf, sizesSum, nothing, copiesSize, sizesIn, sized, capped, cappedSizes, listed}
 use Rattle.compile.specs.declared.rows.Simple.{Simple}
-use Rattle.compile.specs.declared.rows.Simple.the-variants.{Nil, Move, Test, MoveOf, TestOf}
+use Rattle.compile.specs.declared.rows.Simple.the-variants.{Nil, Move, Test, ObjectMove, ObjectTest}
 use Rattle.compile.specs.declared.rows.Guard.{Guard}
 use Rattle.compile.specs.declared.rows.Guard.the-variants.{Free, On}
 use Rattle.compile.specs.declared.rows.Construct.{Construct}
@@ -134,8 +135,8 @@ module _ (c : Counts) where
   leaf-size Nil = refl
   leaf-size (Move a) = refl
   leaf-size (Test a) = refl
-  leaf-size (MoveOf a b) = refl
-  leaf-size (TestOf a b) = refl
+  leaf-size (ObjectMove a b) = refl
+  leaf-size (ObjectTest a b) = refl
 
   branch-size : (g : Guard) (a b : Program) → sizesOf c (branch g a b) ≡ sizesSum (sizesOf c a) (sizesOf c b) 3 4
   unfolding sizesOf
@@ -171,9 +172,9 @@ module _ (c : Counts) where
   -- and so are products
   capped-times : (O x k e : ℕ) → capped (O * (capped x + k) + e) ≡ capped (O * (x + k) + e)
   capped-times zero x k e = omega arith
-  capped-times (suc O) x k e = elim (decLt x 1025) [
+  capped-times (suc O) x k e = elim (decLt x (suc mostSteps)) [
     | yes l ↦ (let f : capped x ≡ x = omega arith in rw f refl)
-    | no l ↦ (let f : capped x ≡ 1025 = omega arith in rw f (omega arith))
+    | no l ↦ (let f : capped x ≡ suc mostSteps = omega arith in rw f (omega arith))
   ]
 
   capped-copies : (O : ℕ) (x x₁ : Sizes) → x₁ ≡ cappedSizes x → cappedSizes (copiesSize O x₁) ≡ cappedSizes (copiesSize O x)
@@ -194,7 +195,7 @@ module _ (c : Counts) where
       pub listed-at : (k : ℕ) → k < i → listed positions steps k ≡ cappedSizes (of k)
       listed-at k h = ap₂ sized (s .positions-of k h) (s .steps-of k h)
 
-      row-capped : (r : Construct) → Earlier i r → cappedSizes (sizesIn c (listed positions steps) r) ≡ cappedSizes (sizesIn c of r)
+      row-capped : (r : Construct) → Refers i r → cappedSizes (sizesIn c (listed positions steps) r) ≡ cappedSizes (sizesIn c of r)
       row-capped (C.Leaf l) e = refl
       row-capped C.Any e = refl
       row-capped (C.Seq a b) e = capped-parts (of a) (of b) _ _ 0 0 (listed-at a (e .0)) (listed-at b (e .1))
@@ -207,7 +208,7 @@ module _ (c : Counts) where
           → v ≡ cappedSizes (sizesIn c (listed positions steps) r) → i < length positions → i < length steps
           → Listed (i + 1) (set positions i (v .positions)) (set steps i (v .steps))
       listed-more r v e q h g =
-          let own : v ≡ cappedSizes (of i) = q ∙ row-capped r (e .earlier)
+          let own : v ≡ cappedSizes (of i) = q ∙ row-capped r (e .refers)
           ∙ ap cappedSizes (sym (row-sizes (rowProgram program) r) ∙ ap (sizesOf c) (sym (e .is))) in
           record {
             positions-of = tabled-more _ i positions _ (s .positions-of) (ap (λ (z : Sizes). z .positions) own) h;

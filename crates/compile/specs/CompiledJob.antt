@@ -1,21 +1,21 @@
 -- The compiled job of a job, and its limits.
 use Prim.Native.Nat.{ℕ, _+_}
 use mathlib.Core.Bool.{Bool, _&&_}
-use mathlib.Core.List.{List, []}
+use mathlib.Core.List.{List}
 use lib.Dec.{leb}
 use lib.ListN.{length}
 use Rattle.limits.specs.Limits.{mostPositions, mostSteps}
 use Rattle.job.specs.Job.{Job}
-use Rattle.semantics.specs.CompilingTable.{Step, end, steps}
+use Rattle.semantics.specs.CompilingTable.{Step, programSteps, programEnd}
 use Rattle.semantics.specs.Scope.{scoped}
 use Rattle.compile.specs.Program.{programOf}
 
--- "The recipe starts at 0; its end is the final position."
+-- the steps and the final position of a job's program
 abbrev pub stepsOf : Job → List Step
-stepsOf j = steps (length (j .moves)) (j .scalars .objects) [] (programOf j) 0
+stepsOf j = programSteps (length (j .moves)) (j .scalars .objects) (programOf j)
 
 abbrev pub finalPositionOf : Job → ℕ
-finalPositionOf j = end (j .scalars .objects) (programOf j) 0
+finalPositionOf j = programEnd (j .scalars .objects) (programOf j)
 
 abbrev pub positionCount : Job → ℕ
 positionCount j = finalPositionOf j + 1
@@ -27,7 +27,6 @@ stepCount j = length (stepsOf j)
 unfoldable pub fits : Job → Bool
 fits j = leb (positionCount j) mostPositions && leb (stepCount j) mostSteps
 
--- each variable of the program has its pick: "a variable with too few enclosing picks, met while
--- reading down from the recipe"
-abbrev pub hasPicks : Job → Bool
-hasPicks j = scoped 0 (programOf j)
+-- no "variable with too few enclosing picks" is "met while reading down from the recipe"
+abbrev pub programScoped : Job → Bool
+programScoped j = scoped 0 (programOf j)

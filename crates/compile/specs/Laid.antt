@@ -25,7 +25,7 @@ use Rattle.compile.specs.declared.steps.Spaced.{Spaced}
 abbrev pub positionAt : Spaced → ℕ → ℕ
 positionAt r k = r .first + r .apart * k
 
--- a no-op from each position of one sort to one of the other
+-- a no-op from number k of some positions to number k of others
 abbrev pub linkSteps : Spaced → Spaced → ℕ → List Step
 linkSteps from to k = arc noop (positionAt from k) (positionAt to k) ∷ []
 

@@ -1,6 +1,5 @@
 pub mod Program
 pub mod Env
-pub mod Scope
 pub mod CompiledJob
 pub mod Size
 pub mod Construct

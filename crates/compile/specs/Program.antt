@@ -4,7 +4,7 @@ use Prim.Native.Nat.{ℕ, _-_}
 use mathlib.Core.List.{List, [], _∷_, _++_, foldl}
 use lib.ListN.{length, getD}
 use Rattle.job.specs.Job.{Job, Row}
-use Rattle.semantics.specs.Program.{Program, nil, move, any, test, seq, ifElse, choice, while, star, pick, moveOf, testOf}
+use Rattle.semantics.specs.Program.{Program, nil, move, any, test, seq, ifElse, choice, while, star, pick, objectMove, objectTest}
 
 -- a row by its kind as in the compiling table, where `of` gives the programs of the rows that it
 -- refers to
@@ -20,8 +20,8 @@ kinds of r =
     ∷ while (r .a) (of (r .b))  -- 7
     ∷ star (of (r .a))  -- 8
     ∷ pick (of (r .a))  -- 9
-    ∷ moveOf (r .a) (r .b)  -- 10
-    ∷ testOf (r .a) (r .b)  -- 11
+    ∷ objectMove (r .a) (r .b)  -- 10
+    ∷ objectTest (r .a) (r .b)  -- 11
     ∷ []
 
 -- a row over the programs of the rows before it

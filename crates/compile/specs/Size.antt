@@ -4,7 +4,7 @@ use mathlib.Core.List.{List}
 use lib.ListN.{getD}
 use Rattle.limits.specs.Limits.{mostSteps}
 use Rattle.job.specs.declared.head.Counts.{Counts}
-use Rattle.semantics.specs.Program.{Program, nil, move, any, test, seq, ifElse, choice, while, star, pick, moveOf, testOf}
+use Rattle.semantics.specs.Program.{Program, nil, move, any, test, seq, ifElse, choice, while, star, pick, objectMove, objectTest}
 use Rattle.compile.specs.declared.rows.Construct.{Construct}
 use Rattle.compile.specs.declared.rows.Construct.the-variants.{Leaf, Any, Seq, Branch, Loop, Pick}
 use Rattle.compile.specs.declared.sizes.Sizes.{Sizes}
@@ -35,8 +35,8 @@ sizesOf c (choice a b) = sizesSum (sizesOf c a) (sizesOf c b) 3 4
 sizesOf c (while f a) = sizesSum (sizesOf c a) nothing 2 3
 sizesOf c (star a) = sizesSum (sizesOf c a) nothing 2 3
 sizesOf c (pick a) = copiesSize (c .objects) (sizesOf c a)
-sizesOf c (moveOf a b) = sizesSum nothing nothing 1 1
-sizesOf c (testOf a b) = sizesSum nothing nothing 1 1
+sizesOf c (objectMove a b) = sizesSum nothing nothing 1 1
+sizesOf c (objectTest a b) = sizesSum nothing nothing 1 1
 
 -- the sizes of a row, by its shape, where `of` gives those of the rows that it refers to
 abbrev pub sizesIn : Counts → (ℕ → Sizes) → Construct → Sizes

@@ -7,7 +7,7 @@ ghost use Rattle.limits.specs.Limits.{mostObjects};
 ghost use Rattle.compile.specs.Env.{objectsFrom, EnvRight};
 
 // Each pick stands in a later row than its body, so there are fewer picks around a row than rows.
-pub const MOST_PICKS: usize = limits::PROGRAM as usize;
+pub const MOST_PICKS: usize = crate::rows::PROGRAM_ROWS;
 
 // The object of one pick more, before the others; then comes the place that they stand from.
 pub fn put_object(env: &mut [u16], start: usize, object: u16) -> usize

@@ -9,7 +9,7 @@ ghost use Rattle.job.specs.Stored.{Stored};
 ghost use Rattle.semantics.specs.CompilingTable.{flat};
 ghost use Rattle.semantics.specs.Program.{pick};
 ghost use Rattle.compile.specs.Program.{rowProgram};
-ghost use Rattle.compile.specs.CompiledJob.{stepsOf, stepCount, fits, hasPicks};
+ghost use Rattle.compile.specs.CompiledJob.{stepsOf, stepCount, fits, programScoped};
 ghost use Rattle.compile.specs.Env.{objectsFrom, EnvRight};
 ghost use Rattle.compile.specs.Laid.{RowLaid, Enough};
 use crate::env::MOST_PICKS;
@@ -106,7 +106,7 @@ fn compile_pick(
 
 // Writes the steps of the job's program over the front of the list.
 pub fn compile(head: Head, rows: &[u16], list: &mut [u16])
-    requires { ⌜ Stored head (now rows) × (hasPicks (jobOf head (now rows)) ≡ true) ⌝ }
+    requires { ⌜ Stored head (now rows) × (programScoped (jobOf head (now rows)) ≡ true) ⌝ }
     requires { ⌜ (fits (jobOf head (now rows)) ≡ true) × (stepCount (jobOf head (now rows)) * 4 ≤ length (now list)) ⌝ }
     ensures { λ _. ⌜ now (list .exit) ≡ sets (now (list .entry)) 0 (flat (stepsOf (jobOf head (now (rows .entry))))) ⌝ }
 {

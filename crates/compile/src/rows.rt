@@ -8,14 +8,17 @@ ghost use Rattle.compile.specs.Construct.{constructOf, RowSays};
 use job::head::Head;
 use job::stored::ProgramRow;
 
+// How many program rows a job may have.
+pub const PROGRAM_ROWS: usize = limits::PROGRAM as usize;
+
 // A row of one step. Of a move and a test of a variable: the number to which the object is added,
 // and the variable.
 pub enum Simple {
     Nil,
     Move(u16),
     Test(u16),
-    MoveOf(u16, u16),
-    TestOf(u16, u16),
+    ObjectMove(u16, u16),
+    ObjectTest(u16, u16),
 }
 
 // Which of two ways is taken: either, or the first where a formula holds and the second where it
@@ -51,8 +54,8 @@ fn construct_of(row: ProgramRow) -> Construct
         7 => Construct::Loop(Guard::On(row.a), row.b),
         8 => Construct::Loop(Guard::Free, row.a),
         9 => Construct::Pick(row.a),
-        10 => Construct::Leaf(Simple::MoveOf(row.a, row.b)),
-        11 => Construct::Leaf(Simple::TestOf(row.a, row.b)),
+        10 => Construct::Leaf(Simple::ObjectMove(row.a, row.b)),
+        11 => Construct::Leaf(Simple::ObjectTest(row.a, row.b)),
         _ => Construct::Leaf(Simple::Nil), // no row is of another kind
     }
 }

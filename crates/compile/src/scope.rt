@@ -4,16 +4,15 @@ ghost use Prim.Native.Nat.{_-_, max};
 ghost use lib.ListN.{getD};
 ghost use Rattle.job.specs.Store.{jobOf};
 ghost use Rattle.job.specs.Stored.{Stored};
-ghost use Rattle.compile.specs.CompiledJob.{hasPicks};
-ghost use Rattle.compile.specs.Scope.{leafPicks, picksIn};
+ghost use Rattle.compile.specs.CompiledJob.{programScoped};
+ghost use Rattle.compile.specs.Construct.{leafPicks, picksIn};
 use crate::rows::Construct;
+use crate::rows::PROGRAM_ROWS;
 use crate::rows::Simple;
 use job::head::Head;
-use limits::PROGRAM;
 
-const PROGRAM_ROWS: usize = PROGRAM as usize;
-
-// The number at an index; 0 where there is none.
+// The number at an index; 0 where there is none. Variable 65,535 asks for 65,536 picks, so numbers
+// have 32 bits.
 fn picks_at(picks: &[u32], a: u16) -> u32
     ensures { λ r. ⌜ r ≡ getD (now (picks .entry)) a 0 ⌝ }
 {
@@ -43,8 +42,8 @@ fn leaf_picks(simple: Simple) -> u32
         Simple::Nil => 0,
         Simple::Move(_) => 0,
         Simple::Test(_) => 0,
-        Simple::MoveOf(_, b) => (b as u32) + 1,
-        Simple::TestOf(_, b) => (b as u32) + 1,
+        Simple::ObjectMove(_, b) => (b as u32) + 1,
+        Simple::ObjectTest(_, b) => (b as u32) + 1,
     }
 }
 
@@ -62,10 +61,10 @@ fn construct_picks(construct: Construct, picks: &[u32]) -> u32
     }
 }
 
-// Whether each variable of the job's program has its pick: the last row asks for none.
-pub fn has_picks(head: Head, rows: &[u16]) -> bool
+// Whether each variable of the job's program has its pick: the last row asks for none around it.
+pub fn program_scoped(head: Head, rows: &[u16]) -> bool
     requires { ⌜ Stored head (now rows) ⌝ }
-    ensures { λ r. ⌜ r ≡ hasPicks (jobOf head (now (rows .entry))) ⌝ }
+    ensures { λ r. ⌜ r ≡ programScoped (jobOf head (now (rows .entry))) ⌝ }
 {
     let n = head.counts.program;
     let mut picks = [0u32; PROGRAM_ROWS];

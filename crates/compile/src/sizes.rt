@@ -6,18 +6,16 @@ ghost use Prim.Native.Nat.{_+_};
 ghost use lib.ListN.{getD};
 ghost use Rattle.job.specs.Store.{jobOf};
 ghost use Rattle.job.specs.Stored.{Stored};
-ghost use Rattle.compile.specs.CompiledJob.{positionCount, stepCount, hasPicks};
+ghost use Rattle.compile.specs.CompiledJob.{positionCount, stepCount, programScoped};
 ghost use Rattle.compile.specs.Size.{sizesSum, copiesSize, sizesIn, capped as cap, cappedSizes, listed};
 use crate::rows::Construct;
+use crate::rows::PROGRAM_ROWS;
 use job::head::Counts;
 use job::head::Head;
-use limits::PROGRAM;
 use limits::STEPS;
 
 // What every size above a limit is counted as.
 const CAP: usize = STEPS + 1;
-
-const PROGRAM_ROWS: usize = PROGRAM as usize;
 
 // How many positions and steps a job's program has, or one of its rows adds.
 pub struct Sizes {
@@ -110,7 +108,7 @@ fn construct_sizes(construct: Construct, positions: &[u16], steps: &[u16], count
 // The sizes of the compiled job, capped: its program is the last row, and has one position more
 // than it adds.
 pub fn measure(head: Head, rows: &[u16]) -> Sizes
-    requires { ⌜ Stored head (now rows) × (hasPicks (jobOf head (now rows)) ≡ true) ⌝ }
+    requires { ⌜ Stored head (now rows) × (programScoped (jobOf head (now rows)) ≡ true) ⌝ }
     ensures { λ r. ⌜ (r .positions ≡ cap (positionCount (jobOf head (now (rows .entry))))) × (r .steps ≡ cap (stepCount (jobOf head (now (rows .entry))))) ⌝ }
 {
     let n = head.counts.program;

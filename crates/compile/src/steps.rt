@@ -41,11 +41,11 @@ fn leaf_label(simple: Simple, env: &[u16], start: usize) -> StepLabel
         Simple::Nil => StepLabel { kind: 0, arg: 0 },
         Simple::Move(a) => StepLabel { kind: 3, arg: a },
         Simple::Test(a) => StepLabel { kind: 1, arg: a },
-        Simple::MoveOf(a, b) => StepLabel {
+        Simple::ObjectMove(a, b) => StepLabel {
             kind: 3,
             arg: a + crate::env::object_of(env, start, b),
         },
-        Simple::TestOf(a, b) => StepLabel {
+        Simple::ObjectTest(a, b) => StepLabel {
             kind: 1,
             arg: a + crate::env::object_of(env, start, b),
         },
@@ -179,7 +179,7 @@ pub struct Spaced {
     pub apart: u16,
 }
 
-// A no-op from each of so many positions to one of so many.
+// So many no-ops, from number k of some positions to number k of others.
 fn links(list: &mut [u16], at: usize, from: Spaced, to: Spaced, count: u16) -> usize
     requires { ⌜ (at + count * 4 ≤ length (now list)) × (positionAt from count ≤ 65535) × (positionAt to count ≤ 65535) ⌝ }
     ensures { λ r. ⌜ LaidOver (flat (copies count (linkSteps from to))) (now (list .entry)) at (now (list .exit)) r × (r ≡ at + count * 4) ⌝ }
@@ -207,7 +207,7 @@ pub fn pick_steps(list: &mut [u16], at: usize, n: u16, apart: u16, objects: u16)
         (r .at) × (r .position ≡ n + 1 + apart * objects) ⌝ }
 {
     let end = n + 1 + apart * objects;
-    let start = Spaced { first: n, apart: 0 };
+    let own_start = Spaced { first: n, apart: 0 };
     let starts = Spaced {
         first: n + 1,
         apart: apart,
@@ -216,12 +216,12 @@ pub fn pick_steps(list: &mut [u16], at: usize, n: u16, apart: u16, objects: u16)
         first: n + apart,
         apart: apart,
     };
-    let last = Spaced {
+    let own_end = Spaced {
         first: end,
         apart: 0,
     };
-    let entered = links(list, at, start, starts, objects);
-    let left = links(list, entered, ends, last, objects);
+    let entered = links(list, at, own_start, starts, objects);
+    let left = links(list, entered, ends, own_end, objects);
     Cursor {
         position: end,
         at: left,

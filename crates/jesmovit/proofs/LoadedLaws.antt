@@ -14,7 +14,7 @@ use Rattle.job.specs.declared.refusal.Refusal.{Refusal}
 use Rattle.semantics.specs.CompilingTable.{flat}
 use Rattle.domain.specs.Domain.{domainIn}
 use Rattle.domain.specs.Entries.{EntriesBelow}
-use Rattle.compile.specs.CompiledJob.{stepsOf, stepCount, fits, hasPicks}
+use Rattle.compile.specs.CompiledJob.{stepsOf, stepCount, fits, programScoped}
 use Rattle.lists.proofs.ListTold.{plan-told}
 use Rattle.compiled.specs.Ready.{Ready}
 use Rattle.load.specs.Refusals.{Handed, passed, refused, Offer, keyFor, boundFor, textsIn, listNeed, tableNeed, loading}
@@ -61,9 +61,9 @@ module _ {h : Handed} {rows entries : List ℕ} {a : Loaded} (e : Loads h a rows
     load-passed = rw (part-front (l .entries) entries) passes
 
     -- the list has room for the steps
-    pub load-listed : (Stored (l .head) rows × (hasPicks (jobOf (l .head) rows) ≡ true))
+    pub load-listed : (Stored (l .head) rows × (programScoped (jobOf (l .head) rows) ≡ true))
         × ((fits (jobOf (l .head) rows) ≡ true) × (stepCount (jobOf (l .head) rows) * 4 ≤ h .request .places))
-    load-listed = ((fitting .0 .stored, fitting .0 .picks), (fitting .0 .fit, long .1))
+    load-listed = ((fitting .0 .stored, fitting .0 .scoped), (fitting .0 .fit, long .1))
 
     module _ (list : List ℕ) (p : h .request .places ≡ length list) {need : ℕ} (n : need ≡ l .sizes .steps * 4) where
       -- its front, and what that holds once it is filled

@@ -5,7 +5,7 @@ use job::refusal::Refusal;
 use job::rows::STORE;
 use reader::reading::Answer;
 
-// How many facts and rows of each sort the job has; or why the text is refused.
+// How many facts, objects and rows of each sort the job has; or why the text is refused.
 pub enum ReadAnswer {
     Read(Counts),
     Refused(Refusal),

@@ -4,6 +4,7 @@ use Prim.Native.Nat.{ℕ, zero, suc, _+_, _≤_, _<_}
 use mathlib.Core.Path.{_≡_, refl}
 use mathlib.Core.Bool.{true, _&&_, and-true}
 use mathlib.Core.List.{List, [], _∷_, _++_, map}
+use mathlib.Core.Logic.{_↔_}
 use native.Mathlib.Omega.{arith}
 use native.Mathlib.Decide.{decLt}
 use lib.Dec.{ltb}
@@ -12,7 +13,7 @@ use borrow.Author.Tests.{ltb-true}
 use Rattle.laws.proofs.Tests.{never, and-left, and-right}
 use Rattle.laws.proofs.Tables.{pair-at}
 use Rattle.job.specs.Job as J
-use Rattle.job.specs.Fields.{bound, formulaFields, within, Within}
+use Rattle.job.specs.Fields.{baseBound, bound, formulaFields, within, Within}
 use Rattle.job.specs.WellFormed.{Tiled, beforeFormula}
 use Rattle.job.specs.declared.head.Counts.{Counts}
 use Rattle.job.specs.declared.fields.Field.{Field}
@@ -51,6 +52,10 @@ kind-listed c kinds kind x xs w = elim (decLt kind (length kinds)) [
   | yes h ↦ h
   | no h ↦ (let g : length kinds ≤ kind = omega arith in absurd (rw (List·getD-eq-default kinds [] {n = kind} g) at w))
 ]
+
+-- "The sum of a and O may not exceed the count"
+pub base-iff : (a count objects : ℕ) → (a < baseBound count objects) ↔ (a + objects ≤ count)
+base-iff a count objects = (λ h. omega arith, λ h. omega arith)
 
 -- a formula refers to facts and formulas only
 pub formula-own : (c : Counts) (x y k : ℕ) → Within c (getD formulaFields k []) (x ∷ y ∷ [])

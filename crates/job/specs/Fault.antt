@@ -44,8 +44,8 @@ pub record Criteria : Type 0 where
 abbrev criterion : Bool → Bool → Criteria
 criterion range fields = record { range = range; fields = fields }
 
--- reason 3: "kind, reference, class, value or unused field wrong", beside so many facts and earlier
--- rows
+-- reason 3: "kind, reference, class, value or unused field wrong", beside so many facts, objects and
+-- earlier rows
 abbrev pub criteria : RowSort → Counts → List ℕ → Criteria
 criteria Formula c r = criterion true (within c (getD formulaFields (getD r 0 0) []) (getD r 1 0 ∷ getD r 2 0 ∷ []))
 criteria Move c r = criterion (leb (getD r 2 0) mostMoveEffects) (ltb (getD r 0 0) (c .formulas) && leb (getD r 1 0) lastClass)

@@ -10,8 +10,8 @@ use Rattle.job.specs.declared.fields.Field.the-variants.{Unused, Fact, F
 
 -- "The sum of a and O may not exceed the count of moves or formulas": such a number a, to which an
 -- object is added, is below this one
-abbrev bases : ℕ → ℕ → ℕ
-bases count objects = count + 1 - objects
+abbrev pub baseBound : ℕ → ℕ → ℕ
+baseBound count objects = count + 1 - objects
 
 -- what a field may refer to, beside so many facts and objects and so many rows that stand before
 -- it: it is below this number. A variable may be any number of a line
@@ -19,9 +19,9 @@ abbrev pub bound : Counts → Field → ℕ
 bound c Unused = 1
 bound c Fact = c .facts
 bound c Formula = c .formulas
-bound c FormulaBase = bases (c .formulas) (c .objects)
+bound c FormulaBase = baseBound (c .formulas) (c .objects)
 bound c Move = c .moves
-bound c MoveBase = bases (c .moves) (c .objects)
+bound c MoveBase = baseBound (c .moves) (c .objects)
 bound c Row = c .program
 bound c Variable = 65536
 

@@ -46,8 +46,8 @@ const ROW_FIELDS: [[Field; 3]; 12] = [
     [Field::FormulaBase, Field::Variable, Field::Unused], // test of a plus an object
 ];
 
-// A base, with all objects above it, is at most the count: it is below this number.
-fn bases(count: u16, objects: u16) -> u32
+// "The sum of a and O may not exceed the count": a base is below this number.
+fn base_bound(count: u16, objects: u16) -> u32
     ensures { λ r. ⌜ r ≡ count + 1 - objects ⌝ }
 {
     let n = (count as u32) + 1;
@@ -63,9 +63,9 @@ fn bound(f: Field, counts: Counts) -> u32
         Field::Unused => 1,
         Field::Fact => counts.facts as u32,
         Field::Formula => counts.formulas as u32,
-        Field::FormulaBase => bases(counts.formulas, counts.objects),
+        Field::FormulaBase => base_bound(counts.formulas, counts.objects),
         Field::Move => counts.moves as u32,
-        Field::MoveBase => bases(counts.moves, counts.objects),
+        Field::MoveBase => base_bound(counts.moves, counts.objects),
         Field::Row => counts.program as u32,
         Field::Variable => 65536,
     }
@@ -95,8 +95,8 @@ pub fn formula_right(numbers: [u16; WIDTH], counts: Counts) -> bool
     false
 }
 
-// Whether a program row refers to formulas, moves and earlier rows alone: its numbers are kind, a,
-// b and c.
+// Whether a program row refers to formulas, moves and earlier rows alone, with any object added where
+// it has a variable: its numbers are kind, a, b and c.
 pub fn row_right(numbers: [u16; WIDTH], counts: Counts) -> bool
     ensures { λ r. ⌜ r ≡ within counts (getD rowFields (getD numbers 0 0) []) (getD numbers 1 0 ∷ getD numbers 2 0 ∷ getD numbers 3 0 ∷ []) ⌝ }
 {

@@ -25,7 +25,7 @@ use Rattle.reader.specs.Reading.{outcomeOf}
 use Rattle.reader.specs.declared.reading.Answer.{Answer}
 use Rattle.reader.proofs.ReadLaws.{read-well-formed}
 use Rattle.domain.specs.Domain.{domainIn}
-use Rattle.compile.specs.CompiledJob.{positionCount, stepCount, fits, hasPicks}
+use Rattle.compile.specs.CompiledJob.{positionCount, stepCount, fits, programScoped}
 use Rattle.compile.specs.Size.{capped}
 use Rattle.compile.specs.declared.sizes.Sizes.{Sizes}
 use Rattle.load.specs.Refusals.{passed, refused, compilable, jobIn}
@@ -92,10 +92,10 @@ module _ {h : Head} {rows : List ℕ} (n : ℕ) (stored : Stored h rows) where
   abbrev Told : Loaded → Type 0
   Told answer = (jobAs answer rows ≡ compilable (R.read n j)) × Measured answer rows
 
-  pub load-open : hasPicks j ≡ false → Told (Loaded.Refused (record { number = 8; place = n }))
-  load-open v = (rw v refl, tt)
+  pub load-unscoped : programScoped j ≡ false → Told (Loaded.Refused (record { number = 8; place = n }))
+  load-unscoped v = (rw v refl, tt)
 
-  module _ (v : hasPicks j ≡ true) (s : Sizes) (m : (s .positions ≡ capped (positionCount j)) × (s .steps ≡ capped (stepCount j))) where
+  module _ (v : programScoped j ≡ true) (s : Sizes) (m : (s .positions ≡ capped (positionCount j)) × (s .steps ≡ capped (stepCount j))) where
     limited : (b : Bool) → fits j ≡ b → cond b (passed j) (refused 4 n) ≡ compilable (R.read n j)
     limited b f = rw (v, f) refl
 
@@ -115,21 +115,21 @@ module _ {h : Head} {rows : List ℕ} (n : ℕ) (stored : Stored h rows) where
           let f = fit j few (omega (arith, m .1, l)) in
           let p : s .positions ≡ positionCount j = omega (arith, m .0, k) in
           let q : s .steps ≡ stepCount j = omega (arith, m .1, l) in
-          (limited true f, (record { stored = stored; picks = v; fit = f; positions = p; steps = q; states = d }, refl))
+          (limited true f, (record { stored = stored; scoped = v; fit = f; positions = p; steps = q; states = d }, refl))
 
 -- what is handed on was read, and no reason after reading refuses it
 module _ (text : List ℕ) (j : Job) where
   pub record ReadWithin : Type 0 where
     pub lines : ℕ
     pub is-read : readJob text ≡ R.read lines j
-    pub picks : hasPicks j ≡ true
+    pub scoped : programScoped j ≡ true
     pub fit : fits j ≡ true
 
   within : (o : R.Outcome) → readJob text ≡ o → compilable o ≡ passed j → ReadWithin
-  within (R.read n k) e f = by (hasPicks k) (fits k) refl refl f
+  within (R.read n k) e f = by (programScoped k) (fits k) refl refl f
     where
-      by : (a b : Bool) → hasPicks k ≡ a → fits k ≡ b → cond a (cond b (passed k) (refused 4 n)) (refused 8 n) ≡ passed j → ReadWithin
-      by true true x y z = let q : k ≡ j = cc in record { lines = n; is-read = e ∙ ap (R.read n) q; picks = rw (← q) x; fit = rw (← q) y }
+      by : (a b : Bool) → programScoped k ≡ a → fits k ≡ b → cond a (cond b (passed k) (refused 4 n)) (refused 8 n) ≡ passed j → ReadWithin
+      by true true x y z = let q : k ≡ j = cc in record { lines = n; is-read = e ∙ ap (R.read n) q; scoped = rw (← q) x; fit = rw (← q) y }
       by true false x y z = never (cc)
       by false b x y z = never (cc)
   within (R.refused n p) e f = never (cc)

@@ -16,7 +16,7 @@ use Rattle.load.specs.declared.loaded.LoadedJob.{LoadedJob}
 use Rattle.load.specs.declared.loaded.Loaded.{Loaded}
 use Rattle.load.proofs.StageLaws.{passed-next, long-enough, too-short, long-passed}
 
--- all texts: reasons 1 to 4, 7 and 5
+-- all texts: reasons 1 to 4, 8, 7 and 5
 module _ (h : Handed) where
   texts-of : {c : Checked Task} → c ≡ taskIn (h .request .given) (h .job) (h .costs) → next c (planIn (h .request) (h .plan)) ≡ textsIn h
   unfolding textsIn

@@ -73,7 +73,7 @@ module _ (r : Request) (plan rows entries : List ℕ) (job : LoadedJob) (m : Mea
     plan-ready k =
         let s = m .0 in (
           offers (ap (λ (x : ListAnswer). listedAs x entries) k),
-          (record { stored = s .stored; picks = s .picks; fit = s .fit; positions = s .positions; steps = s .steps; states = s .states }, rw k at (read .1)),
+          (record { stored = s .stored; scoped = s .scoped; fit = s .fit; positions = s .positions; steps = s .steps; states = s .states }, rw k at (read .1)),
         )
 
 -- what is offered was read

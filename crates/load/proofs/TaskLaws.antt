@@ -16,7 +16,7 @@ use Rattle.job.specs.WellFormed.{WellFormed}
 use Rattle.job.specs.Stored.{Stored}
 use Rattle.job.specs.declared.refusal.Refusal.{Refusal}
 use Rattle.job.proofs.CostLaws.{costs-put, job-kept, costs-stored}
-use Rattle.compile.specs.CompiledJob.{positionCount, stepCount, fits, hasPicks}
+use Rattle.compile.specs.CompiledJob.{positionCount, stepCount, fits, programScoped}
 use Rattle.lists.specs.CountedList as L
 use Rattle.lists.specs.CountedList.{ListOutcome}
 use Rattle.lists.specs.CostsText.{readCosts}
@@ -118,7 +118,7 @@ module _ (g : Given) (costs rows : List ℕ) (job : LoadedJob) (m : AtHouse (Loa
             (
               record {
                 stored = subst (Stored (job .head)) (sym put) (costs-stored rows read sixteen size (job .head) right within);
-                picks = subst (λ (x : Job). hasPicks x ≡ true) (sym same-job) (s .picks);
+                scoped = subst (λ (x : Job). programScoped x ≡ true) (sym same-job) (s .scoped);
                 fit = subst (λ (x : Job). fits x ≡ true) (sym same-job) (s .fit);
                 positions = subst (λ (x : Job). job .sizes .positions ≡ positionCount x) (sym same-job) (s .positions);
                 steps = subst (λ (x : Job). job .sizes .steps ≡ stepCount x) (sym same-job) (s .steps);

@@ -11,7 +11,7 @@ use Rattle.job.specs.Store.{jobOf, storedCosts, taskOf}
 use Rattle.job.specs.Stored.{Stored}
 use Rattle.job.specs.declared.refusal.Refusal.{Refusal}
 use Rattle.domain.specs.Domain.{domainIn}
-use Rattle.compile.specs.CompiledJob.{positionCount, stepCount, fits, hasPicks}
+use Rattle.compile.specs.CompiledJob.{positionCount, stepCount, fits, programScoped}
 use Rattle.lists.specs.declared.counted.ListAnswer.{ListAnswer}
 use Rattle.load.specs.Refusals as C
 use Rattle.load.specs.Refusals.{Handed, Checked, Offer, loading}
@@ -41,7 +41,7 @@ jobAs (Refused r) rows = C.refused (r .number) (r .place)
 -- sizes
 pub record Sized (a : LoadedJob) (rows : List ℕ) : Type 0 where
   pub stored : Stored (a .head) rows
-  pub picks : hasPicks (jobOf (a .head) rows) ≡ true
+  pub scoped : programScoped (jobOf (a .head) rows) ≡ true
   pub fit : fits (jobOf (a .head) rows) ≡ true
   pub positions : a .sizes .positions ≡ positionCount (jobOf (a .head) rows)
   pub steps : a .sizes .steps ≡ stepCount (jobOf (a .head) rows)

@@ -10,7 +10,7 @@ use Rattle.job.specs.Task.{Task, atHouseCosts}
 use Rattle.job.specs.ReadJob as R
 use Rattle.job.specs.ReadJob.{Outcome, readJob}
 use Rattle.domain.specs.Domain.{domainOf}
-use Rattle.compile.specs.CompiledJob.{positionCount, stepCount, fits, hasPicks}
+use Rattle.compile.specs.CompiledJob.{positionCount, stepCount, fits, programScoped}
 use Rattle.lists.specs.CountedList as L
 use Rattle.lists.specs.CountedList.{ListOutcome}
 use Rattle.lists.specs.CostsText.{readCosts}
@@ -40,7 +40,7 @@ next (refused number place) reason = refused number place
 -- 8: "A variable with too few enclosing picks … is refused as 8 with the last job line, before 4";
 -- 4 "too many positions or steps", at the last job line
 abbrev pub compilable : Outcome → Checked Job
-compilable (R.read lines j) = cond (hasPicks j) (cond (fits j) (passed j) (refused 4 lines)) (refused 8 lines)
+compilable (R.read lines j) = cond (programScoped j) (cond (fits j) (passed j) (refused 4 lines)) (refused 8 lines)
 compilable (R.refused number place) = refused number place
 
 -- reasons 1 to 3, 8 and 4: "Texts are accepted where no reason but 6 refuses them."

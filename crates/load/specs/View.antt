@@ -16,7 +16,7 @@ pub record View : Type 0 where
 abbrev pub viewOf : Offer → View
 viewOf o = record { domain = domainOf (o .task); program = programOf (o .task .job); entries = o .entries }
 
--- "The recipe starts at 0; its end is the final position."
+-- the steps and the final position of its program
 abbrev pub viewSteps : View → List Step
 viewSteps v = compiledSteps (v .domain) (v .program)
 

@@ -23,7 +23,7 @@ fn load_read(head: Head, rows: &[u16], lines: usize) -> Loaded
     requires { ⌜ Stored head (now rows) ⌝ }
     ensures { λ r. ⌜ (jobAs r (now (rows .entry)) ≡ compilable (read lines (jobOf head (now (rows .entry))))) × Measured r (now (rows .entry)) ⌝ }
 {
-    if !compile::scope::has_picks(head, rows) {
+    if !compile::scope::program_scoped(head, rows) {
         return Loaded::Refused(Refusal {
             number: 8,
             place: lines,

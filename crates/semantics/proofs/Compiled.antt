@@ -5,7 +5,7 @@ use mathlib.Core.Path.{refl}
 use mathlib.Core.List.{List, [], _∷_}
 use lib.ListN.{getElem?}
 use Rattle.semantics.specs.Label.{Label, noop, holds, fails}
-use Rattle.semantics.specs.Program.{Program, nil, move, any, test, seq, ifElse, choice, while, star, pick, moveOf, testOf, put}
+use Rattle.semantics.specs.Program.{Program, nil, move, any, test, seq, ifElse, choice, while, star, pick, objectMove, objectTest, put}
 use Rattle.semantics.specs.Domain.{Domain}
 use Rattle.semantics.specs.CompilingTable.{copyStart, end, whileSteps, starSteps, steps}
 use Rattle.semantics.specs.Path.{StepAt, here, there}
@@ -54,8 +54,8 @@ module _ (D : Domain) where
       let parts : (o : ℕ) → Part D (put o 0 (instance env 1 a)) (starts o) (end O a (starts o)) (steps M O (o ∷ env) a (starts o)) =
       λ o. rw put-instance (row a (o ∷ env) (starts o)) in
       pick-part (instance env 1 a) refl (λ o. refl) parts
-  row (moveOf a b) env n = object-part (λ o. move-part) (λ s t ks ρ r. elim r [ ]) (λ i. elim i [ ]) (getElem? env b)
-  row (testOf a b) env n = object-part (λ o. test-part) (λ s t ks ρ r. elim r [ ]) (λ i. elim i [ ]) (getElem? env b)
+  row (objectMove a b) env n = object-part (λ o. move-part) (λ s t ks ρ r. elim r [ ]) (λ i. elim i [ ]) (getElem? env b)
+  row (objectTest a b) env n = object-part (λ o. test-part) (λ s t ks ρ r. elim r [ ]) (λ i. elim i [ ]) (getElem? env b)
 
   pub compiled : (σ : Program) (n : ℕ) → Part D σ n (end O σ n) (steps M O [] σ n)
   compiled σ n = rw instance-of-none at (row σ [] n)

@@ -14,7 +14,7 @@ use Rattle.semantics.specs.Path.{Does, idles, passes, moves-on, StepAt, 
 use Rattle.semantics.proofs.Chains.{Chain, halt, one}
 use Rattle.semantics.proofs.Taken.{taken}
 use Rattle.semantics.proofs.Part.{IsNil, Part}
-use Rattle.semantics.proofs.Objects.{filled}
+use Rattle.semantics.proofs.Objects.{withObject}
 use Rattle.semantics.proofs.Leaf.{LeafStep, leaf-step, LeafNext, leaf-next, leaf-part}
 
 -- the step of a move among those of all moves
@@ -67,9 +67,9 @@ module _ {D : Domain} where
   any-part {n} = leaf-part (any-step (D .moves) 0 n (omega arith)) any-next (λ s i. elim i [ ])
 
   -- where its variable has no object, a row has neither steps nor transitions
-  pub object-part : {f : ℕ → Program} {unfilled : Program} {x : ℕ → Label} {n : ℕ} → ((o : ℕ) → Part D (f o) n (suc n) (arc (x o) n (suc n) ∷ []))
-      → ((s t : ℕ) (ks : List ℕ) (ρ : Program) → Transition D s unfilled ks t ρ → ⊥) → (IsNil unfilled → ⊥)
-      → (r : Option ℕ) → Part D (filled f unfilled r) n (suc n) (objectSteps x r n)
-  unfolding filled objectSteps
+  pub object-part : {f : ℕ → Program} {bare : Program} {x : ℕ → Label} {n : ℕ} → ((o : ℕ) → Part D (f o) n (suc n) (arc (x o) n (suc n) ∷ []))
+      → ((s t : ℕ) (ks : List ℕ) (ρ : Program) → Transition D s bare ks t ρ → ⊥) → (IsNil bare → ⊥)
+      → (r : Option ℕ) → Part D (withObject f bare r) n (suc n) (objectSteps x r n)
+  unfolding withObject objectSteps
   object-part part no-next some-left none = leaf-part (λ i p q l h. elim h [ ]) (λ s t ks ρ r. absurd (no-next s t ks ρ r)) (λ s i. absurd (some-left i))
   object-part part no-next some-left (some o) = part o

@@ -8,7 +8,7 @@ use native.Mathlib.Omega.{arith}
 use lib.Dec.{ltb, eqb}
 use borrow.Author.Tests.{ltb-true, lt-ltb, eqb-false}
 use Rattle.laws.proofs.Tests.{and-left, and-right, and-both, cond-has}
-use Rattle.semantics.specs.Program.{Program, nil, move, any, test, seq, ifElse, choice, while, star, pick, moveOf, testOf, put}
+use Rattle.semantics.specs.Program.{Program, nil, move, any, test, seq, ifElse, choice, while, star, pick, objectMove, objectTest, put}
 use Rattle.semantics.specs.Domain.{Domain}
 use Rattle.semantics.specs.Transition.{
   Transition,
@@ -26,11 +26,14 @@ use Rattle.semantics.specs.Transition.{
   star-ends,
   star-does,
   picks,
+  Run,
+  stop,
+  step,
 }
 use Rattle.semantics.specs.Scope.{scoped}
 
-below : (d b : ℕ) → ltb b (suc d) ≡ true → eqb b d ≡ false → ltb b d ≡ true
-below d b h e = lt-ltb b d (smaller (ltb-true b (suc d) h) (eqb-false b d e))
+still-below : (d b : ℕ) → ltb b (suc d) ≡ true → eqb b d ≡ false → ltb b d ≡ true
+still-below d b h e = lt-ltb b d (smaller (ltb-true b (suc d) h) (eqb-false b d e))
   where
     smaller : b < suc d → (b ≡ d → ⊥) → b < d
     smaller g n = omega (arith, n)
@@ -50,10 +53,10 @@ put-scoped o d (choice a b) h =
 put-scoped o d (while a b) h = put-scoped o d b h
 put-scoped o d (star a) h = put-scoped o d a h
 put-scoped o d (pick a) h = put-scoped o (suc d) a h
-put-scoped o d (moveOf a b) h = cond-has (λ (σ : Program). scoped d σ ≡ true) (eqb b d) (move (a + o)) (moveOf a b) (λ e. refl) (below d b h)
-put-scoped o d (testOf a b) h = cond-has (λ (σ : Program). scoped d σ ≡ true) (eqb b d) (test (a + o)) (testOf a b) (λ e. refl) (below d b h)
+put-scoped o d (objectMove a b) h = cond-has (λ (σ : Program). scoped d σ ≡ true) (eqb b d) (move (a + o)) (objectMove a b) (λ e. refl) (still-below d b h)
+put-scoped o d (objectTest a b) h = cond-has (λ (σ : Program). scoped d σ ≡ true) (eqb b d) (test (a + o)) (objectTest a b) (λ e. refl) (still-below d b h)
 
-pub stays-scoped : {D : Domain} {s t : ℕ} {σ ρ : Program} {ks : List ℕ} → Transition D s σ ks t ρ → scoped 0 σ ≡ true → scoped 0 ρ ≡ true
+stays-scoped : {D : Domain} {s t : ℕ} {σ ρ : Program} {ks : List ℕ} → Transition D s σ ks t ρ → scoped 0 σ ≡ true → scoped 0 ρ ≡ true
 unfolding scoped
 stays-scoped (moves x) h = refl
 stays-scoped (any-moves x y) h = refl
@@ -69,3 +72,7 @@ stays-scoped (while-ends x) h = refl
 stays-scoped star-ends h = refl
 stays-scoped star-does h = and-both _ _ h h
 stays-scoped (picks {a} {o = o} x) h = put-scoped o 0 a h
+
+pub run-scoped : {D : Domain} {s t : ℕ} {σ ρ : Program} {ms : List ℕ} → Run D s σ ms t ρ → scoped 0 σ ≡ true → scoped 0 ρ ≡ true
+run-scoped stop h = h
+run-scoped (step x r) h = run-scoped r (stays-scoped x h)

@@ -7,7 +7,7 @@ use mathlib.Core.List.{List, [], _∷_, _++_}
 use lib.Dec.{eqb}
 use lib.ListN.{getElem?, getD, drop}
 use Rattle.semantics.specs.Label.{Label, noop, holds, fails, make}
-use Rattle.semantics.specs.Program.{Program, nil, move, any, test, seq, ifElse, choice, while, star, pick, moveOf, testOf}
+use Rattle.semantics.specs.Program.{Program, nil, move, any, test, seq, ifElse, choice, while, star, pick, objectMove, objectTest}
 use Rattle.semantics.specs.Domain.{Domain}
 
 -- a step under a label, from a position to a position
@@ -33,8 +33,8 @@ end O (choice a b) n = suc (end O b (suc (end O a (suc n))))
 end O (while a b) n = suc (end O b (suc n))
 end O (star a) n = suc (end O a (suc n))
 end O (pick a) n = copyStart (end O a) n O
-end O (moveOf a b) n = suc n
-end O (testOf a b) n = suc n
+end O (objectMove a b) n = suc n
+end O (objectTest a b) n = suc n
 
 -- "one move step for each move, 0 upward": so many moves from number a on
 unfoldable pub moveSteps : ℕ → ℕ → ℕ → List Step
@@ -85,15 +85,22 @@ steps M O env (star a) n = steps M O env a (suc n) ++ starSteps n (end O a (suc 
 steps M O env (pick a) n =
     let starts : ℕ → ℕ = copyStart (end O a) n in
     copies O (λ o. steps M O (o ∷ env) a (starts o)) ++ pickSteps O n starts (λ o. end O a (starts o))
-steps M O env (moveOf a b) n = objectSteps (λ o. make (a + o)) (getElem? env b) n
-steps M O env (testOf a b) n = objectSteps (λ o. holds (a + o)) (getElem? env b) n
+steps M O env (objectMove a b) n = objectSteps (λ o. make (a + o)) (getElem? env b) n
+steps M O env (objectTest a b) n = objectSteps (λ o. holds (a + o)) (getElem? env b) n
 
--- "The recipe starts at 0; its end is the final position."
+-- "The recipe starts at 0; its end is the final position.": where there are M moves and O objects
+abbrev pub programSteps : ℕ → ℕ → Program → List Step
+programSteps M O σ = steps M O [] σ 0
+
+abbrev pub programEnd : ℕ → Program → ℕ
+programEnd O σ = end O σ 0
+
+-- the same in a domain
 abbrev pub compiledSteps : Domain → Program → List Step
-compiledSteps D σ = steps (D .moves) (D .objects) [] σ 0
+compiledSteps D σ = programSteps (D .moves) (D .objects) σ
 
 abbrev pub finalPosition : Domain → Program → ℕ
-finalPosition D σ = end (D .objects) σ 0
+finalPosition D σ = programEnd (D .objects) σ
 
 -- "A step is (kind, from, to, arg)"; "a no-op's arg is 0"
 abbrev pub kindOf : Label → ℕ

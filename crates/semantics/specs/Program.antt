@@ -23,9 +23,9 @@ pub data Program : Type 0 where
   -- "pick: a is the body, and an execution is one of the body for some object"
   pick : Program → Program
   -- "a move, number a plus the object of the b-th enclosing pick, 0 being the nearest"
-  moveOf : ℕ → ℕ → Program
+  objectMove : ℕ → ℕ → Program
   -- "a test of formula a plus that object"
-  testOf : ℕ → ℕ → Program
+  objectTest : ℕ → ℕ → Program
 
 -- 003's σ₁|x/o: object o in place of the variable that stands x picks out from σ₁'s nearest; inside
 -- another pick it stands one further out
@@ -40,5 +40,5 @@ put o x (choice a b) = choice (put o x a) (put o x b)
 put o x (while a b) = while a (put o x b)
 put o x (star a) = star (put o x a)
 put o x (pick a) = pick (put o (suc x) a)
-put o x (moveOf a b) = cond (eqb b x) (move (a + o)) (moveOf a b)
-put o x (testOf a b) = cond (eqb b x) (test (a + o)) (testOf a b)
+put o x (objectMove a b) = cond (eqb b x) (move (a + o)) (objectMove a b)
+put o x (objectTest a b) = cond (eqb b x) (test (a + o)) (objectTest a b)

@@ -3,7 +3,7 @@
 use Prim.Native.Nat.{ℕ, suc}
 use mathlib.Core.Bool.{Bool, true, _&&_}
 use lib.Dec.{ltb}
-use Rattle.semantics.specs.Program.{Program, nil, move, any, test, seq, ifElse, choice, while, star, pick, moveOf, testOf}
+use Rattle.semantics.specs.Program.{Program, nil, move, any, test, seq, ifElse, choice, while, star, pick, objectMove, objectTest}
 
 -- inside d picks each variable has its pick, read down
 unfoldable pub scoped : ℕ → Program → Bool
@@ -17,5 +17,5 @@ scoped d (choice a b) = scoped d a && scoped d b
 scoped d (while a b) = scoped d b
 scoped d (star a) = scoped d a
 scoped d (pick a) = scoped (suc d) a
-scoped d (moveOf a b) = ltb b d
-scoped d (testOf a b) = ltb b d
+scoped d (objectMove a b) = ltb b d
+scoped d (objectTest a b) = ltb b d

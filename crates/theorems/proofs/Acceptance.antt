@@ -50,14 +50,14 @@ read-iff text n j = (
 module _ (text : List ℕ) (j : Job) where
   job-passes : AcceptedJob text j → jobIn text ≡ passed j
   unfolding jobIn
-  job-passes a = ap compilable (read-iff text (length (lines text)) j .1 (a .right, a .written, refl)) ∙ rw (a .picks, fit j (a .positions) (a .steps))
+  job-passes a = ap compilable (read-iff text (length (lines text)) j .1 (a .right, a .written, refl)) ∙ rw (a .scoped, fit j (a .positions) (a .steps))
 
   pub job-iff : (jobIn text ≡ passed j) ↔ AcceptedJob text j
   job-iff = (
     λ e.
         let r = passed-read text j e in
         let w = read-iff text (r .lines) j .0 (r .is-read) in
-        record { right = w .0; picks = r .picks; positions = few-positions j (r .fit); steps = few-steps j (r .fit); written = w .1 },
+        record { right = w .0; scoped = r .scoped; positions = few-positions j (r .fit); steps = few-steps j (r .fit); written = w .1 },
     job-passes,
   )
 
@@ -143,7 +143,7 @@ module _ (h : Handed) (o : Offer) where
         alone = λ p. ap (λ (x : Offer). x .entries) (sym (plan-alone (h .request) (h .plan) t o p k));
       }
 
-  -- its texts: reasons 1 to 4, 7 and 5
+  -- its texts: reasons 1 to 4, 8, 7 and 5
   pub texts-iff : (textsIn h ≡ passed o) ↔ AcceptedTexts h o
   texts-iff = (texts-passed, texts-pass)
 

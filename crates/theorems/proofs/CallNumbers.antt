@@ -26,7 +26,7 @@ use Rattle.jesmovit.proofs.AnswerLaws.{viewed, refusal-kept}
 use Rattle.capi.specs.Numbers.{outcomeNumbers, countNumbers, sizeNumbers, costNumbers, readNumbers, compileNumbers, checkNumbers, leastNumbers, judgeNumbers}
 use Rattle.capi.specs.Calls.{Gives}
 use Rattle.capi.specs.declared.numbers.Numbers.{Numbers}
-use Rattle.theorems.specs.RefusalNumbers.{UpTo, of-line, of-variable, of-job, of-costs, of-plan, LoadNumber, of-text, too-short, CallNumber}
+use Rattle.theorems.specs.RefusalNumbers.{UpTo, of-line, of-variable, of-size, of-job, of-costs, of-plan, LoadNumber, of-text, too-short, CallNumber}
 use Rattle.theorems.proofs.RefusalNumbers.{read-number, load-number}
 
 -- the number of a refusal, and 0 for none
@@ -64,6 +64,7 @@ up-to-positive last number x = x .0
 pub load-positive : (h : Handed) (number : ℕ) → LoadNumber h number → 1 ≤ number
 load-positive h number (of-text (of-job (of-line x))) = x .0
 load-positive h number (of-text (of-job of-variable)) = omega arith
+load-positive h number (of-text (of-job of-size)) = omega arith
 load-positive h number (of-text (of-costs f)) = omega arith
 load-positive h number (of-text (of-plan f)) = omega arith
 load-positive h number too-short = omega arith

@@ -49,7 +49,7 @@ module _ (h : Handed) where
     at-house (passed j) = ap (λ (x : Checked Task). next x planned) (house j)
     at-house (refused number place) = refl
 
-  -- reasons 1 to 5, as they are where there are no costs texts at all
+  -- reasons 1 to 5 and 8, as they are where there are no costs texts at all
   pub none-given : h .request .given .costs ≡ false → textsIn h ≡ next (jobIn (h .job)) (λ j. planIn (h .request) (h .plan) (atHouseCosts j))
   unfolding textsIn taskIn
   none-given f =

@@ -25,11 +25,11 @@ use Rattle.lists.specs.CountedList as L
 use Rattle.lists.specs.CountedList.{ListOutcome}
 use Rattle.lists.specs.CostsText.{readCosts}
 use Rattle.lists.specs.PlanText.{readPlan}
-use Rattle.compile.specs.CompiledJob.{fits, hasPicks}
+use Rattle.compile.specs.CompiledJob.{fits, programScoped}
 use Rattle.load.specs.Refusals.{Handed, Checked, passed, refused, next, compilable, jobIn, withCosts, costsIn, taskIn}
 use Rattle.load.specs.Refusals.{offered, keyFor, boundFor, planIn, textsIn}
 use Rattle.load.specs.Refusals.{listNeed, tableNeed, loading}
-use Rattle.theorems.specs.RefusalNumbers.{UpTo, JobNumber, of-line, of-variable, TextNumber, of-job, of-costs, of-plan, LoadNumber, of-text, too-short}
+use Rattle.theorems.specs.RefusalNumbers.{UpTo, JobNumber, of-line, of-variable, of-size, TextNumber, of-job, of-costs, of-plan, LoadNumber, of-text, too-short}
 
 -- whatever refusal it is, its number meets P
 abbrev RefusedBy : {A : Type 0} → (ℕ → Type 0) → Checked A → Type 0
@@ -82,9 +82,9 @@ length-refuses P a need places six =
 
 compilable-refuses : (o : Outcome) → Ranged o → RefusedBy JobNumber (compilable o)
 compilable-refuses (R.read n j) r =
-    cond-has (RefusedBy JobNumber) (hasPicks j) (cond (fits j) (passed j) (refused 4 n)) (refused 8 n)
+    cond-has (RefusedBy JobNumber) (programScoped j) (cond (fits j) (passed j) (refused 4 n)) (refused 8 n)
     (λ v. cond-has (RefusedBy JobNumber) (fits j) (passed j) (refused 4 n) (λ z a b e. never (cc))
-    (λ z a b e. let y : a ≡ 4 = cc in of-line {number = a} (omega arith, omega arith)))
+    (λ z a b e. let y : 4 ≡ a = cc in subst JobNumber y of-size))
     (λ v a b e. let y : 8 ≡ a = cc in subst JobNumber y of-variable)
 compilable-refuses (R.refused m p) r = λ a b e. let y : m ≡ a = cc in let x = r m p refl in of-line {number = a} (omega (arith, x .0), omega (arith, x .1))
 

@@ -4,11 +4,13 @@ use Prim.Native.Nat.{ℕ, _≤_}
 use mathlib.Core.Path.{_≡_}
 use mathlib.Core.Bool.{true, false}
 use mathlib.Core.List.{List, []}
+use lib.ListN.{length}
 use Rattle.limits.specs.Limits.{mostPositions, mostSteps}
+use Rattle.text.specs.Lines.{lines}
 use Rattle.job.specs.Job.{Job}
 use Rattle.job.specs.Task.{Task, houseCosts}
 use Rattle.job.specs.WellFormed.{WellFormed}
-use Rattle.compile.specs.CompiledJob.{positionCount, stepCount, hasPicks}
+use Rattle.compile.specs.CompiledJob.{positionCount, stepCount, programScoped}
 use Rattle.lists.specs.PlanText.{IsPlanText}
 use Rattle.lists.specs.CostsText.{IsCostsText}
 use Rattle.load.specs.Refusals.{Handed, Offer, keyFor, boundFor, listNeed, tableNeed}
@@ -20,10 +22,18 @@ use Rattle.theorems.specs.JobText.{jobText}
 -- each variable: "At most 256 positions and 1,024 steps."
 pub record AcceptedJob (text : List ℕ) (j : Job) : Type 0 where
   pub right : WellFormed j
-  pub picks : hasPicks j ≡ true
+  pub scoped : programScoped j ≡ true
   pub positions : positionCount j ≤ mostPositions
   pub steps : stepCount j ≤ mostSteps
   pub written : text ≡ jobText j
+
+-- reason 8 refuses the text of a well-formed job whose program has a variable without its pick, at
+-- this place: "with the last job line, before 4"
+pub record UnscopedJob (text : List ℕ) (place : ℕ) (j : Job) : Type 0 where
+  pub right : WellFormed j
+  pub unscoped : programScoped j ≡ false
+  pub written : text ≡ jobText j
+  pub last-line : place ≡ length (lines text)
 
 -- nor does reason 7 refuse a costs text, where one is given: "The house numbers remain for those
 -- who hand in none."

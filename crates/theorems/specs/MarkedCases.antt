@@ -118,18 +118,19 @@ conflictCases =
 abbrev overTwo : String → String → String → List ℕ
 overTwo init goal program = sampleWith init goal "objects=2\n" program
 
--- pick of move 0 plus x, which is row 1 of these programs
+-- pick of move 0 plus its object
 abbrev pub pickMove : String → List ℕ
 pickMove goal = overTwo "init=2\n" goal "program=2\np=10,0,0,0\np=9,0,0,0\n"
 
+-- two such picks in sequence, by one row
 abbrev twoPicks : List ℕ
 twoPicks = overTwo "init=0\n" "goal=1\n" "program=3\np=10,0,0,0\np=9,0,0,0\np=4,1,1,0\n"
 
--- pick of (x then x)
+-- pick of that move twice, for one object
 abbrev sameTwice : List ℕ
 sameTwice = overTwo "init=0\n" "goal=1\n" "program=3\np=10,0,0,0\np=4,0,0,0\np=9,1,0,0\n"
 
--- pick of (test of formula 1 plus x, then move 0 plus x)
+-- pick of a test of formula 1 plus its object, then of move 0 plus it
 abbrev testThenMove : List ℕ
 testThenMove = overTwo "init=2\n" "goal=1\n" "program=4\np=11,1,0,0\np=10,0,0,0\np=4,0,1,0\np=9,2,0,0\n"
 

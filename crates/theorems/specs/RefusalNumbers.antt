@@ -9,10 +9,11 @@ use Rattle.load.specs.Refusals.{Handed}
 abbrev pub UpTo : ℕ → ℕ → Type 0
 UpTo last number = (1 ≤ number) × (number ≤ last)
 
--- a job text: 1 to 4, and 8
+-- a job text: 1 to 3, of its lines; 8, of a variable; 4, of its compiled job
 pub data JobNumber : ℕ → Type 0 where
-  of-line : {number : ℕ} → UpTo 4 number → JobNumber number
+  of-line : {number : ℕ} → UpTo 3 number → JobNumber number
   of-variable : JobNumber 8
+  of-size : JobNumber 4
 
 -- the texts: those; 7 where a costs text is given; 5 where there is a plan text
 pub data TextNumber (h : Handed) : ℕ → Type 0 where

@@ -162,7 +162,7 @@ pick-pick-steps-requires t c κs =
 pick-same-length : (t : ℕ) → pick-lts.Need-same-length (pick-claims t) (pick-at t) compile-pick.Post Inv-loop μ-loop
 pick-same-length t c =
     let at7 = c .before .before .before .before .before .before .before in
-    c .before .before .pick-steps .kept .0 ∙ at7 .loop .inv .copies .size
+    c .before .before .pick-steps .kept .0 ∙ at7 .loop .inv .copies .over .size
 
 pick-same-length-2 : (t : ℕ) → pick-lts.Need-same-length-2 (pick-claims t) (pick-at t) compile-pick.Post Inv-loop μ-loop
 pick-same-length-2 t c =

@@ -1,18 +1,21 @@
+use mathlib.Core.Path.{refl}
+use Rattle.semantics.specs.CompilingTable.{flat}
+use Rattle.compile.specs.Laid.{linkSteps}
 use Prim.Native.Nat.{_-_}
 use native.Mathlib.Omega.{arith}
-use Rattle.compile.proofs.LaidLaws.{LinksLaid, links-none, links-room, links-more, links-all, position-low}
+use Rattle.compile.proofs.LaidLaws.{CopiesOver, copies-none, copies-more, steps-room, steps-all, position-low}
 use borrow.Author.Needs.{needs}
 use Rattle.compile.proofs.steps.links.Statement.{statement}
 use Rattle.compile.proofs.steps.links.Tie as tie
 
 abbrev Inv-loop : tie.InvT-loop
-Inv-loop list₀ at from to count next₀ k₀ list next k = LinksLaid from to count list₀ next₀ k list next
+Inv-loop list₀ at from to count next₀ k₀ list next k = CopiesOver (linkSteps from to) count list₀ next₀ k list next
 
 abbrev μ-loop : tie.MeasureT-loop
 μ-loop list₀ at from to count next₀ k₀ list next k = count - k
 
 loop-holds : tie.Need-loop-holds Inv-loop μ-loop
-loop-holds c = links-none
+loop-holds c = copies-none
 
 mul-put-step : tie.Need-mul-put-step Inv-loop μ-loop
 mul-put-step c =
@@ -46,19 +49,20 @@ put-step-requires c κs =
     let at5 = c .before .before .before .before .before in
     let at6 = at5 .before in
     let at8 = at6 .before .before in
-    links-room (at6 .loop .inv) (at8 .pre .0) (at5 .loop-test .taken)
+    steps-room (at6 .loop .inv) (λ o. refl) (at8 .pre .0) (at5 .loop-test .taken)
 
 loop-again : tie.Need-loop-again Inv-loop μ-loop
+unfolding flat
 loop-again c =
     let at8 = c .before .before .before .before .before .before .before .before in
     let at9 = at8 .before in
-    links-more (at9 .loop .inv) (at8 .loop-test .taken) (c .before .before .put-step .kept .0) (c .before .before .put-step .ensures)
+    copies-more (at9 .loop .inv) (at8 .loop-test .taken) refl (c .before .before .put-step .kept .0) (c .before .before .put-step .ensures)
 
 same-length : tie.Need-same-length Inv-loop μ-loop
 same-length c = c .before .loop .inv .size
 
 returns : tie.Need-returns Inv-loop μ-loop
-returns c = links-all (c .before .loop .inv) (omega (arith, c .loop-test .left))
+returns c = steps-all (c .before .loop .inv) (λ o. refl) (omega (arith, c .loop-test .left))
 
 pub links-spec : {M : Type 1} → statement M
 links-spec =

@@ -9,7 +9,7 @@ use Rattle.jesmovit.proofs.laying.move_verdict.Tie as tie
 compile-requires : tie.Need-compile-requires
 compile-requires c κs =
     let at5 = c .before .before .before .before .before in
-    ((at5 .pre .0 .stored, at5 .pre .0 .picks), (at5 .pre .0 .fit, own-room (at5 .pre .0)))
+    ((at5 .pre .0 .stored, at5 .pre .0 .scoped), (at5 .pre .0 .fit, own-room (at5 .pre .0)))
 
 part-check-moves-end : tie.Need-part-check-moves-end
 part-check-moves-end c =

@@ -11,13 +11,12 @@ use lib.ListN.{length, getD, set}
 use borrow.Author.Tests.{leb-true, le-leb, ltb-true, lt-ltb, eqb-true, eq-eqb}
 use Rattle.laws.proofs.Tests.{and-left, and-right, and-both, tests-equal}
 use Rattle.job.specs.Job.{Row}
-use Rattle.semantics.specs.Program.{Program, nil, move, any, test, seq, ifElse, choice, while, star, pick, moveOf, testOf}
+use Rattle.semantics.specs.Program.{Program, nil, move, any, test, seq, ifElse, choice, while, star, pick, objectMove, objectTest}
 use Rattle.semantics.specs.Scope.{scoped}
 use Rattle.compile.specs.Program.{rowProgram}
-use Rattle.compile.specs.Construct.{simple, branch, loop, programIn, Earlier, RowSays}
-use Rattle.compile.specs.Scope.{leafPicks, picksIn}
+use Rattle.compile.specs.Construct.{simple, branch, loop, programIn, leafPicks, picksIn, Refers, RowSays}
 use Rattle.compile.specs.declared.rows.Simple.{Simple}
-use Rattle.compile.specs.declared.rows.Simple.the-variants.{Nil, Move, Test, MoveOf, TestOf}
+use Rattle.compile.specs.declared.rows.Simple.the-variants.{Nil, Move, Test, ObjectMove, ObjectTest}
 use Rattle.compile.specs.declared.rows.Guard.{Guard}
 use Rattle.compile.specs.declared.rows.Guard.the-variants.{Free, On}
 use Rattle.compile.specs.declared.rows.Construct.{Construct}
@@ -36,8 +35,8 @@ picksNeeded (choice a b) = max (picksNeeded a) (picksNeeded b)
 picksNeeded (while f a) = picksNeeded a
 picksNeeded (star a) = picksNeeded a
 picksNeeded (pick a) = picksNeeded a - 1
-picksNeeded (moveOf a b) = suc b
-picksNeeded (testOf a b) = suc b
+picksNeeded (objectMove a b) = suc b
+picksNeeded (objectTest a b) = suc b
 
 both-at-most : (x y d : ℕ) → leb x d && leb y d ≡ leb (max x y) d
 both-at-most x y d = tests-equal _ _
@@ -47,8 +46,8 @@ both-at-most x y d = tests-equal _ _
 one-fewer : (x d : ℕ) → leb x (suc d) ≡ leb (x - 1) d
 one-fewer x d = tests-equal _ _ (λ h. le-leb (x - 1) d (omega (arith, leb-true x (suc d) h))) (λ h. le-leb x (suc d) (omega (arith, leb-true (x - 1) d h)))
 
-below : (b d : ℕ) → ltb b d ≡ leb (suc b) d
-below b d = tests-equal _ _ (λ h. le-leb (suc b) d (ltb-true b d h)) (λ h. lt-ltb b d (leb-true (suc b) d h))
+below-leb : (b d : ℕ) → ltb b d ≡ leb (suc b) d
+below-leb b d = tests-equal _ _ (λ h. le-leb (suc b) d (ltb-true b d h)) (λ h. lt-ltb b d (leb-true (suc b) d h))
 
 -- inside d picks each variable has its pick where no more are asked for
 pub scoped-needed : (σ : Program) (d : ℕ) → scoped d σ ≡ leb (picksNeeded σ) d
@@ -63,8 +62,8 @@ scoped-needed (choice a b) d = ap₂ _&&_ (scoped-needed a d) (scoped-needed b d
 scoped-needed (while f a) d = scoped-needed a d
 scoped-needed (star a) d = scoped-needed a d
 scoped-needed (pick a) d = scoped-needed a (suc d) ∙ one-fewer (picksNeeded a) d
-scoped-needed (moveOf a b) d = below b d
-scoped-needed (testOf a b) d = below b d
+scoped-needed (objectMove a b) d = below-leb b d
+scoped-needed (objectTest a b) d = below-leb b d
 
 -- outside every pick
 pub none-needed : (σ : Program) → eqb (picksNeeded σ) 0 ≡ scoped 0 σ
@@ -78,8 +77,8 @@ unfolding picksNeeded
 leaf-needs Nil = refl
 leaf-needs (Move a) = refl
 leaf-needs (Test a) = refl
-leaf-needs (MoveOf a b) = refl
-leaf-needs (TestOf a b) = refl
+leaf-needs (ObjectMove a b) = refl
+leaf-needs (ObjectTest a b) = refl
 
 branch-needs : (g : Guard) (a b : Program) → picksNeeded (branch g a b) ≡ max (picksNeeded a) (picksNeeded b)
 unfolding picksNeeded
@@ -101,7 +100,7 @@ row-needs of (C.Loop g a) = loop-needs g (of a)
 row-needs of (C.Pick a) = refl
 
 -- a row asks for what it does by the rows before it
-same-picks : (f g : ℕ → ℕ) (i : ℕ) → ((k : ℕ) → k < i → f k ≡ g k) → (r : Construct) → Earlier i r → picksIn f r ≡ picksIn g r
+same-picks : (f g : ℕ → ℕ) (i : ℕ) → ((k : ℕ) → k < i → f k ≡ g k) → (r : Construct) → Refers i r → picksIn f r ≡ picksIn g r
 same-picks f g i e (C.Leaf s) h = refl
 same-picks f g i e C.Any h = refl
 same-picks f g i e (C.Seq a b) h = rw (e a (h .0), e b (h .1))
@@ -118,5 +117,5 @@ module _ (program : List Row) where
   pub picks-more : (i : ℕ) (l : List ℕ) (r : Construct) (v : ℕ) → PicksTabled i l → RowSays (rowProgram program) i r
       → v ≡ picksIn (λ k. getD l k 0) r → i < length l → PicksTabled (i + 1) (set l i v)
   picks-more i l r v s e q h = tabled-more _ i l v s
-      (q ∙ same-picks (λ k. getD l k 0) (λ k. picksNeeded (rowProgram program k)) i s r (e .earlier)
+      (q ∙ same-picks (λ k. getD l k 0) (λ k. picksNeeded (rowProgram program k)) i s r (e .refers)
       ∙ sym (row-needs (rowProgram program) r) ∙ ap picksNeeded (sym (e .is))) h

@@ -6,11 +6,11 @@ use lib.ListN.{length, length-set}
 use Rattle.limits.specs.Limits.{mostProgram}
 use Rattle.job.specs.Store.{jobOf}
 use Rattle.job.proofs.StoredLaws.{limited, some-row}
-use Rattle.compile.proofs.ScopeLaws.{picksNeeded, PicksTabled, picks-more, none-needed}
+use Rattle.compile.proofs.PickNeeds.{picksNeeded, PicksTabled, picks-more, none-needed}
 use Rattle.compile.proofs.FitLaws.{last-row}
 use borrow.Author.Needs.{needs}
-use Rattle.compile.proofs.scope.has_picks.Statement.{statement}
-use Rattle.compile.proofs.scope.has_picks.Tie as tie
+use Rattle.compile.proofs.scope.program_scoped.Statement.{statement}
+use Rattle.compile.proofs.scope.program_scoped.Tie as tie
 
 abbrev Inv-loop : tie.InvT-loop
 Inv-loop head rows n picks₀ i₀ picks i =
@@ -59,8 +59,8 @@ returns c =
     ap (λ (k : ℕ). eqb k 0) (c .picks-at .ensures ∙ s (o .head .counts .program - 1) (omega arith) ∙ ap picksNeeded (sym (last-row (o .head) (o .rows .now))))
     ∙ none-needed _
 
-pub has-picks-spec : {M : Type 1} → statement M
-has-picks-spec =
+pub program-scoped-spec : {M : Type 1} → statement M
+program-scoped-spec =
     tie.close
     (tie.spec
     Inv-loop
