@@ -141,7 +141,8 @@ module _ {h : Head} {l : List ℕ} {i t places start : ℕ} {from : Cursor} {env
       branch-second e n =
           let q = room (Branch g a b) s in
           let v = first-end in
-          call (s .refers .1) e n (w .kept) (record { variables = branch-variables .1; positions = omega (arith, q .0, v .0); room = omega (arith, q .1, v .1) })
+          call (s .refers .1) e n (w .kept)
+          (record { variables = branch-variables .1; positions = omega (arith, q .0, v .0); room = omega (arith, q .1, v .1) })
 
       pub branch-ok : {new env₃ : List ℕ} {y : Cursor} {z : ℕ} → z ≡ places → RowLaid c (of h l b) start env₂ mid (next x) new y env₃
           → (y .at + 16 ≤ z) × (from .position < 65535) × (x .position < 65535) × (y .position < 65535)
@@ -174,7 +175,8 @@ module _ {h : Head} {l : List ℕ} {i t places start : ℕ} {from : Cursor} {env
   )
 
 -- the first o copies of the body of a pick are laid, and the objects are kept
-pub record Copied (c : Counts) (σ : Program) (start : ℕ) (env old : List ℕ) (from : Cursor) (o : ℕ) (list : List ℕ) (last : Cursor) (env₂ : List ℕ) : Type 0 where
+pub record Copied (c : Counts) (σ : Program) (start : ℕ) (env old : List ℕ) (from : Cursor) (o : ℕ) (list : List ℕ) (last : Cursor) (env₂ : List ℕ)
+    : Type 0 where
   pub copies : CopiesLaid c (objectsFrom start env) σ old from o list last
   pub size : length env₂ ≡ length env
   pub kept : objectsFrom start env₂ ≡ objectsFrom start env

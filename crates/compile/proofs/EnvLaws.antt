@@ -18,7 +18,8 @@ env-more l start o p h =
     (drop-set-lt (suc (start - 1)) l (start - 1) o (omega arith) ∙ ap (λ (k : ℕ). drop k l) e)
 
 -- objects that are kept, of a list of the same length
-pub env-kept : {start : ℕ} {old new : List ℕ} → EnvRight start old → length new ≡ length old → objectsFrom start new ≡ objectsFrom start old → EnvRight start new
+pub env-kept : {start : ℕ} {old new : List ℕ} → EnvRight start old → length new ≡ length old → objectsFrom start new ≡ objectsFrom start old
+    → EnvRight start new
 env-kept r l e = record { size = l ∙ r .size; within = r .within; objects = λ k. rw e (r .objects k) }
 
 pub env-inside : {start o : ℕ} {l : List ℕ} → EnvRight start l → 0 < start → o < mostObjects → EnvRight (start - 1) (set l (start - 1) o)

@@ -126,6 +126,7 @@ module _ {c : Counts} {env : List ℕ} {σ : Program} {from : Cursor} {places : 
         let own : LaidOver (flat (pickSteps O n (startOf c σ n) (λ k. end O σ (startOf c σ n k)))) list (last .at) new (to .at) =
         subst (λ (L : List Step). LaidOver (flat L) list (last .at) new (to .at)) (sym (same-steps c σ n)) (rw e at (z .0)) in
         record {
-          laid = rw (flat-append (copies O (copyOf c env σ n)) (pickSteps O n (startOf c σ n) (λ k. end O σ (startOf c σ n k)))) (laid-append (k .over .laid) own);
+          laid = rw (flat-append (copies O (copyOf c env σ n)) (pickSteps O n (startOf c σ n) (λ k. end O σ (startOf c σ n k))))
+              (laid-append (k .over .laid) own);
           ends = z .1 ∙ ap (λ (x : ℕ). n + 1 + x * O) e ∙ sym (starts-at c σ n O);
         }

@@ -82,7 +82,8 @@ module _ (c : Counts) (few-moves : c .moves ≤ mostMoves) (few-formulas : c .fo
   )
 
   refers-back : Within c (getD rowFields (r .kind) []) (r .a ∷ r .b ∷ r .c ∷ []) → Refers (c .program) (constructOf r)
-  refers-back w = pair-at FieldsRefer [] (Leaf Nil) rowFields (constructs r) kinds-refer (r .kind) (kind-listed c rowFields (r .kind) (r .a) (r .b ∷ r .c ∷ []) w) w
+  refers-back w =
+      pair-at FieldsRefer [] (Leaf Nil) rowFields (constructs r) kinds-refer (r .kind) (kind-listed c rowFields (r .kind) (r .a) (r .b ∷ r .c ∷ []) w) w
 
 same-program : (f g : ℕ → Program) (i : ℕ) → ((k : ℕ) → k < i → f k ≡ g k) → (r : Construct) → Refers i r → programIn f r ≡ programIn g r
 same-program f g i e (Leaf s) h = refl

@@ -29,7 +29,8 @@ use Rattle.compile.specs.CompiledJob.{fits, programScoped}
 use Rattle.load.specs.Refusals.{Handed, Checked, passed, refused, next, compilable, jobIn, withCosts, costsIn, taskIn}
 use Rattle.load.specs.Refusals.{offered, keyFor, boundFor, planIn, textsIn}
 use Rattle.load.specs.Refusals.{listNeed, tableNeed, loading}
-use Rattle.theorems.specs.RefusalNumbers.{UpTo, JobNumber, of-line, of-variable, of-size, TextNumber, of-job, of-costs, of-plan, LoadNumber, of-text, too-short}
+use Rattle.theorems.specs.RefusalNumbers.{UpTo, JobNumber, of-line, of-variable, of-size, TextNumber, of-job, of-costs, of-plan}
+use Rattle.theorems.specs.RefusalNumbers.{LoadNumber, of-text, too-short}
 
 -- whatever refusal it is, its number meets P
 abbrev RefusedBy : {A : Type 0} → (ℕ → Type 0) → Checked A → Type 0

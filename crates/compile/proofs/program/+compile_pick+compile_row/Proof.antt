@@ -137,7 +137,8 @@ pick-loop-again t c =
     let at12 = at10 .before .before in
     let at13 = at12 .before in
     let at18 = at13 .before .before .before .before .before in
-    one-copied (at18 .pre) (at13 .loop .inv) (at12 .loop-test .taken) (at10 .put-object .ensures) (at5 .compile-row .ensures) (at5 .compile-row .kept .1 .1 .1 .0)
+    one-copied (at18 .pre) (at13 .loop .inv) (at12 .loop-test .taken) (at10 .put-object .ensures) (at5 .compile-row .ensures)
+    (at5 .compile-row .kept .1 .1 .1 .0)
     (at5 .compile-row .kept .1 .1 .1 .1 .1 .0 ∙ at10 .put-object .kept .0)
 
 pick-sub-apart : (t : ℕ) → pick-lts.Need-sub-apart (pick-claims t) (pick-at t) compile-pick.Post Inv-loop μ-loop
@@ -255,7 +256,8 @@ row-branch-steps-requires t c κs =
     let at18 = at16 .before .before in
     let at22 = at18 .before .before .before .before in
     let s = told (at16 .construct3 .given .1) (at18 .construct-at .ensures) in
-    branch-ok (at22 .pre) s (at12 .compile-row3 .ensures) (at5 .compile-row4 .kept .1 .1 .1 .0 ∙ at12 .compile-row3 .kept .1 .1 .1 .0) (at5 .compile-row4 .ensures)
+    branch-ok (at22 .pre) s (at12 .compile-row3 .ensures) (at5 .compile-row4 .kept .1 .1 .1 .0 ∙ at12 .compile-row3 .kept .1 .1 .1 .0)
+    (at5 .compile-row4 .ensures)
 
 row-compile-row-requires-5 : (t : ℕ) → row-lts.Need-compile-row-requires-5 (row-claims t) (row-at t) compile-row.Post
 row-compile-row-requires-5 t c κs =
@@ -348,7 +350,8 @@ row-returns-4 t c =
     let s = told (at19 .construct3 .given .1) (at21 .construct-at .ensures) in
     let x = at15 .compile-row3 .ensures in
     let y = at8 .compile-row4 .ensures in
-    record { steps = wrote-branch (at25 .args .from) s (x .steps) (in-env (x .kept) (y .steps)) (c .before .before .branch-steps .ensures); kept = y .kept ∙ x .kept }
+    let z = c .before .before .branch-steps .ensures in
+    record { steps = wrote-branch (at25 .args .from) s (x .steps) (in-env (x .kept) (y .steps)) z; kept = y .kept ∙ x .kept }
 
 row-same-length-8 : (t : ℕ) → row-lts.Need-same-length-8 (row-claims t) (row-at t) compile-row.Post
 row-same-length-8 t c =
