@@ -37,7 +37,7 @@ pub fn damage(random: &mut Random, text: &mut Vec<u8>) {
     for _ in 0..random.ranged(&[(850, (1, 1)), (150, (2, 4))]) {
         let kind = random.weighted(&[
             (260, Damage::Fields),
-            (60, Damage::Variable),
+            (120, Damage::Variable),
             (200, Damage::Number),
             (40, Damage::Count),
             (160, Damage::Byte),

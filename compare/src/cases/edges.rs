@@ -16,7 +16,7 @@ use crate::second::sheet::PAGE_LINES;
 type Edge = (&'static str, fn(&Look) -> bool);
 
 /// The limits, in the order in which they are printed.
-pub const EDGES: [Edge; 75] = [
+pub const EDGES: [Edge; 81] = [
     ("0 facts", |look| look.job(|job| job.facts == 0)),
     ("12 facts", |look| look.job(|job| job.facts == MOST_FACTS)),
     ("13 facts", |look| look.refused_line == Some(b"facts=13")),
@@ -50,8 +50,16 @@ pub const EDGES: [Edge; 75] = [
     ("base of a move one more", |look| look.base_too_great(10)),
     ("base of a test one more", |look| look.base_too_great(11)),
     ("variable in unused row", |look| look.leaves(is_variable)),
+    ("65535 in an unused move", |look| look.leaves(|row| is_last_variable(row, 10))),
+    ("65535 in an unused test", |look| look.leaves(|row| is_last_variable(row, 11))),
+    ("row in and out of a pick", |look| look.compiles() && look.uses(|_, fewest, most| fewest < most)),
     ("plan by a later object", |look| look.plan_by_later_object()),
     ("free variable", |look| look.free(|_| true)),
+    ("variable 65535 in a move", |look| look.uses(|row, _, _| is_last_variable(row, 10))),
+    ("variable 65535 in a test", |look| look.uses(|row, _, _| is_last_variable(row, 11))),
+    ("free in one of its uses", |look| {
+        look.uses(|row, fewest, most| is_variable(row) && (fewest..most).contains(&row[2]))
+    }),
     ("free in an empty pick", |look| look.free_in_empty_pick()),
     ("free and too large", |look| look.free(|size| !size.fits())),
     ("free and bad costs", |look| look.free(|_| true) && look.costs_are_bad()),
@@ -98,6 +106,11 @@ pub const EDGES: [Edge; 75] = [
     ("last page of one move", |look| look.laid(|moves| moves > PAGE_LINES && moves % PAGE_LINES == 1)),
     ("sheet of 4000 moves", |look| look.laid(|moves| moves == usize::from(MOST_ENTRIES))),
 ];
+
+/// Whether a row is of this kind, a move or a test of an object, and its pick is as far out as a number can say.
+fn is_last_variable(row: &[u16; 4], kind: u16) -> bool {
+    row[0] == kind && row[2] == u16::MAX
+}
 
 /// Whether the case meets each limit.
 pub fn edges(case: &Case) -> [bool; EDGES.len()] {

@@ -37,8 +37,8 @@ pub fn change_fields(random: &mut Random, lines: &mut [Vec<u8>]) {
     }
 }
 
-/// Gives a move or a test of an object a base at its limit or one past it, or a pick that is one further out; where
-/// there is none, any fields are changed.
+/// Gives a move or a test of an object a base at its limit or one past it, or a pick that is one further out or as far
+/// out as a number can say; where there is none, any fields are changed.
 pub fn change_variable(random: &mut Random, lines: &mut [Vec<u8>]) {
     let [moves, formulas, objects] = ["moves", "formulas", "objects"].map(|key| number_of(lines, key));
     let variables: Vec<(usize, [usize; 4])> =
@@ -49,7 +49,8 @@ pub fn change_variable(random: &mut Random, lines: &mut [Vec<u8>]) {
     let (place, [kind, base, pick, _]) = random.pick(&variables);
     let count = if kind == 10 { moves } else { formulas };
     let last = count.saturating_sub(objects);
-    let [base, pick] = random.pick(&[[last, pick], [last + 1, pick], [last + 1, pick], [base, pick + 1]]);
+    let changed = [[last, pick], [last + 1, pick], [last + 1, pick], [base, pick + 1], [base, 65535], [base, 65535]];
+    let [base, pick] = random.pick(&changed);
     lines[place] = format!("p={kind},{base},{pick},0\n").into_bytes();
 }
 

@@ -8,7 +8,7 @@ use crate::second::fault::Fault;
 use crate::second::job::*;
 use crate::second::reader::{read_costs, read_job, read_plan};
 use crate::second::runs::Runs;
-use crate::second::scope::{fewest_picks, has_free_variable, is_variable};
+use crate::second::scope::{fewest_picks, has_free_variable, is_variable, most_picks};
 use crate::second::verdict::Verdict;
 
 /// A plan text as it is read.
@@ -71,7 +71,8 @@ pub fn is_cost(line: &[u8]) -> bool {
 
 impl Measured {
     fn of(job: Job) -> Measured {
-        Measured { size: program_size(&job), picks: fewest_picks(&job), free: has_free_variable(&job), job }
+        let free = has_free_variable(&job, Fault::None);
+        Measured { size: program_size(&job), picks: fewest_picks(&job), free, job }
     }
 
     fn compiles(&self) -> bool {
@@ -129,6 +130,17 @@ impl Look<'_> {
         let meets =
             |own: &Measured| own.rows().any(|(row, picks)| picks.is_some_and(|picks| holds(&own.job, row, picks)));
         self.compiles() && self.job.as_ref().is_some_and(meets)
+    }
+
+    /// Whether the job is read, and something holds of a row that its program reaches, and of the fewest and the most
+    /// picks around the row.
+    pub fn uses(&self, holds: impl Fn(&[u16; 4], u16, u16) -> bool) -> bool {
+        let Some(own) = &self.job else {
+            return false;
+        };
+        let meets =
+            |(row, picks): (&[u16; 4], Option<(u16, u16)>)| picks.is_some_and(|(low, high)| holds(row, low, high));
+        own.rows().zip(most_picks(&own.job)).map(|((row, low), high)| (row, low.zip(high))).any(meets)
     }
 
     /// Whether the job compiles, and something holds of a row that its program doesn't reach.

@@ -80,7 +80,7 @@ pub fn compile(job: &Job) -> Result<Compiled, Refusal> {
 /// Compiles the job's program with a seeded fault.
 pub fn compile_with(job: &Job, fault: Fault) -> Result<Compiled, Refusal> {
     let refused = |number| Err(Refusal { number, place: job.lines() });
-    if has_free_variable(job) {
+    if has_free_variable(job, fault) {
         return refused(8);
     }
     if !program_size(job).fits() {
@@ -117,8 +117,8 @@ impl Compiler<'_> {
             7 => self.repeat(n, b, a),
             8 => self.star(n, a),
             9 => self.pick(n, a),
-            10 => self.one(MOVE, n, a + self.object(b)),
-            _ => self.one(HOLDS, n, a + self.object(b)),
+            10 => self.of_object(MOVE, n, a, b),
+            _ => self.of_object(HOLDS, n, a, b),
         }
     }
 
@@ -189,8 +189,11 @@ impl Compiler<'_> {
         next
     }
 
-    /// The object of an enclosing pick, 0 being the nearest.
-    fn object(&self, pick: u16) -> u16 {
-        self.objects[self.objects.len() - 1 - usize::from(pick)]
+    /// One step by the object of an enclosing pick, 0 being the nearest; none where a fault lets a variable be free.
+    fn of_object(&mut self, kind: u16, n: u16, base: u16, pick: u16) -> u16 {
+        match self.objects.iter().rev().nth(pick.into()) {
+            Some(object) => self.one(kind, n, base + object),
+            None => n + 1,
+        }
     }
 }

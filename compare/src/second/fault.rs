@@ -48,10 +48,12 @@ pub enum Fault {
     ObjectOrder,
     /// In runs of the program the variable 0 is of the outermost pick.
     NearestForOutermost,
+    /// For a row that is used several times, the use that is read first says how many picks are around it.
+    FirstUse,
 }
 
 /// The faults by their names on the command line.
-pub const FAULTS: [(&str, Fault); 22] = [
+pub const FAULTS: [(&str, Fault); 23] = [
     ("star", Fault::Star),
     ("effects", Fault::Effects),
     ("conflict-ignored", Fault::ConflictIgnored),
@@ -74,6 +76,7 @@ pub const FAULTS: [(&str, Fault); 22] = [
     ("last-doubling", Fault::LastDoubling),
     ("object-order", Fault::ObjectOrder),
     ("nearest-for-outermost", Fault::NearestForOutermost),
+    ("first-use", Fault::FirstUse),
 ];
 
 impl Fault {

@@ -107,17 +107,22 @@ fn one_object_for_both_parts_of_a_sequence() {
     worked.costs([NONE, 0]);
 }
 
+/// The sample with these rows, the last a pick, and no object: of its two positions the first has no step.
+fn has_no_step(rows: &[[u16; 4]]) {
+    let job = sample_over(0, rows);
+    let worked = Worked { job, costs: None, positions: 2, list: Vec::new(), table: vec![0, X, X, X, X, X, X, X] };
+    worked.compiles();
+    worked.judges(&[], [UNFINISHED, 0, 0]);
+    worked.judges(&[0], [BLOCKED, 0, 0]);
+    worked.checks_steps(&[], [UNFINISHED, 0]);
+    worked.costs([NONE, 0]);
+}
+
 #[test]
 fn a_pick_over_no_object() {
-    // Position 0 has no step, whatever the body: move 0 of an object, or any.
+    // Whatever the body: move 0 of an object, or any.
     for body in [[10, 0, 0, 0], [2, 0, 0, 0]] {
-        let job = sample_over(0, &[body, [9, 0, 0, 0]]);
-        let worked = Worked { job, costs: None, positions: 2, list: Vec::new(), table: vec![0, X, X, X, X, X, X, X] };
-        worked.compiles();
-        worked.judges(&[], [UNFINISHED, 0, 0]);
-        worked.judges(&[0], [BLOCKED, 0, 0]);
-        worked.checks_steps(&[], [UNFINISHED, 0]);
-        worked.costs([NONE, 0]);
+        has_no_step(&[body, [9, 0, 0, 0]]);
     }
     // A star may do without it.
     let list = [[0, 0, 1, 0], [0, 2, 0, 0], [0, 0, 3, 0]].concat();
@@ -126,6 +131,18 @@ fn a_pick_over_no_object() {
     let worked = Worked { job, costs: None, positions: 4, list, table };
     worked.compiles();
     worked.judges(&[], [LEAST, 0, 0]);
+}
+
+#[test]
+fn a_large_body_over_no_object() {
+    // Move 0 doubled 126 times is too large, and so is its pick over one object; over none there is no copy of it.
+    let mut rows = vec![[1, 0, 0, 0]];
+    rows.extend((0..126).map(|row| [4, row, row, 0]));
+    all_refuse(sample_over(0, &rows).as_bytes(), 4, 16 + 127);
+    rows.push([9, 126, 0, 0]);
+    assert_eq!(rows.len(), 128);
+    has_no_step(&rows);
+    all_refuse(sample_over(1, &rows).as_bytes(), 4, 16 + 128);
 }
 
 #[test]

@@ -68,6 +68,21 @@ fn one_row_inside_and_outside_a_pick() {
 }
 
 #[test]
+fn one_row_in_a_star_and_in_a_pick() {
+    // Row 0 is inside no pick by way of the star, and inside one by way of the pick: rows 1 and 2, of which either may
+    // be read first.
+    let [star, pick] = [[8, 0, 0, 0], [9, 0, 0, 0]];
+    for kind in [10, 11] {
+        for [first, second] in [[star, pick], [pick, star]] {
+            for last in [[4, 1, 2, 0], [4, 2, 1, 0]] {
+                is_free(&[[kind, 0, 0, 0], first, second, last]);
+                is_bound(&[[kind, 0, 0, 0], first, second, last, [9, 3, 0, 0]]);
+            }
+        }
+    }
+}
+
+#[test]
 fn a_free_variable_in_an_unused_row() {
     // The sample's program behind rows that it doesn't use.
     for unused in [[10, 0, 0, 0], [11, 0, 65535, 0], [10, 1, 3, 0]] {

@@ -5,18 +5,29 @@ use crate::generator::program::{either, make_of, nil, pick, star, test_of, then,
 use crate::second::job::MOST_ROWS;
 
 impl Sketch<'_> {
-    /// Picks inside each other, around moves and tests of their objects; a few times the outermost is left out.
+    /// Picks inside each other, around moves and tests of their objects; a few times the outermost is left out. The
+    /// body of one may also be used outside it, and then every other time picks for all variables follow.
     pub fn picks(&mut self) {
         let depth = self.depth();
         let row = self.variable(depth);
         let mut body = self.program.add(row);
         let outermost = if self.random.chance(100) { 2 } else { 1 };
+        let used_outside = self.random.chance(200).then(|| self.random.between(1, depth.into()) as u16);
         for picks in (outermost..=depth).rev() {
-            while self.program.rows.len() + usize::from(picks) + 2 <= MOST_ROWS.into() && self.random.chance(400) {
+            while self.has_room(picks) && self.random.chance(400) {
                 body = self.beside(body, picks);
             }
-            body = self.program.add(pick(body));
+            let outside_too = used_outside == Some(picks) && self.has_room(picks);
+            body = if outside_too { self.in_and_out(body) } else { self.program.add(pick(body)) };
         }
+        if used_outside.is_some() && self.random.chance(500) {
+            self.close();
+        }
+    }
+
+    /// Whether there is room for two rows beside so many picks.
+    fn has_room(&self, picks: u16) -> bool {
+        self.program.rows.len() + usize::from(picks) + 2 <= MOST_ROWS.into()
     }
 
     /// How many picks stand inside each other: a few, as many as fit around one step, or one more.
@@ -37,6 +48,14 @@ impl Sketch<'_> {
             return self.program.add(row);
         }
         body
+    }
+
+    /// A pick of a body, and a star of it outside the pick; each may be read before the other.
+    fn in_and_out(&mut self, body: u16) -> u16 {
+        let rows = self.random.pick(&[[star(body), pick(body)], [pick(body), star(body)]]);
+        let [first, second] = rows.map(|row| self.program.add(row));
+        let row = self.random.pick(&[then(first, second), then(second, first), either(first, second)]);
+        self.program.add(row)
     }
 
     /// A move or a test of the object of one of so many enclosing picks, mostly of the nearest or of the outermost; a
