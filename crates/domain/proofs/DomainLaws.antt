@@ -14,14 +14,15 @@ use Rattle.job.specs.declared.head.Head.{Head}
 use Rattle.semantics.proofs.Bounds.{Bounded}
 use Rattle.domain.specs.State.{values}
 use Rattle.domain.specs.Effects.{factAfter, affected}
-use Rattle.domain.specs.Domain.{effectsOf, successorOf, costIn, domainOf, domainIn}
+use Rattle.domain.specs.Domain.{effectsOf, successorOf, domainOf, domainIn}
 use Rattle.domain.proofs.FactLaws.{count-within}
 use Rattle.domain.proofs.StateLaws.{state-below}
 use Rattle.domain.proofs.SuccessorLaws.{successor-is}
+use Rattle.domain.proofs.CostLaws.{cost-within}
 
 pub domain-bounded : (t : Task) → WellFormed (t .job) → CostsWithin (t .costs) → Bounded (domainOf t) mostCost
-unfolding affected costIn
-domain-bounded t k c = record { start = k .init; successors = stays; costs = λ m w. c (moveAt (t .job) m .class) }
+unfolding affected
+domain-bounded t k c = record { start = k .init; successors = stays; costs = λ m w. cost-within t m w c }
   where
     j : Job
     j = t .job

@@ -1,5 +1,5 @@
 -- The domain of a task: a state is a set of facts, as a number (document 01: world).
-use Prim.Native.Nat.{ℕ}
+use Prim.Native.Nat.{ℕ, _+_}
 use mathlib.Core.Path.{_≡_}
 use mathlib.Core.Bool.{Bool, false, not, _&&_, cond}
 use mathlib.Core.Option.{Option, none, some}
@@ -31,9 +31,12 @@ successorOf j m w =
     let vs = values w (j .formulas) in
     cond (ltb m (length (j .moves)) && getD vs (x .pre) false && not (conflicts vs es)) (some (affected (j .scalars .facts) vs es w)) none
 
--- by the class costs that were loaded
+-- "The move's cost in a world is its first class, plus the second where the formula holds in the world
+-- before the move", by the class costs that were loaded
 unfoldable pub costIn : Task → ℕ → ℕ → ℕ
-costIn t m w = classCost (t .costs) (moveAt (t .job) m .class)
+costIn t m w =
+    let x = moveAt (t .job) m in
+    classCost (t .costs) (x .class) + cond (holdsIn (t .job) (x .when) w) (classCost (t .costs) (x .extra)) 0
 
 abbrev pub domainOf : Task → Domain
 domainOf t = record {

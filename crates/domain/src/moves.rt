@@ -36,12 +36,18 @@ pub fn successor(head: Head, rows: &[u16], values: &[bool], m: u16, state: u16) 
     Successor::To(((state | cleared) ^ cleared) | changes.set)
 }
 
-// What move m costs in a state, by the formulas' values in it.
+// What move m costs in a state, by the formulas' values in it: its class, and where its formula holds
+// the extra one too.
 pub fn cost(head: Head, rows: &[u16], values: &[bool], m: u16, state: u16) -> u64
     requires { ⌜ Stored head (now rows) × Tells (domainIn head (now rows)) state (now values) ⌝ }
     requires { ⌜ m < domainIn head (now rows) .moves ⌝ }
     ensures { λ r. ⌜ (r ≡ domainIn head (now (rows .entry)) .cost m state) × (r ≤ mostCost) ⌝ }
 {
     let made = job::stored::move_at(head, rows, m);
-    job::costs::class_cost(rows, made.class) as u64
+    let own = job::costs::class_cost(rows, made.class) as u64;
+    let extra = job::costs::class_cost(rows, made.extra) as u64;
+    if crate::formulas::value_at(values, made.when) {
+        return own + extra;
+    }
+    own
 }

@@ -5,11 +5,11 @@ use mathlib.Core.Path.{_≡_}
 use mathlib.Core.List.{List, [], _∷_}
 use native.Mathlib.Omega.{arith}
 use lib.ListN.{length, getD}
-use Rattle.limits.specs.Limits.{mostFacts, lastClass}
+use Rattle.limits.specs.Limits.{mostFacts}
 use Rattle.job.specs.Job.{formulaOf, moveOf, effectOf, rowOf, formulaAt, moveAt, effectAt, programRowAt}
 use Rattle.job.specs.Fields.{Within, formulaFields, rowFields}
 use Rattle.job.specs.Store.{formulasFrom, movesFrom, effectsFrom, programFrom, rowAt, storedMove, jobOf}
-use Rattle.job.specs.WellFormed.{beforeFormula, beforeRow}
+use Rattle.job.specs.WellFormed.{beforeFormula, beforeRow, MoveFits}
 use Rattle.job.specs.Stored.{Limited, Stored}
 use Rattle.job.specs.declared.head.Head.{Head}
 use Rattle.job.proofs.StoreLaws.{rows-length, rows-at}
@@ -73,8 +73,8 @@ module _ {h : Head} {l : List ℕ} (s : Stored h l) where
     pub formula-fact : i < h .counts .formulas → formulaAt (jobOf h l) i .kind ≡ 2 → formulaAt (jobOf h l) i .a < mostFacts
     formula-fact g e = omega (arith, (rw e at (formula-within g)) .0, s .job .facts)
 
-    pub move-class : i < h .counts .moves → moveAt (jobOf h l) i .class ≤ lastClass
-    move-class g = s .job .move i (omega (arith, move-count h l)) .class
+    pub move-fits : i < h .counts .moves → MoveFits (length (jobOf h l .formulas)) (moveAt (jobOf h l) i)
+    move-fits g = s .job .move i (omega (arith, move-count h l))
 
     pub move-effects : i < h .counts .moves → moveAt (jobOf h l) i .first + moveAt (jobOf h l) i .effects ≤ h .counts .effects
     move-effects g =

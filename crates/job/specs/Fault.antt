@@ -44,11 +44,15 @@ pub record Criteria : Type 0 where
 abbrev criterion : Bool → Bool → Criteria
 criterion range fields = record { range = range; fields = fields }
 
+-- a formula and a cost class
+abbrev pub formulaAndClass : Counts → ℕ → ℕ → Bool
+formulaAndClass c a class = ltb a (c .formulas) && leb class lastClass
+
 -- reason 3: "kind, reference, class, value or unused field wrong", beside so many facts, objects and
--- earlier rows
+-- earlier rows. A move has a formula and a class twice: "Formula and class are checked as the others are"
 abbrev pub criteria : RowSort → Counts → List ℕ → Criteria
 criteria Formula c r = criterion true (within c (getD formulaFields (getD r 0 0) []) (getD r 1 0 ∷ getD r 2 0 ∷ []))
-criteria Move c r = criterion (leb (getD r 2 0) mostMoveEffects) (ltb (getD r 0 0) (c .formulas) && leb (getD r 1 0) lastClass)
+criteria Move c r = criterion (leb (getD r 2 0) mostMoveEffects) (formulaAndClass c (getD r 0 0) (getD r 1 0) && formulaAndClass c (getD r 3 0) (getD r 4 0))
 criteria Effect c r = criterion true (ltb (getD r 0 0) (c .formulas) && (ltb (getD r 1 0) (c .facts) && leb (getD r 2 0) 1))
 criteria Row c r = criterion true (within c (getD rowFields (getD r 0 0) []) (getD r 1 0 ∷ getD r 2 0 ∷ getD r 3 0 ∷ []))
 

@@ -10,11 +10,14 @@ pub record Formula : Type 0 where
   pub a : ℕ
   pub b : ℕ
 
--- `m=pre,class,E`; its effects are E of the job's effects, from number `first` on
+-- `m=pre,class,E,formula,class`: the last two, `when` and `extra`, say where it costs more, and of which
+-- class that is; its effects are E of the job's effects, from number `first` on
 pub record Move : Type 0 where
   pub pre : ℕ
   pub class : ℕ
   pub effects : ℕ
+  pub when : ℕ
+  pub extra : ℕ
   pub first : ℕ
 
 -- `e=cond,fact,value`
@@ -65,7 +68,14 @@ abbrev pub formulaOf : List ℕ → Formula
 formulaOf r = record { kind = getD r 0 0; a = getD r 1 0; b = getD r 2 0 }
 
 abbrev pub moveOf : ℕ → List ℕ → Move
-moveOf first r = record { pre = getD r 0 0; class = getD r 1 0; effects = getD r 2 0; first = first }
+moveOf first r = record {
+  pre = getD r 0 0;
+  class = getD r 1 0;
+  effects = getD r 2 0;
+  when = getD r 3 0;
+  extra = getD r 4 0;
+  first = first;
+}
 
 abbrev pub effectOf : List ℕ → Effect
 effectOf r = record { cond = getD r 0 0; fact = getD r 1 0; value = getD r 2 0 }

@@ -33,7 +33,7 @@ keyOf Program = "program"
 abbrev pub formOf : Line → Form
 formOf (One h) = form (keyOf h) 1
 formOf (Of Formula) = form "f" 3
-formOf (Of Move) = form "m" 3
+formOf (Of Move) = form "m" 5
 formOf (Of Effect) = form "e" 3
 formOf (Of Row) = form "p" 4
 formOf End = form "" 0

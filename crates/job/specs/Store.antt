@@ -87,7 +87,14 @@ abbrev pub formulaIn : Formula → J.Formula
 formulaIn r = record { kind = r .kind; a = r .a; b = r .b }
 
 abbrev pub moveIn : Move → J.Move
-moveIn r = record { pre = r .pre; class = r .class; effects = r .effects; first = r .first }
+moveIn r = record {
+  pre = r .pre;
+  class = r .class;
+  effects = r .effects;
+  when = r .when;
+  extra = r .extra;
+  first = r .first;
+}
 
 abbrev pub effectIn : Effect → J.Effect
 effectIn r = record { cond = r .cond; fact = r .fact; value = r .value }

@@ -2,7 +2,7 @@
 use Prim.Native.Nat.{ℕ, _≤_}
 use mathlib.Core.List.{List, [], _∷_}
 use lib.ListN.{getD}
-use Rattle.limits.specs.Limits.{mostCost}
+use Rattle.limits.specs.Limits.{mostClassCost}
 use Rattle.job.specs.Job.{Job}
 
 pub record Task : Type 0 where
@@ -22,4 +22,4 @@ classCost costs class = getD costs class 0
 
 -- no class costs more than the greatest cost
 abbrev pub CostsWithin : List ℕ → Type 0
-CostsWithin costs = (class : ℕ) → classCost costs class ≤ mostCost
+CostsWithin costs = (class : ℕ) → classCost costs class ≤ mostClassCost

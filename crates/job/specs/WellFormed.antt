@@ -25,6 +25,8 @@ pub record MoveFits (formulas : ℕ) (m : Move) : Type 0 where
   pub pre : m .pre < formulas
   pub class : m .class ≤ lastClass
   pub effects : m .effects ≤ mostMoveEffects
+  pub when : m .when < formulas
+  pub extra : m .extra ≤ lastClass
 
 abbrev pub MoveRows : ℕ → List Move → Type 0
 MoveRows formulas = Every (moveOf 0 []) (λ i m. MoveFits formulas m)

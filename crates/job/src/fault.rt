@@ -4,8 +4,8 @@ ghost use mathlib.Core.Bool.{cond, _&&_};
 ghost use Prim.Native.Nat.{_≤_};
 ghost use lib.Dec.{leb, ltb};
 ghost use lib.ListN.{getD};
-ghost use Rattle.limits.specs.Limits.{mostFacts, mostMoveEffects, lastClass};
-ghost use Rattle.job.specs.Fault.{rangeOf, isIn, criteria, firstReason, fault};
+ghost use Rattle.limits.specs.Limits.{mostFacts};
+ghost use Rattle.job.specs.Fault.{rangeOf, isIn, formulaAndClass, criteria, firstReason, fault};
 ghost use Rattle.job.specs.Store.{numbersOf};
 use crate::head::Counts;
 use crate::line::Heading;
@@ -72,16 +72,21 @@ fn is_in(range: Range, n: u16) -> bool
     n < range.below
 }
 
-fn move_reason(numbers: [u16; WIDTH], formulas: u16) -> u8
-    ensures { λ r. ⌜ r ≡ cond (leb (getD numbers 2 0) mostMoveEffects) (cond (ltb (getD numbers 0 0) formulas && leb (getD numbers 1 0) lastClass) 0 3) 2 ⌝ }
+fn formula_and_class(a: u16, class: u16, counts: Counts) -> bool
+    ensures { λ r. ⌜ r ≡ formulaAndClass counts a class ⌝ }
+{
+    (a < counts.formulas) & (class <= LAST_CLASS)
+}
+
+fn move_reason(numbers: [u16; WIDTH], counts: Counts) -> u8
+    ensures { λ r. ⌜ r ≡ firstReason (criteria RowSort.Move counts numbers) ⌝ }
 {
     if MOVE_EFFECTS < numbers[2] {
         return 2;
     }
-    if numbers[0] < formulas {
-        return unless(numbers[1] <= LAST_CLASS, 3);
-    }
-    3
+    let own = formula_and_class(numbers[0], numbers[1], counts);
+    let extra = formula_and_class(numbers[3], numbers[4], counts);
+    unless(own & extra, 3)
 }
 
 fn effect_right(numbers: [u16; WIDTH], facts: u16, formulas: u16) -> bool
@@ -102,7 +107,7 @@ fn row_reason(sort: RowSort, numbers: [u16; WIDTH], counts: Counts) -> u8
 {
     match sort {
         RowSort::Formula => unless(crate::fields::formula_right(numbers, counts), 3),
-        RowSort::Move => move_reason(numbers, counts.formulas),
+        RowSort::Move => move_reason(numbers, counts),
         RowSort::Effect => unless(effect_right(numbers, counts.facts, counts.formulas), 3),
         RowSort::Row => unless(crate::fields::row_right(numbers, counts), 3),
     }

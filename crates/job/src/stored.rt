@@ -19,11 +19,14 @@ pub struct Formula {
     pub b: u16,
 }
 
-// A move: its precondition and cost class, how many effects it has, and the number of the first.
+// A move: its precondition and cost class, how many effects it has, the formula that says when it
+// costs an extra class too, that class, and the number of its first effect.
 pub struct Move {
     pub pre: u16,
     pub class: u16,
     pub effects: u16,
+    pub when: u16,
+    pub extra: u16,
     pub first: u16,
 }
 
@@ -63,6 +66,8 @@ pub fn move_at(head: Head, rows: &[u16], i: u16) -> Move
         pre: r[0],
         class: r[1],
         effects: r[EFFECT_COUNT],
+        when: r[3],
+        extra: r[4],
         first: r[FIRST_EFFECT],
     }
 }

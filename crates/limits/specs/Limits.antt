@@ -1,5 +1,5 @@
 -- The limits of documents 01 and 02. `src/lib.rt` has the same numbers.
-use Prim.Native.Nat.{ℕ, suc, _*_, _^_}
+use Prim.Native.Nat.{ℕ, suc, _+_, _*_, _^_}
 
 -- "`facts=F`, 0 to 12"
 abbrev pub mostFacts : ℕ
@@ -39,9 +39,13 @@ mostProgram = 128
 abbrev pub classCount : ℕ
 classCount = suc lastClass
 
--- "A cost may be 0 to 65,535"
+-- "A cost may be 0 to 65,535", of a class
+abbrev pub mostClassCost : ℕ
+mostClassCost = 65535
+
+-- of a move: "its first class, plus the second"
 abbrev pub mostCost : ℕ
-mostCost = 65535
+mostCost = mostClassCost + mostClassCost
 
 -- "At most 256 positions and 1,024 steps."
 abbrev pub mostPositions : ℕ

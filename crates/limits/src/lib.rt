@@ -21,7 +21,7 @@ pub const PROGRAM: u16 = 128;
 // Class costs: how many there are, and the greatest.
 pub const CLASSES: usize = (LAST_CLASS as usize) + 1;
 
-pub const COST: u16 = 65535;
+pub const CLASS_COST: u16 = 65535;
 
 // States of a job; positions and steps of its compiled job.
 pub const STATES: usize = 1 << FACTS;

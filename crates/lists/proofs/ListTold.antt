@@ -10,7 +10,7 @@ use lib.Dec.{eqb}
 use lib.ListN.{length, getD, length-append, List·getD-eq-default}
 use Rattle.laws.proofs.Lists.{every-more}
 use Rattle.laws.proofs.Tests.{cond-has}
-use Rattle.limits.specs.Limits.{mostCost}
+use Rattle.limits.specs.Limits.{mostClassCost}
 use Rattle.text.specs.Lines.{lines}
 use Rattle.text.specs.Written.{lineText}
 use Rattle.text.proofs.LineLaws.{flatten-lines}
@@ -108,8 +108,8 @@ plan-told key bound text entries e =
     record { few = t .few; each = λ i h. omega (arith, t .each i h, plan-bound bound i); written = t .written }
 
 -- no bound of costs is past that of the greatest
-cost-bound : (class : ℕ) → boundAt costRanges class ≤ suc mostCost
-cost-bound class = cond-has (λ q. q ≤ suc mostCost) (eqb class 0) 1 (suc mostCost) (λ e. omega arith) (λ e. omega arith)
+cost-bound : (class : ℕ) → boundAt costRanges class ≤ suc mostClassCost
+cost-bound class = cond-has (λ q. q ≤ suc mostClassCost) (eqb class 0) 1 (suc mostClassCost) (λ e. omega arith) (λ e. omega arith)
 
 pub costs-told : (text costs : List ℕ) → readCosts text ≡ listed costs → IsCostsText text costs
 costs-told text costs e =

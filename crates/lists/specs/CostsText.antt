@@ -3,7 +3,7 @@ use Prim.Native.Nat.{ℕ, suc, _≤_}
 use mathlib.Core.Path.{_≡_}
 use mathlib.Core.List.{List}
 use lib.ListN.{length, getD}
-use Rattle.limits.specs.Limits.{classCount, mostCost}
+use Rattle.limits.specs.Limits.{classCount, mostClassCost}
 use Rattle.text.specs.Bytes.{bytes}
 use Rattle.lists.specs.CountedList.{ListOutcome, readList, listText}
 use Rattle.lists.specs.declared.counted.Ranges.{Ranges}
@@ -16,7 +16,7 @@ costKey = bytes "c"
 
 -- "Class 0 must cost 0."; "Loaded costs follow the new range too.", 0 to 65,535
 abbrev pub costRanges : Ranges
-costRanges = record { least = classCount; most = classCount; first = 1; rest = suc mostCost }
+costRanges = record { least = classCount; most = classCount; first = 1; rest = suc mostClassCost }
 
 abbrev pub readCosts : List ℕ → ListOutcome
 readCosts text = readList costsKey costKey costRanges text
@@ -28,5 +28,5 @@ costsText costs = listText costsKey costKey costs
 pub record IsCostsText (text costs : List ℕ) : Type 0 where
   pub count : length costs ≡ classCount
   pub free : getD costs 0 0 ≡ 0
-  pub each : (class : ℕ) → getD costs class 0 ≤ mostCost
+  pub each : (class : ℕ) → getD costs class 0 ≤ mostClassCost
   pub written : text ≡ costsText costs

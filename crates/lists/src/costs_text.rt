@@ -13,7 +13,7 @@ const RANGES: Ranges = Ranges {
     least: CLASSES as u16,
     most: CLASSES as u16,
     first: 1,
-    rest: (limits::COST as u32) + 1,
+    rest: (limits::CLASS_COST as u32) + 1,
 };
 
 // Reads any bytes as a costs text, class 0 first. On a refusal nothing is said of the costs.

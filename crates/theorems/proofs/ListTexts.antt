@@ -16,7 +16,7 @@ use Rattle.text.specs.Bytes.{bytes}
 use Rattle.text.specs.Lines.{lines}
 use Rattle.text.specs.Written.{lineText}
 use Rattle.text.proofs.LineText.{line-complete, plain, line-of, line-ends}
-use Rattle.limits.specs.Limits.{mostCost}
+use Rattle.limits.specs.Limits.{mostClassCost}
 use Rattle.lists.specs.CountedList.{listed, boundAt, entryIn, readEntries, readLines, readList, entryLines}
 use Rattle.lists.specs.PlanText.{planKey, planRanges, readPlan, IsPlanText}
 use Rattle.lists.specs.CostsText.{costsKey, costKey, costRanges, readCosts, IsCostsText}
@@ -82,8 +82,8 @@ plan-text-iff key bound text entries p s =
     )
 
 -- costs that are free for class 0 and at most the greatest are below their bounds
-costs-below : (costs : List ℕ) → getD costs 0 0 ≡ 0 → ((class : ℕ) → getD costs class 0 ≤ mostCost) → Below (boundAt costRanges) costs
-costs-below costs z m i h = cond-has (λ q. getD costs i 0 < q) (eqb i 0) 1 (suc mostCost)
+costs-below : (costs : List ℕ) → getD costs 0 0 ≡ 0 → ((class : ℕ) → getD costs class 0 ≤ mostClassCost) → Below (boundAt costRanges) costs
+costs-below costs z m i h = cond-has (λ q. getD costs i 0 < q) (eqb i 0) 1 (suc mostClassCost)
     (λ e. let f : i ≡ 0 = eqb-true i 0 e in rw f (omega (arith, z)))
     (λ e. omega (arith, m i))
 

@@ -1,12 +1,7 @@
-use Prim.Native.Nat.{ℕ, _≤_}
-use mathlib.Core.Path.{sym, _∙_, ap, subst}
+use mathlib.Core.Path.{refl, sym, _∙_}
 use native.Mathlib.Omega.{arith}
-use Rattle.limits.specs.Limits.{mostCost}
-use Rattle.job.specs.Job.{Move}
-use Rattle.job.specs.Task.{classCost}
-use Rattle.job.specs.Store.{storedCosts}
-use Rattle.job.proofs.StoredLaws.{move-count, move-class}
-use Rattle.domain.specs.Domain.{costIn}
+use Rattle.job.proofs.StoredLaws.{move-count}
+use Rattle.domain.proofs.CostLaws.{classes-within, cost-told}
 use borrow.Author.Needs.{needs}
 use Rattle.domain.proofs.moves.cost.Statement.{statement}
 use Rattle.domain.proofs.moves.cost.Tie as tie
@@ -19,28 +14,32 @@ move-at-requires c κs =
 
 class-cost-requires : tie.Need-class-cost-requires
 class-cost-requires c κs =
-    let b = c .before .before .before in
-    let a = b .args in
-    let p = b .pre in (
-      omega (
-        arith,
-        ap (λ (x : Move). x .class) (c .move-at .ensures),
-        move-class (p .0 .0) (a .m) (omega (arith, p .1, move-count (a .head) (a .rows .now))),
-      ),
-      p .0 .0 .size,
-    )
+    let p = c .before .before .before .pre in
+    (classes-within (p .0 .0) _ (c .move-at .ensures) (p .1) .0, p .0 .0 .size)
+
+class-cost-requires-2 : tie.Need-class-cost-requires-2
+class-cost-requires-2 c κs =
+    let p = c .before .before .before .before .pre in
+    (classes-within (p .0 .0) _ (c .before .move-at .ensures) (p .1) .1, p .0 .0 .size)
 
 returns : tie.Need-returns
-unfolding costIn
 returns c =
-    let b = c .before .before .before .before in
-    let costs = storedCosts (b .args .rows .now) in (
-      c .class-cost .ensures ∙ ap (λ (x : Move). classCost costs (x .class)) (c .before .move-at .ensures),
-      subst (λ (n : ℕ). n ≤ mostCost) (sym (c .class-cost .ensures)) (b .pre .0 .0 .costs (c .before .move-at .result .class)),
-    )
+    let at3 = c .before .before .before in
+    let a = at3 .before .before .before .before .args in
+    let p = at3 .before .before .before .before .pre in
+    cost-told (p .0 .0) (a .m) (at3 .before .move-at .ensures) (a .state) (a .values .now) (p .0 .1) (at3 .class-cost .ensures)
+    (c .before .before .class-cost2 .ensures) (sym (c .if1 .taken) ∙ c .before .value-at .ensures) refl
+
+returns-2 : tie.Need-returns-2
+returns-2 c =
+    let at3 = c .before .before .before in
+    let a = at3 .before .before .before .before .args in
+    let p = at3 .before .before .before .before .pre in
+    cost-told (p .0 .0) (a .m) (at3 .before .move-at .ensures) (a .state) (a .values .now) (p .0 .1) (at3 .class-cost .ensures)
+    (c .before .before .class-cost2 .ensures) (sym (c .if1 .left) ∙ c .before .value-at .ensures) (omega arith)
 
 pub cost-spec : {M : Type 1} → statement M
 cost-spec =
     tie.close
     (tie.spec
-    move-at-requires class-cost-requires (λ c. search needs) returns)
+    move-at-requires class-cost-requires (λ c. search needs) class-cost-requires-2 (λ c. search needs) (λ c κs. search needs) (λ c. search needs) returns returns-2)

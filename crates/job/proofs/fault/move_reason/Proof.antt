@@ -1,5 +1,5 @@
 use mathlib.Core.Path.{_∙_}
-use borrow.Author.Tests.{lt-ltb, le-ltb, lt-leb, le-leb}
+use borrow.Author.Tests.{lt-leb, le-leb}
 use Rattle.limits.specs.Limits.{mostMoveEffects}
 use borrow.Author.Needs.{needs}
 use Rattle.job.proofs.fault.move_reason.Statement.{statement}
@@ -9,13 +9,17 @@ returns : tie.Need-returns
 returns c = rw (lt-leb _ mostMoveEffects (c .if1 .taken))
 
 returns-2 : tie.Need-returns-2
-returns-2 c = c .unless .ensures ∙ rw (le-leb _ mostMoveEffects (c .before .before .if1 .left), lt-ltb _ _ (c .before .if2 .taken))
-
-returns-3 : tie.Need-returns-3
-returns-3 c = rw (le-leb _ mostMoveEffects (c .before .if1 .left), le-ltb _ _ (c .if2 .left))
+returns-2 c =
+    c .unless .ensures
+    ∙ rw (
+      le-leb _ mostMoveEffects (c .before .before .before .if1 .left),
+      c .before .before .formula-and-class .ensures,
+      c .before .formula-and-class2 .ensures,
+    )
 
 pub move-reason-spec : {M : Type 1} → statement M
 move-reason-spec =
     tie.close
     (tie.spec
-    (λ c. search needs) returns (λ c. search needs) (λ c. search needs) (λ c κs. search needs) returns-2 returns-3)
+    (λ c. search needs) returns (λ c. search needs) (λ c. search needs) (λ c κs. search needs) (λ c. search needs) (λ c. search needs)
+    (λ c κs. search needs) (λ c κs. search needs) returns-2)
