@@ -1,8 +1,8 @@
 -- Every row of a job that is read keeps its ranges and references.
 -- Assumes nothing.
-use Prim.Native.Nat.{ℕ, _+_, _-_, _<_}
+use Prim.Native.Nat.{ℕ, _+_, _-_, _≤_, _<_}
 use mathlib.Core.Path.{_≡_, refl, sym, _∙_, subst}
-use mathlib.Core.Bool.{_&&_}
+use mathlib.Core.Bool.{true, _&&_}
 use mathlib.Core.List.{List, [], _∷_, _++_}
 use native.Mathlib.Omega.{arith}
 use lib.Dec.{ltb, leb}
@@ -15,6 +15,7 @@ use Rattle.job.specs.StateCount.{stateCount}
 use Rattle.job.specs.Job as J
 use Rattle.job.specs.Job.{countsOf, formulaOf, moveOf, effectOf, rowOf}
 use Rattle.job.specs.Fields.{Within, formulaFields, rowFields}
+use Rattle.job.specs.Fault.{formulaAndClass}
 use Rattle.job.specs.ReadJob.{Reading, past, again, afterRow, begun, takenAt, taken}
 use Rattle.job.specs.WellFormed.{FormulaRows, MoveRows, MoveFits, Tiled, EffectRows, EffectFits, ProgramRows, WellFormed, beforeFormula, beforeRow}
 use Rattle.job.specs.declared.head.Counts.{Counts}
@@ -57,6 +58,11 @@ pub record Fits (effects : ℕ) (j : J.Job) : Type 0 where
   pub tiled : Tiled 0 (j .moves) (length (j .effects) + effects)
   pub effect : EffectRows (j .scalars .facts) (length (j .formulas)) (j .effects)
   pub row : ProgramRows j (j .program)
+
+-- the test of a formula and a class is their statement
+formula-and-class : (c : Counts) (a class : ℕ) → formulaAndClass c a class ≡ true → (a < c .formulas) × (class ≤ lastClass)
+formula-and-class c a class e =
+    (ltb-true a (c .formulas) (and-left (ltb a (c .formulas)) (leb class lastClass) e), leb-true class lastClass (and-right (ltb a (c .formulas)) _ e))
 
 -- one move more behind, with its effects to come
 tiled-more : (first last : ℕ) (ms : List J.Move) (m : J.Move) → Tiled first ms last → m .first ≡ last → Tiled first (ms ++ (m ∷ [])) (last + m .effects)
@@ -119,16 +125,14 @@ module _ (s : Reading) (r : List ℕ) where
       }
   row-fits Move x h f =
       let m : J.Move = moveOf (length (j .effects)) r in
+      let own = formula-and-class c (getD r 0 0) (getD r 1 0) (and-left (formulaAndClass c (getD r 0 0) (getD r 1 0)) _ (x .1)) in
+      let extra = formula-and-class c (getD r 3 0) (getD r 4 0) (and-right (formulaAndClass c (getD r 0 0) (getD r 1 0)) _ (x .1)) in
       let e : length (j .effects) + s .effects ≡ length (j .effects) = omega (arith, h .owed .1) in
       let d : length (j .program) ≡ 0 = omega (arith, h .fit .program) in
       record {
         formula = f .formula;
         move = every-more (moveOf 0 []) (λ i m. MoveFits (length (j .formulas)) m) (j .moves) m (f .move)
-            (record {
-              pre = ltb-true (getD r 0 0) (c .formulas) (and-left (ltb (getD r 0 0) (c .formulas)) (leb (getD r 1 0) lastClass) (x .1));
-              class = leb-true (getD r 1 0) lastClass (and-right (ltb (getD r 0 0) (c .formulas)) (leb (getD r 1 0) lastClass) (x .1));
-              effects = leb-true (getD r 2 0) mostMoveEffects (x .0);
-            });
+            (record { pre = own .0; class = own .1; effects = leb-true (getD r 2 0) mostMoveEffects (x .0); when = extra .0; extra = extra .1 });
         tiled = tiled-more 0 (length (j .effects)) (j .moves) m (subst (Tiled 0 (j .moves)) e (f .tiled)) refl;
         effect = f .effect;
         row = λ i g. absurd (omega arith);

@@ -14,7 +14,7 @@ fn row_width(sort: RowSort) -> usize
 {
     match sort {
         RowSort::Formula => 3,
-        RowSort::Move => 3,
+        RowSort::Move => 5,
         RowSort::Effect => 3,
         RowSort::Row => 4,
     }
