@@ -1,47 +1,92 @@
--- Of a list of moves that a run makes, the cost is the plain sum of the moves' class costs, by the
--- costs that were loaded.
+-- What a plan costs is the sum along its states, by the class costs that were loaded, and the least cost is
+-- the least such sum. Where no second class costs anything, it is the plain sum of the first ones.
 -- Assumes nothing.
 use Prim.Native.Nat.{ℕ, _+_}
-use mathlib.Core.Path.{_≡_, refl}
-use mathlib.Core.List.{List, _++_}
+use mathlib.Core.Path.{_≡_, refl, sym, _∙_, ap, subst}
+use mathlib.Core.Bool.{Bool, true, false, cond}
+use mathlib.Core.Option.{Option, none, some}
+use mathlib.Core.List.{List, [], _∷_}
+use mathlib.Core.Logic.{_↔_}
 use native.Mathlib.Omega.{arith}
+use Rattle.laws.proofs.Tests.{never}
 use Rattle.job.specs.Job.{moveAt}
-use Rattle.job.specs.Task.{Task, classCost}
-use Rattle.semantics.specs.Program.{Program}
+use Rattle.job.specs.Task.{Task, houseCosts, classCost}
 use Rattle.semantics.specs.Domain.{Domain}
-use Rattle.semantics.specs.Transition as T
-use Rattle.semantics.specs.Transition.{Transition, Run}
-use Rattle.semantics.specs.Plan.{cost, Allowed}
+use Rattle.semantics.specs.Plan.{cost, Allowed, Least}
 use Rattle.semantics.proofs.CostLaws.{cost-first}
-use Rattle.domain.specs.Domain.{costIn, domainOf}
+use Rattle.semantics.proofs.PathLaws.{stateAfter}
+use Rattle.semantics.proofs.VerdictLaws.{plan-leads}
+use Rattle.domain.specs.Domain.{holdsIn, successorOf, costIn, domainOf}
 use Rattle.compile.specs.Program.{programOf}
-use Rattle.theorems.specs.CostSum.{sumOf, classSum}
+use Rattle.load.specs.declared.request.Given.{Given}
+use Rattle.theorems.specs.Accepted.{AcceptedTask}
+use Rattle.theorems.specs.CostSum.{firstClass, secondClass, CostsAlong, no-move, first-alone, with-second, PlanCosts, LeastAlong, classSum}
+use Rattle.theorems.proofs.JudgeDecides.{allowed-plan}
 
--- where what a move costs does not go by the state
-module _ (D : Domain) (f : ℕ → ℕ) (by-move : (m s : ℕ) → D .cost m s ≡ f m) where
-  transition-sum : {s t : ℕ} {σ τ : Program} {ks : List ℕ} (ms : List ℕ) → Transition D s σ ks t τ → cost D t ms ≡ sumOf f ms
-      → cost D s (ks ++ ms) ≡ sumOf f (ks ++ ms)
-  unfolding sumOf
-  transition-sum ms (T.moves {a} {s} {t} h) e = omega (arith, cost-first D s t a ms h, by-move a s, e)
-  transition-sum ms (T.any-moves {a} {s} {t} l h) e = omega (arith, cost-first D s t a ms h, by-move a s, e)
-  transition-sum ms (T.tests h) e = e
-  transition-sum ms (T.seq-steps x) e = transition-sum ms x e
-  transition-sum ms T.seq-passes e = e
-  transition-sum ms (T.if-then h) e = e
-  transition-sum ms (T.if-else h) e = e
-  transition-sum ms T.choice-left e = e
-  transition-sum ms T.choice-right e = e
-  transition-sum ms (T.while-does h) e = e
-  transition-sum ms (T.while-ends h) e = e
-  transition-sum ms T.star-ends e = e
-  transition-sum ms T.star-does e = e
-  transition-sum ms (T.picks h) e = e
+module _ (t : Task) where
+  abbrev D : Domain
+  D = domainOf t
 
-  run-sum : {s u : ℕ} {σ ρ : Program} {ms : List ℕ} → Run D s σ ms u ρ → cost D s ms ≡ sumOf f ms
-  unfolding cost sumOf
-  run-sum T.stop = refl
-  run-sum (T.step {ms} x r) = transition-sum ms x (run-sum r)
+  -- a list has one such sum at most, its cost
+  pub along-cost : {w c : ℕ} {ms : List ℕ} → CostsAlong t w ms c → cost D w ms ≡ c
+  unfolding cost costIn
+  along-cost no-move = refl
+  along-cost (first-alone {w} {u} {m} {ms} off made rest) = cost-first D w u m ms made ∙ rw (off, along-cost rest) (omega arith)
+  along-cost (with-second {w} {u} {m} {ms} on made rest) = cost-first D w u m ms made ∙ rw (on, along-cost rest)
 
-pub cost-is-sum : (t : Task) (ms : List ℕ) → Allowed (domainOf t) (programOf (t .job)) ms → cost (domainOf t) (domainOf t .start) ms ≡ classSum t ms
-unfolding costIn
-cost-is-sum t ms a = run-sum (domainOf t) (λ m. classCost (t .costs) (moveAt (t .job) m .class)) (λ m s. refl) (a .run)
+  -- moves that lead somewhere have one
+  sum-along : (ms : List ℕ) (w u : ℕ) → stateAfter D w ms ≡ some u → CostsAlong t w ms (cost D w ms)
+  unfolding stateAfter cost
+  sum-along [] w u e = no-move
+  sum-along (m ∷ ms) w u e = by (D .successor m w) refl e (λ v. sum-along ms v u)
+    where
+      by : (o : Option ℕ) → D .successor m w ≡ o → elim o [ none ↦ none | some v ↦ stateAfter D v ms ] ≡ some u
+          → ((v : ℕ) → stateAfter D v ms ≡ some u → CostsAlong t v ms (cost D v ms)) → CostsAlong t w (m ∷ ms) (cost D w (m ∷ ms))
+      by none f e g = never (cc)
+      by (some v) f e g = with-formula (D .holds (moveAt (t .job) m .when) w) refl
+        where
+          with-formula : (b : Bool) → D .holds (moveAt (t .job) m .when) w ≡ b → CostsAlong t w (m ∷ ms) (cost D w (m ∷ ms))
+          with-formula true on = let x = with-second on f (g v e) in subst (CostsAlong t w (m ∷ ms)) (sym (along-cost x)) x
+          with-formula false off = let x = first-alone off f (g v e) in subst (CostsAlong t w (m ∷ ms)) (sym (along-cost x)) x
+
+  -- "A plan's cost is summed along its worlds"
+  pub cost-is-sum : (ms : List ℕ) → Allowed D (programOf (t .job)) ms → PlanCosts t ms (cost D (D .start) ms)
+  cost-is-sum ms a = let leads = plan-leads D (programOf (t .job)) (allowed-plan D (programOf (t .job)) ms a) in
+      (a, sum-along ms (D .start) (leads .0) (leads .1))
+
+  -- "and so is the least"
+  pub least-is-along : (c : ℕ) → Least D (programOf (t .job)) c ↔ LeastAlong t c
+  least-is-along c = (
+    λ l. record {
+      best = l .best;
+      costs = subst (PlanCosts t (l .best)) (l .costs) (cost-is-sum (l .best) (l .allowed));
+      least = λ ms d p. omega (arith, l .least ms (p .0), along-cost (p .1));
+    },
+    λ l. record {
+      best = l .best;
+      allowed = l .costs .0;
+      costs = along-cost (l .costs .1);
+      least = λ ms a. l .least ms _ (cost-is-sum ms a);
+    },
+  )
+
+  -- where no second class costs anything
+  module _ (free : (m : ℕ) → secondClass t m ≡ 0) where
+    along-plain : {w c : ℕ} {ms : List ℕ} → CostsAlong t w ms c → c ≡ classSum t ms
+    unfolding classSum
+    along-plain no-move = refl
+    along-plain (first-alone off made rest) = omega (arith, along-plain rest)
+    along-plain (with-second {m} on made rest) = omega (arith, along-plain rest, free m)
+
+    pub cost-is-plain-sum : (ms : List ℕ) → Allowed D (programOf (t .job)) ms → cost D (D .start) ms ≡ classSum t ms
+    cost-is-plain-sum ms a = along-plain (cost-is-sum ms a .1)
+
+-- "formula 0 and class 0, which changes no cost": class 0 costs nothing, by whatever costs are accepted
+pub class-zero-free : (g : Given) (text costs : List ℕ) (t : Task) → AcceptedTask g text costs t → ((m : ℕ) → moveAt (t .job) m .extra ≡ 0)
+    → (m : ℕ) → secondClass t m ≡ 0
+unfolding classCost
+class-zero-free g text costs t a zero m = rw (zero m) (by (g .costs) refl)
+  where
+    by : (b : Bool) → g .costs ≡ b → classCost (t .costs) 0 ≡ 0
+    by true e = a .its-costs e .free
+    by false e = rw (a .house e)

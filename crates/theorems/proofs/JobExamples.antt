@@ -7,15 +7,15 @@ use Rattle.text.specs.Lines.{lines, hasKey, valueOf}
 use Rattle.text.specs.Numbers.{byteRead, numbers}
 use Rattle.job.specs.Line.{lineNumbers}
 use Rattle.job.specs.Fault.{fault}
-use Rattle.theorems.specs.MarkedCases.{sampleWith}
+use Rattle.theorems.specs.MarkedCases.{sampleBy, sampleWith}
 use Rattle.job.specs.ReadJob.{read, refused, taken, ended, readFrom, readJob}
 
 -- one fact, one move that sets it, and the program of that move
 reads-job : readJob
-    (bytes "job=1\nfacts=1\ninit=0\nformulas=1\nf=2,0,0\nmoves=1\nm=0,3,1\ne=0,0,1\ngoal=0\nobjects=0\nprogram=1\np=1,0,0,0\n") ≡ read 12 (record {
+    (bytes "job=1\nfacts=1\ninit=0\nformulas=1\nf=2,0,0\nmoves=1\nm=0,3,1,0,2\ne=0,0,1\ngoal=0\nobjects=0\nprogram=1\np=1,0,0,0\n") ≡ read 12 (record {
       scalars = record { facts = 1; init = 0; goal = 0; objects = 0 };
       formulas = record { kind = 2; a = 0; b = 0 } ∷ [];
-      moves = record { pre = 0; class = 3; effects = 1; first = 0 } ∷ [];
+      moves = record { pre = 0; class = 3; effects = 1; when = 0; extra = 2; first = 0 } ∷ [];
       effects = record { cond = 0; fact = 0; value = 1 } ∷ [];
       program = record { kind = 1; a = 0; b = 0; c = 0 } ∷ [];
     })
@@ -55,3 +55,22 @@ refuses-base = refl
 refuses-formula-base : readJob (sampleWith "init=0\n" "goal=1\n" "objects=16\n" "program=1\np=11,0,0,0\n") ≡ refused 3 17
 unfolding bytes lines hasKey valueOf byteRead numbers lineNumbers fault taken ended readFrom readJob
 refuses-formula-base = refl
+
+-- "A move line gains two numbers at its end, a formula and a class", which "are checked as the others are":
+-- four formulas, sixteen classes
+refuses-second-formula : readJob (sampleBy "m=0,3,1,4,2\n" "" "init=0\n" "" "" "") ≡ refused 3 10
+unfolding bytes lines hasKey valueOf byteRead numbers lineNumbers fault taken ended readFrom readJob
+refuses-second-formula = refl
+
+refuses-second-class : readJob (sampleBy "m=0,3,1,3,16\n" "" "init=0\n" "" "" "") ≡ refused 3 10
+unfolding bytes lines hasKey valueOf byteRead numbers lineNumbers fault taken ended readFrom readJob
+refuses-second-class = refl
+
+-- an effect count is still looked at before them, and the form of the line before that
+refuses-effects-first : readJob (sampleBy "m=0,3,17,4,16\n" "" "init=0\n" "" "" "") ≡ refused 2 10
+unfolding bytes lines hasKey valueOf byteRead numbers lineNumbers fault taken ended readFrom readJob
+refuses-effects-first = refl
+
+refuses-three-numbers : readJob (sampleBy "m=0,3,1\n" "" "init=0\n" "" "" "") ≡ refused 1 10
+unfolding bytes lines hasKey valueOf byteRead numbers lineNumbers fault taken ended readFrom readJob
+refuses-three-numbers = refl

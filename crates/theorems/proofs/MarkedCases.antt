@@ -28,7 +28,7 @@ use Rattle.compile.specs.Program.{build, programs, programOf}
 use Rattle.compile.specs.CompiledJob.{positionCount, stepCount, fits}
 use Rattle.lists.specs.CountedList.{entryIn, countIn, readEntries, readLines, readList}
 use Rattle.load.specs.Refusals.{Checked, passed, refused, Offer, next, jobIn, taskIn, textsIn, loading}
-use Rattle.theorems.specs.MarkedCases.{Case, marked, pricedCases, conflictCases, pickCases, handedByProgram, Right}
+use Rattle.theorems.specs.MarkedCases.{Case, marked, pricedCases, conflictCases, pickCases, conditionalCases, handedByProgram, Right}
 use Rattle.theorems.proofs.Acceptance.{accepted-within, accepted-iff}
 use Rattle.theorems.proofs.ComputedTable.{follow, followAll, sweep, sweeps, computedTable, keeps, every, relaxedBelow}
 use Rattle.theorems.proofs.ComputedJudgement.{lowestBelow, computedJudgement, computed-finds}
@@ -55,7 +55,7 @@ said c = passed (record { positions = c .positions; steps = c .steps; says = som
 
 -- the cases of requests
 abbrev others : List Case
-others = pricedCases ++ (conflictCases ++ pickCases)
+others = pricedCases ++ (conflictCases ++ (pickCases ++ conditionalCases))
 
 computed : map judged (marked ++ others) ≡ map said (marked ++ others)
 unfolding bytes lines hasKey valueOf byteRead numbers
@@ -65,7 +65,7 @@ unfolding bytes lines hasKey valueOf byteRead numbers
     spread close silentIn isMove anyMark firstSet nextSet onward finished verdictFrom moveOn verdictBy
     entryIn countIn readEntries readLines readList jobIn taskIn textsIn loading
     arrives follow followAll sweep sweeps computedTable keeps every relaxedBelow lowestBelow computedJudgement
-    marked pricedCases conflictCases pickCases judged
+    marked pricedCases conflictCases pickCases conditionalCases judged
 computed = refl
 
 judged-right : (c : Case) → judged c ≡ said c → Right c
@@ -113,8 +113,12 @@ priced-cases c m = other-right c (in-first pricedCases _ m)
 
 -- of the one with effects that conflict
 pub conflict-cases : (c : Case) → List·Memᴰ c conflictCases → Right c
-conflict-cases c m = other-right c (in-second pricedCases _ (in-first conflictCases pickCases m))
+conflict-cases c m = other-right c (in-second pricedCases _ (in-first conflictCases _ m))
 
--- and of the one with picks
+-- of the one with picks
 pub pick-cases : (c : Case) → List·Memᴰ c pickCases → Right c
-pick-cases c m = other-right c (in-second pricedCases _ (in-second conflictCases pickCases m))
+pick-cases c m = other-right c (in-second pricedCases _ (in-second conflictCases _ (in-first pickCases _ m)))
+
+-- and of the one with second classes
+pub conditional-cases : (c : Case) → List·Memᴰ c conditionalCases → Right c
+conditional-cases c m = other-right c (in-second pricedCases _ (in-second conflictCases _ (in-second pickCases conditionalCases m)))

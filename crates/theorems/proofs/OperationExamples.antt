@@ -72,7 +72,7 @@ refuses-list = refl
 -- "`p=1,0,0,0`, then `p=4,k,k,0` for k from 0 to 7: 257 positions"
 abbrev doubled : List ℕ
 doubled =
-    bytes "job=1\nfacts=0\ninit=0\nformulas=1\nf=1,0,0\nmoves=1\nm=0,0,0\ngoal=0\nobjects=0\nprogram=9\np=1,0,0,0\n"
+    bytes "job=1\nfacts=0\ninit=0\nformulas=1\nf=1,0,0\nmoves=1\nm=0,0,0,0,0\ngoal=0\nobjects=0\nprogram=9\np=1,0,0,0\n"
     ++ bytes "p=4,0,0,0\np=4,1,1,0\np=4,2,2,0\np=4,3,3,0\np=4,4,4,0\np=4,5,5,0\np=4,6,6,0\np=4,7,7,0\n"
 
 refuses-positions : jobIn doubled ≡ refused 4 19

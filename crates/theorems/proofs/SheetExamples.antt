@@ -1,6 +1,8 @@
--- Sheets computed from the definitions: the sample's, from the bytes of its texts, and the bytes that
--- sheets of some numbers of moves have.
+-- Sheets computed from the definitions: two, from the bytes of their texts, and the bytes that sheets of
+-- some numbers of moves have.
 -- Assumes nothing.
+use Prim.Native.Nat.{ℕ}
+use Prim.Native.String.{String}
 use mathlib.Core.Path.{_≡_, refl}
 use mathlib.Core.List.{List, [], _++_, flatten}
 use lib.ListN.{replicate}
@@ -13,7 +15,7 @@ use Rattle.job.specs.Fault.{fault}
 use Rattle.job.specs.Task.{classCost}
 use Rattle.job.specs.ReadJob.{taken, ended, readFrom, readJob}
 use Rattle.semantics.specs.Domain.{Domain}
-use Rattle.semantics.specs.CompilingTable.{end, steps}
+use Rattle.semantics.specs.CompilingTable.{end, steps, branchSteps, starSteps}
 use Rattle.semantics.specs.Scope.{scoped}
 use Rattle.domain.specs.State.{fact, stateWith, value, values}
 use Rattle.domain.specs.Effects.{anyOf, gives, gets, conflicts, factAfter, affected}
@@ -23,21 +25,31 @@ use Rattle.compile.specs.CompiledJob.{fits}
 use Rattle.lists.specs.CountedList.{entryIn, countIn, readEntries, readLines, readList}
 use Rattle.layout.specs.Column.{column}
 use Rattle.layout.specs.Sheet.{lineBytes, planLinesFrom, blankLine, pagedLines, sheetOf, sheetSize}
-use Rattle.load.specs.Refusals.{passed, next, jobIn, taskIn, textsIn, loading}
+use Rattle.load.specs.Refusals.{Checked, passed, next, jobIn, taskIn, textsIn, loading}
 use Rattle.load.specs.View.{viewIn}
 use Rattle.load.specs.declared.request.Sort.the-variants.{Moves}
 use Rattle.jesmovit.specs.Texts.{withoutCosts}
 use Rattle.jesmovit.specs.Checking.{checking}
-use Rattle.theorems.specs.MarkedCases.{sample}
+use Rattle.theorems.specs.MarkedCases.{sample, dearMoveZero}
 
--- two rows, then 58 lines of spaces
-sample-sheet : next (viewIn (checking Moves (withoutCosts sample (bytes "plan=2\nm=0\nm=1\n")) 8)) (λ v. passed (sheetOf (v .domain) (v .entries)))
-    ≡ passed (bytes "    1    0       20         20\n    2    1        5         25\n" ++ flatten (replicate 58 (bytes "                              \n")))
-unfolding bytes lines hasKey valueOf byteRead numbers digitsWithin lineNumbers fault classCost taken ended readFrom readJob end steps scoped build programs fits
+-- the sheet of a list of moves, from the bytes of job and plan text
+abbrev sheetBy : List ℕ → String → Checked (List ℕ)
+sheetBy job plan = next (viewIn (checking Moves (withoutCosts job (bytes plan)) 36)) (λ v. passed (sheetOf (v .domain) (v .entries)))
+
+-- a page that ends with so many lines of spaces
+abbrev page : String → ℕ → Checked (List ℕ)
+page rows blanks = passed (bytes rows ++ flatten (replicate blanks (bytes "                              \n")))
+
+-- of the sample; and, where move 0 costs 12 more while fact 0 is false, of the list 0,0,1: "the sheet prints
+-- these costs"
+sample-sheets : (sheetBy sample "plan=2\nm=0\nm=1\n" ≡ page "    1    0       20         20\n    2    1        5         25\n" 58)
+    × (sheetBy dearMoveZero "plan=3\nm=0\nm=0\nm=1\n"
+    ≡ page "    1    0       32         32\n    2    0       32         64\n    3    1        5         69\n" 57)
+unfolding bytes lines hasKey valueOf byteRead numbers digitsWithin lineNumbers fault classCost taken ended readFrom readJob end steps branchSteps starSteps scoped build programs fits
     fact stateWith value values anyOf gives gets conflicts factAfter affected holdsIn successorOf costIn
     entryIn countIn readEntries readLines readList jobIn taskIn textsIn loading
     column lineBytes planLinesFrom blankLine pagedLines sheetOf flatten
-sample-sheet = refl
+sample-sheets = (refl, refl)
 
 -- "an empty plan has no page"
 empty-sheet : (D : Domain) → sheetOf D [] ≡ []

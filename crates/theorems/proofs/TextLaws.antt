@@ -21,7 +21,7 @@ use Rattle.job.specs.Job as J
 use Rattle.job.specs.Job.{countsOf, jobWith}
 use Rattle.job.specs.Line.{formOf, lineNumbers}
 use Rattle.job.specs.Fields.{bound, within, Within, formulaFields, rowFields}
-use Rattle.job.specs.Fault.{rangeOf, criteria, reasonOf, fault}
+use Rattle.job.specs.Fault.{rangeOf, formulaAndClass, criteria, reasonOf, fault}
 use Rattle.job.specs.ReadJob.{Reading, on, read, ended, begun, readFrom, readJob, taken, takenAt, takenOne, dueAfter, effectsAfter, jobAfter, afterRow}
 use Rattle.theorems.specs.JobText.{lineOf, formulaLine, moveLine, effectLine, rowLine, moveLines, programLines, jobLines, jobText}
 use Rattle.job.specs.WellFormed.{WellFormed, MoveFits, EffectFits, Tiled, beforeFormula, beforeRow}
@@ -145,17 +145,22 @@ effect-step due m n j e rest q =
     (and-both (ltb (e .fact) (j .scalars .facts)) (leb (e .value) 1) (lt-ltb _ _ (q .0 .fact)) (le-leb _ _ (q .0 .value))))
     refl (omega arith)
 
--- a move
+-- a move: a formula and a class pass, and so do the other two
+formula-and-class : (j : J.Job) {a class : ℕ} → a < length (j .formulas) → class ≤ lastClass → formulaAndClass (countsOf j) a class ≡ true
+formula-and-class j {a} {class} h g = and-both (ltb a (length (j .formulas))) (leb class lastClass) (lt-ltb _ _ h) (le-leb _ _ g)
+
 move-step : (due n : ℕ) (j : J.Job) (m : J.Move) (rest : List (List ℕ)) → length (j .formulas) ≤ mostFormulas → MoveFits (length (j .formulas)) m
     → m .first ≡ length (j .effects)
     → readFrom n (on (Of Move) (suc due) 0 j) (moveLine m ∷ rest) ≡ readFrom (n + 1)
     (on (afterRow Effect due (m .effects)) due (m .effects) (J.addMove j m)) rest
 move-step due n j m rest h f e =
-    row-line Move _ (suc due) 0 due (m .effects) n j (m .pre) (m .class ∷ m .effects ∷ []) rest refl refl
-    (omega (arith, f .pre), (omega (arith, f .class), (omega (arith, f .effects), tt))) (le-leb _ _ (f .effects))
-    (and-both (ltb (m .pre) (length (j .formulas))) (leb (m .class) lastClass) (lt-ltb _ _ (f .pre)) (le-leb _ _ (f .class))) (omega arith) refl
+    row-line Move _ (suc due) 0 due (m .effects) n j (m .pre) (m .class ∷ m .effects ∷ m .when ∷ m .extra ∷ []) rest refl refl
+    (omega (arith, f .pre), (omega (arith, f .class), (omega (arith, f .effects), (omega (arith, f .when), (omega (arith, f .extra), tt)))))
+    (le-leb _ _ (f .effects))
+    (and-both (formulaAndClass (countsOf j) (m .pre) (m .class)) _ (formula-and-class j (f .pre) (f .class)) (formula-and-class j (f .when) (f .extra)))
+    (omega arith) refl
     ∙ ap (λ i. readFrom (n + 1) (on (afterRow Effect due (m .effects)) due (m .effects)
-    (J.addMove j (J.moveOf i (m .pre ∷ m .class ∷ m .effects ∷ [])))) rest) (sym e)
+    (J.addMove j (J.moveOf i (m .pre ∷ m .class ∷ m .effects ∷ m .when ∷ m .extra ∷ [])))) rest) (sym e)
 
 -- the moves, each with its effects
 module _ (sc : J.Scalars) (fs : List J.Formula) (few : length fs ≤ mostFormulas) where

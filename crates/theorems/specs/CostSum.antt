@@ -1,13 +1,43 @@
--- "Its cost is the sum of its moves' costs, 0 for the empty list": the plain sum, by the moves'
--- classes.
-use Prim.Native.Nat.{ℕ, _+_}
+-- Request (g), as written: what a list of moves costs, summed along its states (document 02: worlds), and
+-- the least of such sums. It cites the class costs, and no definition of a move's cost.
+use Prim.Native.Nat.{ℕ, _+_, _≤_}
+use mathlib.Core.Path.{_≡_}
+use mathlib.Core.Bool.{true, false}
+use mathlib.Core.Option.{some}
 use mathlib.Core.List.{List, [], _∷_}
-use Rattle.job.specs.Job.{moveAt}
+use Rattle.job.specs.Job.{Move, moveAt}
 use Rattle.job.specs.Task.{Task, classCost}
+use Rattle.semantics.specs.Plan.{Allowed}
+use Rattle.domain.specs.Domain.{holdsIn, successorOf, domainOf}
+use Rattle.compile.specs.Program.{programOf}
 
-unfoldable pub sumOf : (ℕ → ℕ) → List ℕ → ℕ
-sumOf f [] = 0
-sumOf f (m ∷ ms) = f m + sumOf f ms
+-- the two classes of a move
+abbrev pub firstClass : Task → ℕ → ℕ
+firstClass t m = classCost (t .costs) (moveAt (t .job) m .class)
 
-abbrev pub classSum : Task → List ℕ → ℕ
-classSum t = sumOf (λ m. classCost (t .costs) (moveAt (t .job) m .class))
+abbrev pub secondClass : Task → ℕ → ℕ
+secondClass t m = classCost (t .costs) (moveAt (t .job) m .extra)
+
+-- "The move's cost in a world is its first class, plus the second where the formula holds in the world
+-- before the move"; the moves after it start from the state after it
+pub data CostsAlong (t : Task) : ℕ → List ℕ → ℕ → Type 0 where
+  no-move : {w : ℕ} → CostsAlong t w [] 0
+  first-alone : {w u m : ℕ} {ms : List ℕ} {c : ℕ} → holdsIn (t .job) (moveAt (t .job) m .when) w ≡ false → successorOf (t .job) m w ≡ some u
+      → CostsAlong t u ms c → CostsAlong t w (m ∷ ms) (firstClass t m + c)
+  with-second : {w u m : ℕ} {ms : List ℕ} {c : ℕ} → holdsIn (t .job) (moveAt (t .job) m .when) w ≡ true → successorOf (t .job) m w ≡ some u
+      → CostsAlong t u ms c → CostsAlong t w (m ∷ ms) (firstClass t m + secondClass t m + c)
+
+-- "A plan's cost is summed along its worlds"
+abbrev pub PlanCosts : Task → List ℕ → ℕ → Type 0
+PlanCosts t ms c = Allowed (domainOf t) (programOf (t .job)) ms × CostsAlong t (domainOf t .start) ms c
+
+-- "and so is the least": a plan costs this, and no plan costs less
+pub record LeastAlong (t : Task) (c : ℕ) : Type 0 where
+  pub best : List ℕ
+  pub costs : PlanCosts t best c
+  pub least : (ms : List ℕ) (d : ℕ) → PlanCosts t ms d → c ≤ d
+
+-- the plain sum of the first classes
+unfoldable pub classSum : Task → List ℕ → ℕ
+classSum t [] = 0
+classSum t (m ∷ ms) = firstClass t m + classSum t ms

@@ -17,7 +17,7 @@ abbrev pub formulaLine : J.Formula → List ℕ
 formulaLine f = lineOf (Of Formula) (f .kind ∷ f .a ∷ f .b ∷ [])
 
 abbrev pub moveLine : J.Move → List ℕ
-moveLine m = lineOf (Of Move) (m .pre ∷ m .class ∷ m .effects ∷ [])
+moveLine m = lineOf (Of Move) (m .pre ∷ m .class ∷ m .effects ∷ m .when ∷ m .extra ∷ [])
 
 abbrev pub effectLine : J.Effect → List ℕ
 effectLine e = lineOf (Of Effect) (e .cond ∷ e .fact ∷ e .value ∷ [])
@@ -25,7 +25,8 @@ effectLine e = lineOf (Of Effect) (e .cond ∷ e .fact ∷ e .value ∷ [])
 abbrev pub rowLine : J.Row → List ℕ
 rowLine r = lineOf (Of Row) (r .kind ∷ r .a ∷ r .b ∷ r .c ∷ [])
 
--- "Each is a line m=pre,class,E followed by its E lines e=cond,fact,value"
+-- "Each is a line m=pre,class,E", which "gains two numbers at its end, a formula and a class", "followed by
+-- its E lines e=cond,fact,value"
 unfoldable pub moveLines : List J.Move → List J.Effect → List (List ℕ)
 moveLines [] es = []
 moveLines (m ∷ ms) es = moveLine m ∷ (map effectLine (take (m .effects) es) ++ moveLines ms (drop (m .effects) es))

@@ -39,19 +39,26 @@ priced c costs = record {
   says = c .says;
 }
 
--- "The sample", with this init, goal, number of objects and program; "marked cases carry 0"
-abbrev pub sampleWith : String → String → String → String → List ℕ
-sampleWith init goal objects program =
+-- "The sample", with these lines of moves, this init, goal, number of objects and program
+abbrev pub sampleBy : String → String → String → String → String → String → List ℕ
+sampleBy first second init goal objects program =
     bytes "job=1\nfacts=2\n" ++ bytes init
-    ++ bytes "formulas=4\nf=1,0,0\nf=2,0,0\nf=2,1,0\nf=3,1,0\nmoves=2\nm=0,3,1\ne=0,1,1\nm=2,1,1\ne=0,0,1\n" ++ bytes goal ++ bytes objects
-    ++ bytes program
+    ++ bytes "formulas=4\nf=1,0,0\nf=2,0,0\nf=2,1,0\nf=3,1,0\nmoves=2\n" ++ bytes first ++ bytes "e=0,1,1\n" ++ bytes second ++ bytes "e=0,0,1\n"
+    ++ bytes goal ++ bytes objects ++ bytes program
+
+-- "Marked cases carry formula 0 and class 0", and 0 objects
+abbrev pub sampleWith : String → String → String → String → List ℕ
+sampleWith = sampleBy "m=0,3,1,0,0\n" "m=2,1,1,0,0\n"
 
 abbrev pub sample : List ℕ
 sample = sampleWith "init=0\n" "goal=1\n" "objects=0\n" "program=3\np=1,0,0,0\np=1,1,0,0\np=4,0,1,0\n"
 
--- "With recipe star of (0 or 1), 8 positions and 9 steps"
+-- "With recipe star of (0 or 1), 8 positions and 9 steps", with these lines of moves and this goal
+abbrev pub starBy : String → String → String → List ℕ
+starBy first second goal = sampleBy first second "init=0\n" goal "objects=0\n" "program=4\np=1,0,0,0\np=1,1,0,0\np=6,0,1,0\np=8,2,0,0\n"
+
 abbrev pub starOfChoice : List ℕ
-starOfChoice = sampleWith "init=0\n" "goal=1\n" "objects=0\n" "program=4\np=1,0,0,0\np=1,1,0,0\np=6,0,1,0\np=8,2,0,0\n"
+starOfChoice = starBy "m=0,3,1,0,0\n" "m=2,1,1,0,0\n" "goal=1\n"
 
 -- "With star of (while formula 3 do 0), 6 positions"
 abbrev pub starOfWhile : List ℕ
@@ -60,7 +67,7 @@ starOfWhile = sampleWith "init=0\n" "goal=1\n" "objects=0\n" "program=3\np=1,0,0
 -- "With init 0, goal fact 0 and one move of precondition true that clears and sets fact 0, recipe
 -- that move"; the clearing comes last in the text
 abbrev clearsAndSets : List ℕ
-clearsAndSets = bytes "job=1\nfacts=1\ninit=0\nformulas=2\nf=1,0,0\nf=2,0,0\nmoves=1\nm=0,1,2\ne=0,0,1\ne=0,0,0\ngoal=1\nobjects=0\nprogram=1\np=1,0,0,0\n"
+clearsAndSets = bytes "job=1\nfacts=1\ninit=0\nformulas=2\nf=1,0,0\nf=2,0,0\nmoves=1\nm=0,1,2,0,0\ne=0,0,1\ne=0,0,0\ngoal=1\nobjects=0\nprogram=1\np=1,0,0,0\n"
 
 -- "init=1 and recipe nil"
 abbrev nilProgram : List ℕ
@@ -101,7 +108,7 @@ pricedCases =
 -- fact 0 is false
 abbrev clearsAnd : String → String → String → List ℕ
 clearsAnd effect init formula =
-    bytes "job=1\nfacts=1\n" ++ bytes init ++ bytes "formulas=4\nf=1,0,0\n" ++ bytes formula ++ bytes "f=2,0,0\nf=3,2,0\nmoves=1\nm=0,1,2\n"
+    bytes "job=1\nfacts=1\n" ++ bytes init ++ bytes "formulas=4\nf=1,0,0\n" ++ bytes formula ++ bytes "f=2,0,0\nf=3,2,0\nmoves=1\nm=0,1,2,0,0\n"
     ++ bytes effect ++ bytes "e=0,0,0\ngoal=3\nobjects=0\nprogram=1\np=1,0,0,0\n"
 
 -- "a move can't be made in a world where its effects that hold both clear and set one fact": the one
@@ -156,6 +163,33 @@ pickCases =
     ∷ marks (rounds "p=10,0,0,0\n") 18 22 "plan=2\nm=0\nm=1\n" (least 25)
     ∷ marks (rounds "p=10,0,1,0\n") 18 22 "plan=2\nm=0\nm=1\n" (other (blocked 1))
     ∷ marks overNone 2 0 "plan=0\n" (other unfinished)
+    ∷ []
+
+-- "The move's cost in a world is its first class, plus the second where the formula holds in the world
+-- before the move": rounds of either move, with these lines
+abbrev pub dearMoveZero : List ℕ
+dearMoveZero = starBy "m=0,3,1,3,2\n" "m=2,1,1,0,0\n" "goal=1\n"
+
+-- move 1 makes fact 0 true: formula 3 holds before it and not after it, formula 1 after it alone
+abbrev dearMoveOne : String → List ℕ
+dearMoveOne second = starBy "m=0,3,1,0,0\n" second "goal=1\n"
+
+-- move 0 costs more unless move 1 was made before it, and the goal is what move 0 does
+abbrev longerCheaper : List ℕ
+longerCheaper = starBy "m=0,3,1,3,5\n" "m=0,1,1,0,0\n" "goal=2\n"
+
+-- the formula holds at every move 0, before the move alone, after it alone; two moves cost less than one;
+-- both classes cost what they were loaded with
+unfoldable pub conditionalCases : List Case
+conditionalCases =
+    marks dearMoveZero 8 9 "plan=2\nm=0\nm=1\n" (least 37)
+    ∷ marks dearMoveZero 8 9 "plan=3\nm=0\nm=0\nm=1\n" (dearer 69 37)
+    ∷ marks (dearMoveOne "m=2,1,1,3,2\n") 8 9 "plan=2\nm=0\nm=1\n" (least 37)
+    ∷ marks (dearMoveOne "m=2,1,1,1,2\n") 8 9 "plan=2\nm=0\nm=1\n" (least 25)
+    ∷ marks (dearMoveOne "m=2,1,1,1,2\n") 8 9 "plan=3\nm=0\nm=1\nm=1\n" (dearer 42 25)
+    ∷ marks longerCheaper 8 9 "plan=1\nm=0\n" (dearer 65 25)
+    ∷ marks longerCheaper 8 9 "plan=2\nm=1\nm=0\n" (least 25)
+    ∷ priced (marks (starBy "m=0,3,1,3,3\n" "m=2,1,1,0,0\n" "goal=1\n") 8 9 "plan=2\nm=0\nm=1\n" (least 131077)) ownCosts
     ∷ []
 
 -- "the judge program's table holds 6,144", "its compiled list 4,096"
