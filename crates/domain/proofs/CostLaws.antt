@@ -11,30 +11,27 @@ use Rattle.laws.proofs.Tests.{cond-has}
 use Rattle.limits.specs.Limits.{lastClass, mostCost}
 use Rattle.job.specs.Job.{Move, moveAt}
 use Rattle.job.specs.Task.{Task, classCost, CostsWithin}
-use Rattle.job.specs.Store.{jobOf, storedCosts, taskOf}
+use Rattle.job.specs.Store.{jobOf, storedCosts}
 use Rattle.job.specs.Stored.{Stored}
 use Rattle.job.specs.declared.head.Head.{Head}
 use Rattle.job.proofs.StoredLaws.{move-count, move-fits}
 use Rattle.domain.specs.Domain.{holdsIn, costIn, domainIn, Tells}
-
-pub cost-within : (t : Task) (m w : ℕ) → CostsWithin (t .costs) → costIn t m w ≤ mostCost
-unfolding costIn
-cost-within t m w c =
-    let x : Move = moveAt (t .job) m in
-    let own : ℕ = classCost (t .costs) (x .class) in
-    cond-has (λ (n : ℕ). own + n ≤ mostCost) (holdsIn (t .job) (x .when) w) (classCost (t .costs) (x .extra)) 0
-    (λ e. omega (arith, c (x .class), c (x .extra))) (λ e. omega (arith, c (x .class)))
 
 -- of a stored task, by a move that is read and the formulas' values in the state
 module _ {head : Head} {rows : List ℕ} (s : Stored head rows) (m : ℕ) {x : Move} (is : x ≡ moveAt (jobOf head rows) m) where
   pub classes-within : m < domainIn head rows .moves → (x .class ≤ lastClass) × (x .extra ≤ lastClass)
   classes-within h = let f = move-fits s m (omega (arith, move-count head rows)) in rw is (f .class, f .extra)
 
-  module _ (w : ℕ) (vs : List Bool) (tells : Tells (domainIn head rows) w vs) {own extra r : ℕ} {on : Bool}
+  module _ (w : ℕ) (vs : List Bool) (tells : Tells (domainIn head rows) w vs) {own extra : ℕ} {on : Bool}
       (own-is : own ≡ classCost (storedCosts rows) (x .class)) (extra-is : extra ≡ classCost (storedCosts rows) (x .extra))
       (on-is : on ≡ getD vs (x .when) false) where
-    pub cost-told : r ≡ own + cond on extra 0 → (r ≡ domainIn head rows .cost m w) × (r ≤ mostCost)
+    pub cost-told : own + cond on extra 0 ≡ domainIn head rows .cost m w
     unfolding costIn
-    cost-told e =
-        let told : r ≡ domainIn head rows .cost m w = rw (e, own-is, extra-is, on-is, tells (x .when), is) in
-        (told, omega (arith, told, cost-within (taskOf head rows) m w (s .costs)))
+    cost-told = rw (own-is, extra-is, on-is, tells (x .when), is)
+
+pub cost-within : (t : Task) (m w : ℕ) → CostsWithin (t .costs) → costIn t m w ≤ mostCost
+unfolding costIn
+cost-within t m w c =
+    let x : Move = moveAt (t .job) m in
+    cond-has (λ (n : ℕ). classCost (t .costs) (x .class) + n ≤ mostCost) (holdsIn (t .job) (x .when) w) (classCost (t .costs) (x .extra)) 0
+    (λ e. omega (arith, c (x .class), c (x .extra))) (λ e. omega (arith, c (x .class)))
