@@ -18,8 +18,12 @@ use Rattle.semantics.proofs.PathLaws.{stateAfter}
 use Rattle.semantics.proofs.VerdictLaws.{plan-leads}
 use Rattle.domain.specs.Domain.{holdsIn, successorOf, costIn, domainOf}
 use Rattle.compile.specs.Program.{programOf}
+use Rattle.load.specs.Refusals.{Checked, Offer}
+use Rattle.load.specs.View.{viewOf}
 use Rattle.load.specs.declared.request.Given.{Given}
+use Rattle.jesmovit.specs.Outcomes.{SizedJudgement}
 use Rattle.theorems.specs.Accepted.{AcceptedTask}
+use Rattle.theorems.specs.Decided.{Decided}
 use Rattle.theorems.specs.CostSum.{firstClass, secondClass, CostsAlong, no-move, first-alone, with-second, PlanCosts, LeastAlong, classSum}
 use Rattle.theorems.proofs.JudgeDecides.{allowed-plan}
 
@@ -80,6 +84,14 @@ module _ (t : Task) where
 
     pub cost-is-plain-sum : (ms : List ℕ) → Allowed D (programOf (t .job)) ms → cost D (D .start) ms ≡ classSum t ms
     cost-is-plain-sum ms a = along-plain (cost-is-sum ms a .1)
+
+-- so the costs that the judge says of an allowed list (`judge-decides`) are these sums
+pub decided-along : (o : Offer) {outcome : Checked SizedJudgement} → Allowed (viewOf o .domain) (viewOf o .program) (o .entries)
+    → (d : Decided (viewOf o) outcome) → PlanCosts (o .task) (o .entries) (d .own) × LeastAlong (o .task) (d .low)
+decided-along o a d = (
+  subst (PlanCosts (o .task) (o .entries)) (d .own-cost) (cost-is-sum (o .task) (o .entries) a),
+  least-is-along (o .task) (d .low) .0 (d .low-cost),
+)
 
 -- "formula 0 and class 0, which changes no cost": class 0 costs nothing, by whatever costs are accepted
 pub class-zero-free : (g : Given) (text costs : List ℕ) (t : Task) → AcceptedTask g text costs t → ((m : ℕ) → moveAt (t .job) m .extra ≡ 0)
