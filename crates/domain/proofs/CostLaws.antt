@@ -22,13 +22,12 @@ module _ {head : Head} {rows : List ℕ} (s : Stored head rows) (m : ℕ) {x : M
   pub classes-within : m < domainIn head rows .moves → (x .class ≤ lastClass) × (x .extra ≤ lastClass)
   classes-within h = let f = move-fits s m (omega (arith, move-count head rows)) in rw is (f .class, f .extra)
 
-  module _ (w : ℕ) (vs : List Bool) (tells : Tells (domainIn head rows) w vs) {own extra : ℕ} {on : Bool}
-      (own-is : own ≡ classCost (storedCosts rows) (x .class)) (extra-is : extra ≡ classCost (storedCosts rows) (x .extra))
-      (on-is : on ≡ getD vs (x .when) false) where
-    pub cost-told : own + cond on extra 0 ≡ domainIn head rows .cost m w
-    unfolding costIn
-    cost-told = rw (own-is, extra-is, on-is, tells (x .when), is)
+  pub cost-told : (w : ℕ) (vs : List Bool) → Tells (domainIn head rows) w vs → {own extra more : ℕ} {on : Bool} → own ≡ classCost (storedCosts rows) (x .class)
+      → extra ≡ classCost (storedCosts rows) (x .extra) → on ≡ getD vs (x .when) false → more ≡ cond on extra 0 → own + more ≡ domainIn head rows .cost m w
+  unfolding costIn
+  cost-told w vs tells own-is extra-is on-is more-is = rw (more-is, own-is, extra-is, on-is, tells (x .when), is)
 
+-- two classes at the most
 pub cost-within : (t : Task) (m w : ℕ) → CostsWithin (t .costs) → costIn t m w ≤ mostCost
 unfolding costIn
 cost-within t m w c =

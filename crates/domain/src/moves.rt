@@ -1,5 +1,6 @@
 // Moves: how many there are, the state after one, and its cost in a state.
 ghost use mathlib.Core.Path.{_≡_};
+ghost use mathlib.Core.Bool.{cond};
 ghost use Prim.Native.Nat.{_≤_, _<_};
 ghost use Rattle.job.specs.Stored.{Stored};
 ghost use Rattle.limits.specs.Limits.{mostCost};
@@ -36,6 +37,13 @@ pub fn successor(head: Head, rows: &[u16], values: &[bool], m: u16, state: u16) 
     Successor::To(((state | cleared) ^ cleared) | changes.set)
 }
 
+// A cost where `on` is true, and else 0.
+fn counted(on: bool, cost: u64) -> u64
+    ensures { λ r. ⌜ r ≡ cond on cost 0 ⌝ }
+{
+    if on { cost } else { 0 }
+}
+
 // What move m costs in a state, by the formulas' values in it: its class, and where its formula holds
 // the extra one too.
 pub fn cost(head: Head, rows: &[u16], values: &[bool], m: u16, state: u16) -> u64
@@ -46,8 +54,5 @@ pub fn cost(head: Head, rows: &[u16], values: &[bool], m: u16, state: u16) -> u6
     let made = job::stored::move_at(head, rows, m);
     let own = job::costs::class_cost(rows, made.class) as u64;
     let extra = job::costs::class_cost(rows, made.extra) as u64;
-    if crate::formulas::value_at(values, made.when) {
-        return own + extra;
-    }
-    own
+    own + counted(crate::formulas::value_at(values, made.when), extra)
 }

@@ -1,22 +1,22 @@
 -- What a plan costs is the sum along its states, by the class costs that were loaded, and the least cost is
 -- the least such sum. Where no second class costs anything, it is the plain sum of the first ones.
 -- Assumes nothing.
-use Prim.Native.Nat.{ℕ, _+_}
-use mathlib.Core.Path.{_≡_, refl, sym, _∙_, ap, subst}
-use mathlib.Core.Bool.{Bool, true, false, cond}
+use Prim.Native.Nat.{ℕ}
+use mathlib.Core.Path.{_≡_, refl, sym, _∙_, subst}
+use mathlib.Core.Bool.{Bool, true, false}
 use mathlib.Core.Option.{Option, none, some}
 use mathlib.Core.List.{List, [], _∷_}
 use mathlib.Core.Logic.{_↔_}
 use native.Mathlib.Omega.{arith}
 use Rattle.laws.proofs.Tests.{never}
 use Rattle.job.specs.Job.{moveAt}
-use Rattle.job.specs.Task.{Task, houseCosts, classCost}
+use Rattle.job.specs.Task.{Task, classCost}
 use Rattle.semantics.specs.Domain.{Domain}
 use Rattle.semantics.specs.Plan.{cost, Allowed, Least}
 use Rattle.semantics.proofs.CostLaws.{cost-first}
 use Rattle.semantics.proofs.PathLaws.{stateAfter}
 use Rattle.semantics.proofs.VerdictLaws.{plan-leads}
-use Rattle.domain.specs.Domain.{holdsIn, successorOf, costIn, domainOf}
+use Rattle.domain.specs.Domain.{costIn, domainOf}
 use Rattle.compile.specs.Program.{programOf}
 use Rattle.load.specs.Refusals.{Checked, Offer}
 use Rattle.load.specs.View.{viewOf}
@@ -24,7 +24,7 @@ use Rattle.load.specs.declared.request.Given.{Given}
 use Rattle.jesmovit.specs.Outcomes.{SizedJudgement}
 use Rattle.theorems.specs.Accepted.{AcceptedTask}
 use Rattle.theorems.specs.Decided.{Decided}
-use Rattle.theorems.specs.CostSum.{firstClass, secondClass, CostsAlong, no-move, first-alone, with-second, PlanCosts, LeastAlong, classSum}
+use Rattle.theorems.specs.CostSum.{secondClass, CostsAlong, no-move, first-alone, with-second, PlanCosts, LeastAlong, classSum}
 use Rattle.theorems.proofs.JudgeDecides.{allowed-plan}
 
 module _ (t : Task) where

@@ -5,7 +5,7 @@ use mathlib.Core.Path.{_≡_}
 use mathlib.Core.Bool.{true, false}
 use mathlib.Core.Option.{some}
 use mathlib.Core.List.{List, [], _∷_}
-use Rattle.job.specs.Job.{Move, moveAt}
+use Rattle.job.specs.Job.{moveAt}
 use Rattle.job.specs.Task.{Task, classCost}
 use Rattle.semantics.specs.Plan.{Allowed}
 use Rattle.domain.specs.Domain.{holdsIn, successorOf, domainOf}
