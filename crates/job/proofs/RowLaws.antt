@@ -7,13 +7,15 @@ use mathlib.Core.List.{List, [], _∷_, _++_, map}
 use mathlib.Core.Logic.{_↔_}
 use native.Mathlib.Omega.{arith}
 use native.Mathlib.Decide.{decLt}
-use lib.Dec.{ltb}
+use lib.Dec.{ltb, leb}
 use lib.ListN.{length, getD, List·getD-eq-default}
-use borrow.Author.Tests.{ltb-true}
-use Rattle.laws.proofs.Tests.{never, and-left, and-right}
+use borrow.Author.Tests.{ltb-true, leb-true, lt-ltb, le-leb}
+use Rattle.laws.proofs.Tests.{never, and-left, and-right, and-both}
 use Rattle.laws.proofs.Tables.{pair-at}
+use Rattle.limits.specs.Limits.{lastClass}
 use Rattle.job.specs.Job as J
 use Rattle.job.specs.Fields.{baseBound, bound, formulaFields, within, Within}
+use Rattle.job.specs.Fault.{formulaAndClass}
 use Rattle.job.specs.WellFormed.{Tiled, beforeFormula}
 use Rattle.job.specs.declared.head.Counts.{Counts}
 use Rattle.job.specs.declared.fields.Field.{Field}
@@ -56,6 +58,16 @@ kind-listed c kinds kind x xs w = elim (decLt kind (length kinds)) [
 -- "The sum of a and O may not exceed the count"
 pub base-iff : (a count objects : ℕ) → (a < baseBound count objects) ↔ (a + objects ≤ count)
 base-iff a count objects = (λ h. omega arith, λ h. omega arith)
+
+-- the test of a formula and a class is their statement
+pub formula-and-class-iff : (c : Counts) (a class : ℕ) → (formulaAndClass c a class ≡ true) ↔ ((a < c .formulas) × (class ≤ lastClass))
+formula-and-class-iff c a class = (
+  λ e. (
+    ltb-true a (c .formulas) (and-left (ltb a (c .formulas)) (leb class lastClass) e),
+    leb-true class lastClass (and-right (ltb a (c .formulas)) (leb class lastClass) e),
+  ),
+  λ h. and-both (ltb a (c .formulas)) (leb class lastClass) (lt-ltb _ _ (h .0)) (le-leb _ _ (h .1)),
+)
 
 -- a formula refers to facts and formulas only
 pub formula-own : (c : Counts) (x y k : ℕ) → Within c (getD formulaFields k []) (x ∷ y ∷ [])

@@ -1,8 +1,8 @@
 -- Every row of a job that is read keeps its ranges and references.
 -- Assumes nothing.
-use Prim.Native.Nat.{ℕ, _+_, _-_, _≤_, _<_}
+use Prim.Native.Nat.{ℕ, _+_, _-_, _<_}
 use mathlib.Core.Path.{_≡_, refl, sym, _∙_, subst}
-use mathlib.Core.Bool.{true, _&&_}
+use mathlib.Core.Bool.{_&&_}
 use mathlib.Core.List.{List, [], _∷_, _++_}
 use native.Mathlib.Omega.{arith}
 use lib.Dec.{ltb, leb}
@@ -10,7 +10,7 @@ use lib.ListN.{length, getD, length-append}
 use borrow.Author.Tests.{leb-true, ltb-true}
 use Rattle.laws.proofs.Tests.{and-left, and-right}
 use Rattle.laws.proofs.Lists.{every-more}
-use Rattle.limits.specs.Limits.{lastClass, mostMoveEffects}
+use Rattle.limits.specs.Limits.{mostMoveEffects}
 use Rattle.job.specs.StateCount.{stateCount}
 use Rattle.job.specs.Job as J
 use Rattle.job.specs.Job.{countsOf, formulaOf, moveOf, effectOf, rowOf}
@@ -25,7 +25,7 @@ use Rattle.job.specs.declared.line.RowSort.{RowSort}
 use Rattle.job.specs.declared.line.RowSort.the-variants.{Formula, Move, Effect, Row}
 use Rattle.job.specs.declared.line.Line.{Line}
 use Rattle.job.specs.declared.line.Line.the-variants.{One, Of, End}
-use Rattle.job.proofs.RowLaws.{within-true, formula-own}
+use Rattle.job.proofs.RowLaws.{within-true, formula-and-class-iff, formula-own}
 use Rattle.reader.specs.Room.{Room}
 use Rattle.reader.proofs.RoomLaws.{Right, RoomOf, rows-has, taken-room}
 
@@ -58,11 +58,6 @@ pub record Fits (effects : ℕ) (j : J.Job) : Type 0 where
   pub tiled : Tiled 0 (j .moves) (length (j .effects) + effects)
   pub effect : EffectRows (j .scalars .facts) (length (j .formulas)) (j .effects)
   pub row : ProgramRows j (j .program)
-
--- the test of a formula and a class is their statement
-formula-and-class : (c : Counts) (a class : ℕ) → formulaAndClass c a class ≡ true → (a < c .formulas) × (class ≤ lastClass)
-formula-and-class c a class e =
-    (ltb-true a (c .formulas) (and-left (ltb a (c .formulas)) (leb class lastClass) e), leb-true class lastClass (and-right (ltb a (c .formulas)) _ e))
 
 -- one move more behind, with its effects to come
 tiled-more : (first last : ℕ) (ms : List J.Move) (m : J.Move) → Tiled first ms last → m .first ≡ last → Tiled first (ms ++ (m ∷ [])) (last + m .effects)
@@ -125,8 +120,8 @@ module _ (s : Reading) (r : List ℕ) where
       }
   row-fits Move x h f =
       let m : J.Move = moveOf (length (j .effects)) r in
-      let own = formula-and-class c (getD r 0 0) (getD r 1 0) (and-left (formulaAndClass c (getD r 0 0) (getD r 1 0)) _ (x .1)) in
-      let extra = formula-and-class c (getD r 3 0) (getD r 4 0) (and-right (formulaAndClass c (getD r 0 0) (getD r 1 0)) _ (x .1)) in
+      let own = formula-and-class-iff c (getD r 0 0) (getD r 1 0) .0 (and-left (formulaAndClass c (getD r 0 0) (getD r 1 0)) _ (x .1)) in
+      let extra = formula-and-class-iff c (getD r 3 0) (getD r 4 0) .0 (and-right (formulaAndClass c (getD r 0 0) (getD r 1 0)) _ (x .1)) in
       let e : length (j .effects) + s .effects ≡ length (j .effects) = omega (arith, h .owed .1) in
       let d : length (j .program) ≡ 0 = omega (arith, h .fit .program) in
       record {

@@ -11,7 +11,7 @@ use lib.Dec.{ltb, leb}
 use lib.Seq.{length-take-le}
 use lib.ListN.{length, getD, take, drop, length-append, length-drop, length-map, take-append-drop}
 use borrow.Author.Tests.{lt-ltb, le-leb, ne-eqb}
-use Rattle.limits.specs.Limits.{mostFacts, mostFormulas, mostMoves, mostProgram, lastClass}
+use Rattle.limits.specs.Limits.{mostFacts, mostFormulas, mostMoves, mostProgram}
 use Rattle.laws.proofs.Tests.{and-both}
 use Rattle.laws.proofs.Each.{All, all-every, all-at, all-take, all-drop, all-any, all-both, all-map}
 use Rattle.text.proofs.WrittenLaws.{Small}
@@ -34,7 +34,7 @@ use Rattle.job.specs.declared.line.RowSort.{RowSort}
 use Rattle.job.specs.declared.line.RowSort.the-variants.{Formula, Move, Effect, Row}
 use Rattle.job.specs.declared.line.Line.{Line}
 use Rattle.job.specs.declared.line.Line.the-variants.{One, Of, End}
-use Rattle.job.proofs.RowLaws.{kind-listed, tiled-own}
+use Rattle.job.proofs.RowLaws.{kind-listed, formula-and-class-iff, tiled-own}
 use Rattle.reader.proofs.ReadLaws.{line-right}
 
 -- the statement of fields passes their test, and their numbers are small
@@ -145,10 +145,7 @@ effect-step due m n j e rest q =
     (and-both (ltb (e .fact) (j .scalars .facts)) (leb (e .value) 1) (lt-ltb _ _ (q .0 .fact)) (le-leb _ _ (q .0 .value))))
     refl (omega arith)
 
--- a move: a formula and a class pass, and so do the other two
-formula-and-class : (j : J.Job) {a class : ℕ} → a < length (j .formulas) → class ≤ lastClass → formulaAndClass (countsOf j) a class ≡ true
-formula-and-class j {a} {class} h g = and-both (ltb a (length (j .formulas))) (leb class lastClass) (lt-ltb _ _ h) (le-leb _ _ g)
-
+-- a move
 move-step : (due n : ℕ) (j : J.Job) (m : J.Move) (rest : List (List ℕ)) → length (j .formulas) ≤ mostFormulas → MoveFits (length (j .formulas)) m
     → m .first ≡ length (j .effects)
     → readFrom n (on (Of Move) (suc due) 0 j) (moveLine m ∷ rest) ≡ readFrom (n + 1)
@@ -157,7 +154,8 @@ move-step due n j m rest h f e =
     row-line Move _ (suc due) 0 due (m .effects) n j (m .pre) (m .class ∷ m .effects ∷ m .when ∷ m .extra ∷ []) rest refl refl
     (omega (arith, f .pre), (omega (arith, f .class), (omega (arith, f .effects), (omega (arith, f .when), (omega (arith, f .extra), tt)))))
     (le-leb _ _ (f .effects))
-    (and-both (formulaAndClass (countsOf j) (m .pre) (m .class)) _ (formula-and-class j (f .pre) (f .class)) (formula-and-class j (f .when) (f .extra)))
+    (and-both (formulaAndClass (countsOf j) (m .pre) (m .class)) _ (formula-and-class-iff (countsOf j) (m .pre) (m .class) .1 (f .pre, f .class))
+    (formula-and-class-iff (countsOf j) (m .when) (m .extra) .1 (f .when, f .extra)))
     (omega arith) refl
     ∙ ap (λ i. readFrom (n + 1) (on (afterRow Effect due (m .effects)) due (m .effects)
     (J.addMove j (J.moveOf i (m .pre ∷ m .class ∷ m .effects ∷ m .when ∷ m .extra ∷ [])))) rest) (sym e)
