@@ -11,6 +11,7 @@ mod damage;
 pub mod edges;
 mod fields;
 mod look;
+mod made;
 mod plans;
 mod walks;
 
