@@ -1,6 +1,6 @@
 //! Which limits of documents 01 and 02 a case meets, or passes by one; which costs texts it has, and which bad texts
-//! beside each other; where effects conflict; which picks and variables its program has; how its moves fill the pages
-//! of a sheet.
+//! beside each other; where effects conflict; where moves cost more, and what that makes of a plan; which picks and
+//! variables its program has; how its moves fill the pages of a sheet.
 
 use super::costs::GREATEST_COSTS;
 use super::look::{is_cost, is_longest, Look};
@@ -52,7 +52,7 @@ pub const EDGES: [Edge; 99] = [
         })
     }),
     ("extra by last formula", |look| {
-        look.job(|job| job.moves.iter().any(|action| usize::from(action.extra_condition) + 1 == job.formulas.len()))
+        look.job(|job| job.moves.iter().any(|action| has_extra_by(action, job.formulas.len() - 1)))
     }),
     ("extra by no formula", |look| {
         look.wrong_move(|[pre, class, _, condition, extra], formulas| {
@@ -147,6 +147,11 @@ pub const EDGES: [Edge; 99] = [
     ("total of 9 digits", |look| look.plan(|plan| total(plan) >= 100_000_000)),
     ("total above 262140000", |look| look.plan(|plan| total(plan) > 262_140_000)),
 ];
+
+/// Whether a move has an extra class above 0 under this formula.
+fn has_extra_by(action: &Move, formula: usize) -> bool {
+    action.extra_class > 0 && usize::from(action.extra_condition) == formula
+}
 
 /// Whether a plan makes one move at two costs.
 fn has_two_costs(plan: &[Made]) -> bool {

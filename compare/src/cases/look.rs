@@ -235,12 +235,13 @@ impl Look<'_> {
 
     /// Whether the moves are a plan, and so get a sheet where there is room for it, and something holds of the plan.
     pub fn plan(&self, holds: impl Fn(&[Made]) -> bool) -> bool {
-        self.made.get_or_init(|| self.find_made()).as_deref().is_some_and(holds)
+        self.made().is_some_and(holds)
     }
 
-    fn find_made(&self) -> Option<Vec<Made>> {
-        let moves = self.moves()?.ok()?;
-        made(&self.domain()?, &moves)
+    /// The moves, where they are a plan.
+    fn made(&self) -> Option<&[Made]> {
+        let find = || made(&self.domain()?, &self.moves()?.ok()?);
+        self.made.get_or_init(find).as_deref()
     }
 
     /// Whether the moves are a plan, and something holds of a move of the job that it makes.
@@ -252,12 +253,8 @@ impl Look<'_> {
     /// Whether the moves are a plan, the cost table is small, and something holds of how the plan stands.
     pub fn stands(&self, holds: impl Fn(&Standing) -> bool) -> bool {
         let small = self.size(|size, facts| (size.length + 1) << facts <= SMALL);
-        small && self.standing.get_or_init(|| self.find_standing()).as_ref().is_some_and(holds)
-    }
-
-    fn find_standing(&self) -> Option<Standing> {
-        let plan = self.made.get_or_init(|| self.find_made()).as_deref()?;
-        standing(&self.domain()?, plan)
+        let find = || standing(&self.domain()?, self.made()?);
+        small && self.standing.get_or_init(find).as_ref().is_some_and(holds)
     }
 
     /// The states of the job, with the costs that are loaded; none where they are bad.

@@ -1,4 +1,4 @@
-//! States, the formulas that hold in them, and the successors that moves lead to.
+//! States, the formulas that hold in them, the successors that moves lead to, and what moves cost there.
 
 use std::cell::OnceCell;
 

@@ -1,4 +1,4 @@
-//! Costs by state, request (g) of document 02: behind its effect count a move line has a formula and a second class,
+//! Costs by state, request (g) of document 02: behind its effect count a move line has a formula and an extra class,
 //! which is added to the move's cost where the formula holds before the move.
 //!
 //! The sample's formulas are 0 true, 1 fact 0, 2 fact 1, 3 not fact 0. Its move 0 sets fact 1, at 20; its move 1 sets
@@ -156,7 +156,7 @@ fn a_detour_is_least() {
     worked.judges(&[1, 0], [DEARER, 37, 17]);
     worked.judges(&[0, 0, 1], [DEARER, 29, 17]);
     worked.costs([COSTS, 17]);
-    // Without the second class the one move is least.
+    // Without the extra class the one move is least.
     let table = vec![
         0, 0, X, 0,
         5, 5, 5, 5,
@@ -219,7 +219,7 @@ fn formula_0_and_class_0_change_no_cost() {
 }
 
 #[test]
-fn every_second_class() {
+fn every_extra_class() {
     let costs = [20, 25, 32, 40, 50, 65, 80, 110, 140, 200, 260, 380, 620, 920, 1820, 3620];
     for (class, cost) in costs.into_iter().enumerate() {
         house_is_least(&format!("m=0,3,1,0,{class}"), SECOND, [cost, 5]);
@@ -237,7 +237,7 @@ fn loaded_is_least(first: &str, second: &str, costs: Vec<u8>, [zero, one]: [u64;
 #[test]
 fn loaded_costs_of_both_classes() {
     loaded_is_least("m=0,3,1,3,2", SECOND, house_with(&[(1, 7), (2, 300), (3, 4800)]), [5100, 7]);
-    // Class 0 second, and first; one class twice.
+    // Class 0 as the extra class, and as the first; one class twice.
     loaded_is_least("m=0,3,1,3,0", "m=2,0,1,3,1", all_at(100), [100, 100]);
     loaded_is_least("m=0,3,1,3,3", "m=2,0,1,3,0", all_at(100), [200, 0]);
     // Both at the greatest cost, and one below.
