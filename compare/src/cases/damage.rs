@@ -1,6 +1,6 @@
 //! Damage done to texts.
 
-use super::fields::{change_fields, change_variable};
+use super::fields::{change_fields, change_move, change_variable};
 use crate::generator::random::Random;
 
 /// Bytes that take another's place.
@@ -23,6 +23,7 @@ const TAILS: [&[u8]; 11] =
 enum Damage {
     Fields,
     Variable,
+    Move,
     Number,
     Count,
     Byte,
@@ -38,6 +39,7 @@ pub fn damage(random: &mut Random, text: &mut Vec<u8>) {
         let kind = random.weighted(&[
             (260, Damage::Fields),
             (120, Damage::Variable),
+            (80, Damage::Move),
             (200, Damage::Number),
             (40, Damage::Count),
             (160, Damage::Byte),
@@ -49,6 +51,7 @@ pub fn damage(random: &mut Random, text: &mut Vec<u8>) {
         match kind {
             Damage::Fields => by_lines(random, text, |random, lines| change_fields(random, lines)),
             Damage::Variable => by_lines(random, text, |random, lines| change_variable(random, lines)),
+            Damage::Move => by_lines(random, text, |random, lines| change_move(random, lines)),
             Damage::Number => change_number(random, text, |_| true),
             Damage::Count => change_number(random, text, follows_long_key),
             Damage::Byte => change_byte(random, text),

@@ -1,9 +1,10 @@
 //! Which limits of documents 01 and 02 a case meets, or passes by one; which costs texts it has, and which bad texts
-//! beside each other; where effects conflict; which picks and variables its program has; how its moves fill the pages
-//! of a sheet.
+//! beside each other; where effects conflict; where moves cost more, and what that makes of a plan; which picks and
+//! variables its program has; how its moves fill the pages of a sheet.
 
 use super::costs::GREATEST_COSTS;
 use super::look::{is_cost, is_longest, Look};
+use super::made::Made;
 use super::Case;
 use crate::second::compiler::{MOST_POSITIONS, MOST_STEPS};
 use crate::second::domain::clear_and_set;
@@ -16,7 +17,7 @@ use crate::second::sheet::PAGE_LINES;
 type Edge = (&'static str, fn(&Look) -> bool);
 
 /// The limits, in the order in which they are printed.
-pub const EDGES: [Edge; 81] = [
+pub const EDGES: [Edge; 99] = [
     ("0 facts", |look| look.job(|job| job.facts == 0)),
     ("12 facts", |look| look.job(|job| job.facts == MOST_FACTS)),
     ("13 facts", |look| look.refused_line == Some(b"facts=13")),
@@ -31,10 +32,48 @@ pub const EDGES: [Edge; 81] = [
     ("16 effects", |look| {
         look.job(|job| job.moves.iter().any(|action| action.effects.len() == usize::from(MOST_EFFECTS)))
     }),
-    ("17 effects", |look| look.refused_line.is_some_and(|line| line.starts_with(b"m=") && line.ends_with(b",17"))),
+    ("17 effects", |look| look.move_out_of_range(|[_, _, effects, ..], _| effects == 17)),
+    ("17 effects, bad class", |look| {
+        look.move_out_of_range(|[_, _, effects, _, extra], _| effects == 17 && extra == 16)
+    }),
+    ("17 effects, bad formula", |look| {
+        look.move_out_of_range(|[_, _, effects, condition, _], formulas| effects == 17 && condition == formulas)
+    }),
+    ("move of 3 numbers", |look| look.move_of_numbers(3)),
+    ("move of 4 numbers", |look| look.move_of_numbers(4)),
+    ("move of 6 numbers", |look| look.move_of_numbers(6)),
     ("blocked by a conflict", |look| look.blocked_by_conflict()),
     ("conflict if all held", |look| look.plan_with(|action| clear_and_set(&action.effects))),
     ("class 15", |look| look.job(|job| job.moves.iter().any(|action| action.class == CLASSES - 1))),
+    ("extra class 15", |look| look.job(|job| job.moves.iter().any(|action| action.extra_class == CLASSES - 1))),
+    ("extra class 16", |look| {
+        look.wrong_move(|[pre, class, _, condition, extra], formulas| {
+            extra == 16 && class < 16 && pre.max(condition) < formulas
+        })
+    }),
+    ("extra by last formula", |look| {
+        look.job(|job| job.moves.iter().any(|action| has_extra_by(action, job.formulas.len() - 1)))
+    }),
+    ("extra by no formula", |look| {
+        look.wrong_move(|[pre, class, _, condition, extra], formulas| {
+            condition == formulas && pre < formulas && class.max(extra) < 16
+        })
+    }),
+    ("one move at two costs", |look| look.plan(has_two_costs)),
+    ("extra only before a move", |look| look.plan(|plan| plan.iter().any(|made| made.has_extra(true, false)))),
+    ("extra only after a move", |look| look.plan(|plan| plan.iter().any(|made| made.has_extra(false, true)))),
+    ("move at 131070", |look| look.plan(|plan| plan.iter().any(|made| made.cost() == 131_070))),
+    ("dearer by extra classes", |look| {
+        look.stands(|plan| plan.cost > plan.least && plan.plain_cost == plan.plain_least)
+    }),
+    ("least by extra classes", |look| {
+        look.stands(|plan| plan.cost == plan.least && plan.plain_cost > plan.plain_least)
+    }),
+    ("least by a longer way", |look| {
+        look.stands(|plan| {
+            plan.cost == plan.least && plan.plain_cost > plan.plain_least && plan.moves > plan.fewest_moves
+        })
+    }),
     ("any over 0 moves", |look| look.job(|job| job.moves.is_empty() && job.rows.iter().any(|row| row[0] == 2))),
     ("17 objects", |look| look.refused_line == Some(b"objects=17")),
     ("pick over 0 objects", |look| look.reaches(|job, row, _| row[0] == 9 && job.objects == 0)),
@@ -100,12 +139,30 @@ pub const EDGES: [Edge; 81] = [
     ("too large and bad costs", |look| look.size(|size, _| !size.fits()) && look.costs_are_bad()),
     ("bad costs and moves", |look| look.costs_are_bad() && matches!(look.moves(), Some(Err(_)))),
     ("bad costs and steps", |look| look.costs_are_bad() && matches!(look.steps(), Some(Err(_)))),
-    ("sheet of no page", |look| look.laid(|moves| moves == 0)),
-    ("sheet of several pages", |look| look.laid(|moves| moves > PAGE_LINES)),
-    ("last page full", |look| look.laid(|moves| moves > 0 && moves % PAGE_LINES == 0)),
-    ("last page of one move", |look| look.laid(|moves| moves > PAGE_LINES && moves % PAGE_LINES == 1)),
-    ("sheet of 4000 moves", |look| look.laid(|moves| moves == usize::from(MOST_ENTRIES))),
+    ("sheet of no page", |look| look.plan(|plan| plan.is_empty())),
+    ("sheet of several pages", |look| look.plan(|plan| plan.len() > PAGE_LINES)),
+    ("last page full", |look| look.plan(|plan| !plan.is_empty() && plan.len() % PAGE_LINES == 0)),
+    ("last page of one move", |look| look.plan(|plan| plan.len() > PAGE_LINES && plan.len() % PAGE_LINES == 1)),
+    ("sheet of 4000 moves", |look| look.plan(|plan| plan.len() == usize::from(MOST_ENTRIES))),
+    ("total of 9 digits", |look| look.plan(|plan| total(plan) >= 100_000_000)),
+    ("total above 262140000", |look| look.plan(|plan| total(plan) > 262_140_000)),
 ];
+
+/// Whether a move has an extra class above 0 under this formula.
+fn has_extra_by(action: &Move, formula: usize) -> bool {
+    action.extra_class > 0 && usize::from(action.extra_condition) == formula
+}
+
+/// Whether a plan makes one move at two costs.
+fn has_two_costs(plan: &[Made]) -> bool {
+    let mut first = [None; MOST_MOVES as usize];
+    plan.iter().any(|made| *first[usize::from(made.index)].get_or_insert(made.cost()) != made.cost())
+}
+
+/// What a plan costs.
+fn total(plan: &[Made]) -> u64 {
+    plan.iter().map(Made::cost).sum()
+}
 
 /// Whether a row is of this kind, a move or a test of an object, and its pick is as far out as a number can say.
 fn is_last_variable(row: &[u16; 4], kind: u16) -> bool {

@@ -54,6 +54,25 @@ pub fn change_variable(random: &mut Random, lines: &mut [Vec<u8>]) {
     lines[place] = format!("p={kind},{base},{pick},0\n").into_bytes();
 }
 
+/// Gives a move an extra class or a condition at its limit or one past it, perhaps beside 17 effects, or one number too
+/// few or too many; where there is no move, any fields are changed.
+pub fn change_move(random: &mut Random, lines: &mut [Vec<u8>]) {
+    let formulas = number_of(lines, "formulas");
+    let moves: Vec<(usize, [usize; 5])> =
+        lines.iter().enumerate().filter_map(|(place, line)| Some((place, move_of(line)?.try_into().ok()?))).collect();
+    if moves.is_empty() {
+        return change_fields(random, lines);
+    }
+    let (place, [pre, class, effects, condition, extra]) = random.pick(&moves);
+    let condition = random.pick(&[condition, condition, formulas.saturating_sub(1), formulas]);
+    let extra = random.pick(&[extra, 15, 16]);
+    let effects = random.pick(&[effects, effects, effects, 17]);
+    let mut numbers = vec![pre, class, effects, condition, extra, 0];
+    numbers.truncate(random.pick(&[3, 4, 5, 5, 5, 5, 5, 6]));
+    let numbers: Vec<String> = numbers.iter().map(usize::to_string).collect();
+    lines[place] = format!("m={}\n", numbers.join(",")).into_bytes();
+}
+
 /// The number on the line of a key that one line has; 0 where there is none.
 pub fn number_of<T: AsRef<[u8]>>(lines: &[T], key: &str) -> usize {
     let line = lines.iter().find(|line| key_of(line.as_ref()) == key.as_bytes());
@@ -64,6 +83,11 @@ pub fn number_of<T: AsRef<[u8]>>(lines: &[T], key: &str) -> usize {
 pub fn variable_of(line: &[u8]) -> Option<[usize; 4]> {
     let row: [usize; 4] = numbers(line)?.try_into().ok()?;
     (key_of(line) == b"p" && matches!(row[0], 10 | 11)).then_some(row)
+}
+
+/// The numbers of a line with the key of a move.
+pub fn move_of(line: &[u8]) -> Option<Vec<usize>> {
+    numbers(line).filter(|_| key_of(line) == b"m")
 }
 
 /// The numbers behind a line's equals sign.

@@ -1,6 +1,9 @@
 //! What is looked at in a case, beside its bytes, to say which limits it meets.
 
-use super::fields::{number_of, variable_of};
+use std::cell::OnceCell;
+
+use super::fields::{move_of, number_of, variable_of};
+use super::made::{made, standing, Made, Standing};
 use super::Case;
 use crate::second::compiler::{program_size, Size};
 use crate::second::domain::Domain;
@@ -22,15 +25,22 @@ struct Measured {
     free: bool,
 }
 
-/// A case, with its job where it is read, and otherwise the line that is refused by reason 2, or by reason 3; and with
-/// its costs text as it is read, where one is handed in.
+/// A case, with its job where it is read, and otherwise the line that is refused by reason 1, by 2, or by 3; and with
+/// its costs text as it is read, where one is handed in. What its moves are as a plan is worked out when it is asked
+/// for.
 pub struct Look<'a> {
     pub case: &'a Case,
     job: Option<Measured>,
+    formless_line: Option<&'a [u8]>,
     pub refused_line: Option<&'a [u8]>,
     wrong_line: Option<&'a [u8]>,
     pub costs: Option<Result<ClassCosts, Refusal>>,
+    made: OnceCell<Option<Vec<Made>>>,
+    standing: OnceCell<Option<Standing>>,
 }
+
+/// For cost tables of no more numbers it is found out how a plan stands.
+const SMALL: u64 = 1000;
 
 /// A line of a text by its number, without its line feed; none past the last.
 fn line_of(text: &[u8], place: usize) -> Option<&[u8]> {
@@ -92,9 +102,17 @@ impl<'a> Look<'a> {
             Err(Refusal { number, place }) if number == reason => line_of(&case.job, place),
             _ => None,
         };
-        let [refused_line, wrong_line] = [2, 3].map(refused_by);
-        let costs = case.texts().costs.map(read_costs);
-        Look { case, job: read.ok().map(Measured::of), refused_line, wrong_line, costs }
+        let [formless_line, refused_line, wrong_line] = [1, 2, 3].map(refused_by);
+        Look {
+            case,
+            formless_line,
+            refused_line,
+            wrong_line,
+            job: read.ok().map(Measured::of),
+            costs: case.texts().costs.map(read_costs),
+            made: OnceCell::new(),
+            standing: OnceCell::new(),
+        }
     }
 }
 
@@ -162,7 +180,7 @@ impl Look<'_> {
         let Some([own_kind, base, ..]) = self.wrong_line.and_then(variable_of) else {
             return false;
         };
-        let lines: Vec<&[u8]> = self.case.job.split_inclusive(|byte| *byte == b'\n').collect();
+        let lines = self.job_lines();
         let count = number_of(&lines, if kind == 10 { "moves" } else { "formulas" });
         own_kind == kind && base + number_of(&lines, "objects") == count + 1
     }
@@ -191,12 +209,12 @@ impl Look<'_> {
 
     /// The text of moves as it is read, where the job compiles.
     pub fn moves(&self) -> Option<Plan> {
-        self.plan(&self.case.moves, b'm', |own| own.job.moves.len())
+        self.entries(&self.case.moves, b'm', |own| own.job.moves.len())
     }
 
     /// The text of steps as it is read, where the job compiles.
     pub fn steps(&self) -> Option<Plan> {
-        self.plan(&self.case.steps, b't', |own| own.size.steps as usize)
+        self.entries(&self.case.steps, b't', |own| own.size.steps as usize)
     }
 
     /// Whether the moves get the verdict of a check, and something holds of the job and of them.
@@ -215,18 +233,65 @@ impl Look<'_> {
         self.checked(|job, moves| job.objects > 1 && is_plan_by_later_object(job, moves))
     }
 
-    /// Whether the moves are a plan, and something holds of one of them.
+    /// Whether the moves are a plan, and so get a sheet where there is room for it, and something holds of the plan.
+    pub fn plan(&self, holds: impl Fn(&[Made]) -> bool) -> bool {
+        self.made().is_some_and(holds)
+    }
+
+    /// The moves, where they are a plan.
+    fn made(&self) -> Option<&[Made]> {
+        let find = || made(&self.domain()?, &self.moves()?.ok()?);
+        self.made.get_or_init(find).as_deref()
+    }
+
+    /// Whether the moves are a plan, and something holds of a move of the job that it makes.
     pub fn plan_with(&self, holds: impl Fn(&Move) -> bool) -> bool {
-        let one = |job: &Job, moves: &[u16]| moves.iter().any(|index| holds(&job.moves[usize::from(*index)]));
-        self.checked(|job, moves| one(job, moves) && is_plan(job, moves))
+        let one = |job: &Job, plan: &[Made]| plan.iter().any(|made| holds(&job.moves[usize::from(made.index)]));
+        self.plan(|plan| self.job(|job| one(job, plan)))
     }
 
-    /// Whether the moves get a sheet, where there is room for it, and something holds of how many they are.
-    pub fn laid(&self, holds: impl Fn(usize) -> bool) -> bool {
-        self.checked(|job, moves| holds(moves.len()) && is_plan(job, moves))
+    /// Whether the moves are a plan, the cost table is small, and something holds of how the plan stands.
+    pub fn stands(&self, holds: impl Fn(&Standing) -> bool) -> bool {
+        let small = self.size(|size, facts| (size.length + 1) << facts <= SMALL);
+        let find = || standing(&self.domain()?, self.made()?);
+        small && self.standing.get_or_init(find).as_ref().is_some_and(holds)
     }
 
-    fn plan(&self, text: &[u8], key: u8, bound: impl Fn(&Measured) -> usize) -> Option<Plan> {
+    /// The states of the job, with the costs that are loaded; none where they are bad.
+    fn domain(&self) -> Option<Domain<'_>> {
+        let costs = match self.costs {
+            None => HOUSE_COSTS,
+            Some(costs) => costs.ok()?,
+        };
+        self.job.as_ref().map(|own| Domain::new(&own.job, costs, Fault::None))
+    }
+
+    /// Whether the job is refused by 1 for a move that has so many numbers.
+    pub fn move_of_numbers(&self, count: usize) -> bool {
+        self.formless_line.and_then(move_of).is_some_and(|numbers| numbers.len() == count)
+    }
+
+    /// Whether the job is refused by 2 for a move, and something holds of its numbers and of how many formulas there are.
+    pub fn move_out_of_range(&self, holds: impl Fn([usize; 5], usize) -> bool) -> bool {
+        self.refused_line.and_then(move_of).is_some_and(|numbers| self.of_move(numbers, holds))
+    }
+
+    /// The same of a move that is refused by 3.
+    pub fn wrong_move(&self, holds: impl Fn([usize; 5], usize) -> bool) -> bool {
+        self.wrong_line.and_then(move_of).is_some_and(|numbers| self.of_move(numbers, holds))
+    }
+
+    fn of_move(&self, numbers: Vec<usize>, holds: impl Fn([usize; 5], usize) -> bool) -> bool {
+        let formulas = number_of(&self.job_lines(), "formulas");
+        numbers.try_into().is_ok_and(|numbers| holds(numbers, formulas))
+    }
+
+    /// The lines of the job text, each with its line feed.
+    fn job_lines(&self) -> Vec<&[u8]> {
+        self.case.job.split_inclusive(|byte| *byte == b'\n').collect()
+    }
+
+    fn entries(&self, text: &[u8], key: u8, bound: impl Fn(&Measured) -> usize) -> Option<Plan> {
         let own = self.job.as_ref().filter(|own| own.compiles())?;
         Some(read_plan(text, key, bound(own)))
     }

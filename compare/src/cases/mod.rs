@@ -1,16 +1,17 @@
 //! Random cases.
 //!
 //! The mix: jobs come from the generator; 7 of 10 goals are replaced by ones that some complete run reaches. Plans are
-//! walks, walks that are cut, continued or changed, and random lists (`plans`, `walks`). In 6 of 10 cases a costs text
-//! is handed in (`costs`). In a few the least cost is above 2^32. Of each sort of text 23 in 100 are then damaged
-//! (`damage`, `fields`); a damaged text may still be a right one. `edges` says which limits a case meets, by what
-//! `look` finds in it.
+//! walks, some of them cheapest ones, walks that are cut, continued or changed, and random lists (`plans`, `walks`). In
+//! 6 of 10 cases a costs text is handed in (`costs`). In a few the least cost is above 2^32. Of each sort of text 23 in
+//! 100 are then damaged (`damage`, `fields`); a damaged text may still be a right one. `edges` says which limits a case
+//! meets, by what `look` and `made` find in it.
 
 mod costs;
 mod damage;
 pub mod edges;
 mod fields;
 mod look;
+mod made;
 mod plans;
 mod walks;
 
@@ -20,7 +21,8 @@ use crate::generator::writer::{costs_text, job_text, plan_text};
 use crate::library::{Given, COSTS_GIVEN};
 use crate::second::compiler::compile;
 use crate::second::expected::Texts;
-use crate::second::job::Job;
+use crate::second::job::{ClassCosts, Job, HOUSE_COSTS};
+use crate::second::reader::read_costs;
 use costs::{random_bits, random_costs, GREATEST_COSTS};
 use damage::damage;
 use plans::{random_plans, Plans};
@@ -68,8 +70,9 @@ impl Case {
 
     /// A case of this job, perhaps with another goal. The plans are empty where the job doesn't compile.
     fn of(random: &mut Random, mut job: Job) -> Case {
+        let (costs, bits) = (random_costs(random), random_bits(random));
         let plans = match compile(&job) {
-            Ok(compiled) => random_plans(random, &job, &compiled),
+            Ok(compiled) => random_plans(random, &job, &compiled, loaded(&costs, bits)),
             Err(_) => Plans { goal: job.goal, moves: Vec::new(), steps: Vec::new() },
         };
         job.goal = plans.goal;
@@ -78,8 +81,16 @@ impl Case {
             job: job_text(&job),
             moves: plan_text(move_key, &plans.moves),
             steps: plan_text(step_key, &plans.steps),
-            costs: random_costs(random),
-            bits: random_bits(random),
+            costs,
+            bits,
         }
+    }
+}
+
+/// The costs that are loaded where this text is right and handed in, otherwise the house's.
+fn loaded(costs: &[u8], bits: u32) -> ClassCosts {
+    match read_costs(costs) {
+        Ok(costs) if bits & COSTS_GIVEN != 0 => costs,
+        _ => HOUSE_COSTS,
     }
 }

@@ -1,17 +1,19 @@
-//! Random plans: walks through the configurations, cut, continued or changed, and lists of random entries.
+//! Random plans: walks through the configurations, cheapest ones among them, walks that are cut, continued or changed,
+//! and lists of random entries.
 
 use std::hash::Hash;
 
+use super::costs::GREATEST_COSTS;
 use super::walks::Graph;
 use crate::generator::random::Random;
 use crate::second::compiler::Compiled;
 use crate::second::domain::Domain;
 use crate::second::fault::Fault;
-use crate::second::job::{Job, HOUSE_COSTS, MOST_ENTRIES};
+use crate::second::job::{ClassCosts, Job, MOST_ENTRIES};
 use crate::second::residual::{Residual, NIL};
 use crate::second::runs::Runs;
 use crate::second::sheet::PAGE_LINES;
-use crate::second::steps::Steps;
+use crate::second::steps::{made_by, Steps};
 
 /// A goal for a job, and the entries of a list of moves and of a list of steps.
 pub struct Plans {
@@ -20,16 +22,32 @@ pub struct Plans {
     pub steps: Vec<u16>,
 }
 
-/// Random plans for a job that compiles; mostly for a goal that some complete run reaches.
-pub fn random_plans(random: &mut Random, job: &Job, compiled: &Compiled) -> Plans {
-    let domain = Domain::new(job, HOUSE_COSTS, Fault::None);
+/// Random plans for a job that compiles, by these costs; mostly for a goal that some complete run reaches. Where every
+/// class but the first costs most, more of them are as long as is allowed.
+pub fn random_plans(random: &mut Random, job: &Job, compiled: &Compiled, costs: ClassCosts) -> Plans {
+    let domain = Domain::new(job, costs, Fault::None);
     let runs = run_graph(&domain);
     let reached = if random.chance(700) { reached_goal(random, &domain, &runs) } else { None };
     let goal = reached.unwrap_or(job.goal);
     let is_goal = |state| domain.holds(goal, state);
-    let moves = random_plan(random, &runs, &is_goal, job.moves.len());
-    let steps = random_plan(random, &step_graph(&domain, compiled), &is_goal, compiled.steps.len());
+    let move_cost = |index, state| domain.cost(index, state);
+    let step_cost =
+        |number: u16, state| made_by(compiled.steps[usize::from(number)]).map_or(0, |m| move_cost(m, state));
+    let at_limit = if costs == GREATEST_COSTS { 80 } else { 10 };
+    let aim = Aim { is_goal: &is_goal, cost_of: &move_cost, entries: job.moves.len(), at_limit };
+    let moves = random_plan(random, &runs, &aim);
+    let aim = Aim { cost_of: &step_cost, entries: compiled.steps.len(), ..aim };
+    let steps = random_plan(random, &step_graph(&domain, compiled), &aim);
     Plans { goal, moves, steps }
+}
+
+/// What a plan is for: the states in which the goal holds, what an entry costs in the state before it, how many entries
+/// there are to choose from, and how likely a plan is that is as long as is allowed.
+struct Aim<'a> {
+    is_goal: &'a dyn Fn(u16) -> bool,
+    cost_of: &'a dyn Fn(u16, u16) -> u64,
+    entries: usize,
+    at_limit: usize,
 }
 
 /// A formula that holds where some run completes the program, and if possible not at first; none where no such run is
@@ -69,6 +87,7 @@ fn step_graph(domain: &Domain, compiled: &Compiled) -> Graph<u16> {
 #[derive(Clone, Copy)]
 enum PlanStyle {
     Complete,
+    Cheapest,
     Missed,
     Cut,
     Continued,
@@ -79,37 +98,34 @@ enum PlanStyle {
     AtPage,
 }
 
-/// A random plan whose entries are below a bound.
-fn random_plan<P: Copy + Eq + Hash>(
-    random: &mut Random,
-    graph: &Graph<P>,
-    is_goal: &impl Fn(u16) -> bool,
-    bound: usize,
-) -> Vec<u16> {
+/// A random plan.
+fn random_plan<P: Copy + Eq + Hash>(random: &mut Random, graph: &Graph<P>, aim: &Aim) -> Vec<u16> {
     let style = random.weighted(&[
-        (420, PlanStyle::Complete),
+        (330, PlanStyle::Complete),
+        (120, PlanStyle::Cheapest),
         (100, PlanStyle::Missed),
         (100, PlanStyle::Cut),
         (90, PlanStyle::Continued),
         (90, PlanStyle::Changed),
-        (125, PlanStyle::Random),
+        (95, PlanStyle::Random),
         (40, PlanStyle::Empty),
-        (10, PlanStyle::AtLimit),
+        (aim.at_limit, PlanStyle::AtLimit),
         (25, PlanStyle::AtPage),
     ]);
     let wander = random.ranged(&[(300, (0, 2)), (500, (3, 12)), (188, (12, 60)), (10, (60, 600)), (2, (600, 4000))]);
     match style {
-        PlanStyle::Complete => graph.walk(random, is_goal, wander),
-        PlanStyle::Missed => graph.walk(random, |state| !is_goal(state), wander),
-        PlanStyle::Random => random_list(random, wander, bound),
+        PlanStyle::Complete => graph.walk(random, aim.is_goal, wander),
+        PlanStyle::Cheapest => graph.cheapest(random, aim.is_goal, aim.cost_of),
+        PlanStyle::Missed => graph.walk(random, |state| !(aim.is_goal)(state), wander),
+        PlanStyle::Random => random_list(random, wander, aim.entries),
         PlanStyle::Empty => Vec::new(),
         PlanStyle::AtLimit | PlanStyle::AtPage => {
             let count = limit(random, style) - 1 + random.pick(&[0, 1, 1, 2]);
-            of_length(random, graph, is_goal, count, bound)
+            of_length(random, graph, aim, count)
         }
         PlanStyle::Cut | PlanStyle::Continued | PlanStyle::Changed => {
             let plan = graph.walk(random, |_| true, wander);
-            altered(random, plan, bound, style)
+            altered(random, plan, aim.entries, style)
         }
     }
 }
@@ -137,17 +153,11 @@ fn limit(random: &mut Random, style: PlanStyle) -> usize {
 }
 
 /// A plan of so many entries.
-fn of_length<P: Copy + Eq + Hash>(
-    random: &mut Random,
-    graph: &Graph<P>,
-    is_goal: &impl Fn(u16) -> bool,
-    count: usize,
-    bound: usize,
-) -> Vec<u16> {
-    let mut plan = if random.chance(700) { graph.walk_of(random, is_goal, count) } else { Vec::new() };
+fn of_length<P: Copy + Eq + Hash>(random: &mut Random, graph: &Graph<P>, aim: &Aim, count: usize) -> Vec<u16> {
+    let mut plan = if random.chance(700) { graph.walk_of(random, aim.is_goal, count) } else { Vec::new() };
     plan.truncate(count);
     let missing = count - plan.len();
-    plan.extend(random_list(random, missing, bound));
+    plan.extend(random_list(random, missing, aim.entries));
     plan
 }
 

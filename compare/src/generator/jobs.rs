@@ -157,7 +157,7 @@ pub fn two_counters(facts: u16, moves: usize, rows: Vec<Row>, random: &mut Rando
     let mut job = job_of(facts, Vec::new(), rows);
     for (from, to) in [(0, facts / 2), (facts / 2, facts)] {
         let effects = carry(&mut job, from, to);
-        job.moves.push(Move { pre: 0, class: 1 + random.below_u16(5), effects });
+        job.moves.push(Move::plain(0, 1 + random.below_u16(5), effects));
     }
     job.moves.extend(moves::flips(facts, 1, 12, random).into_iter().take(moves - 2));
     job

@@ -6,7 +6,7 @@ use crate::second::job::{Move, MOST_EFFECTS};
 
 /// A move whose effects (fact, value) have the condition formula 0, which is true.
 pub fn unconditional(pre: u16, class: u16, effects: &[(u16, u16)]) -> Move {
-    Move { pre, class, effects: effects.iter().map(|&(fact, value)| [0, fact, value]).collect() }
+    Move::plain(pre, class, effects.iter().map(|&(fact, value)| [0, fact, value]).collect())
 }
 
 /// Moves that add one to the number that the facts write, each of a class of its own: move i sets fact i where it alone
@@ -47,6 +47,13 @@ pub fn cube(facts: u16) -> Vec<Move> {
     moves
 }
 
+/// `cube`, whose moves cost more where some fact is true: extra classes 1 to 15, in turn.
+pub fn conditional(facts: u16) -> Vec<Move> {
+    let formulas = Formulas { facts };
+    let dearer = |(m, action): (u16, Move)| action.with_extra(formulas.fact((7 * m + 3) % facts), 1 + m % 15);
+    (0..).zip(cube(facts)).map(dearer).collect()
+}
+
 /// Moves of which each sets or clears one fact, at random classes from `low` to `high`.
 pub fn flips(facts: u16, low: u16, high: u16, random: &mut Random) -> Vec<Move> {
     let flip = |m: u16| {
@@ -70,7 +77,7 @@ pub fn toggles(facts: u16, random: &mut Random) -> Vec<Move> {
             let i = (m + k * 5) % facts;
             [[formulas.no(i), i, 1], [formulas.fact(i), i, 0]]
         });
-        Move { pre: 0, class: random.below_u16(16), effects: effects.collect() }
+        Move::plain(0, random.below_u16(16), effects.collect())
     };
     (0..64).map(toggle).collect()
 }
@@ -103,7 +110,7 @@ pub fn mixed(facts: u16, formulas: u16, random: &mut Random) -> Vec<Move> {
         };
         let effects = (0..count).map(|_| effect(random)).collect();
         let pre = random.below_u16(formulas);
-        moves.push(Move { pre, class, effects });
+        moves.push(Move::plain(pre, class, effects));
     }
     moves
 }

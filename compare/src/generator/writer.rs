@@ -12,7 +12,8 @@ pub fn job_text(job: &Job) -> Vec<u8> {
     text.lines("f", &job.formulas);
     text.count("moves", job.moves.len());
     for action in &job.moves {
-        text.line("m", &[action.pre, action.class, action.effects.len() as u16]);
+        let effects = action.effects.len() as u16;
+        text.line("m", &[action.pre, action.class, effects, action.extra_condition, action.extra_class]);
         text.lines("e", &action.effects);
     }
     text.line("goal", &[job.goal]);

@@ -5,7 +5,7 @@ use std::collections::BinaryHeap;
 
 use super::domain::state_count;
 use super::fault::Fault;
-use super::steps::Steps;
+use super::steps::{made_by, Steps};
 
 /// An entry that can't be reached.
 pub const UNREACHED: u64 = u64::MAX;
@@ -27,7 +27,7 @@ pub fn cost_table(steps: &Steps, fault: Fault) -> Vec<u64> {
             let Some(after) = steps.after(state, step) else {
                 continue;
             };
-            let sum = cost + steps.cost(step);
+            let sum = cost + made_by(step).map_or(0, |index| steps.domain.searched_cost(index, state));
             let reached = if fault == Fault::LowSums { sum & u64::from(u32::MAX) } else { sum };
             let entry = &mut table[index(after, step[2])];
             if reached < *entry {

@@ -1,4 +1,4 @@
-//! States, the formulas that hold in them, and the successors that moves lead to.
+//! States, the formulas that hold in them, the successors that moves lead to, and what moves cost there.
 
 use std::cell::OnceCell;
 
@@ -35,14 +35,47 @@ impl<'a> Domain<'a> {
         self.view(state).successors[usize::from(index)]
     }
 
-    /// What a move costs.
-    pub fn cost(&self, index: u16) -> u64 {
-        self.cost_by(&self.costs, index)
+    /// What a move costs that is made in a state.
+    pub fn cost(&self, index: u16, state: u16) -> u64 {
+        self.cost_by(&self.costs, index, state)
     }
 
-    /// What a move costs by these class costs.
-    pub fn cost_by(&self, costs: &ClassCosts, index: u16) -> u64 {
-        costs[usize::from(self.job.moves[usize::from(index)].class)].into()
+    /// The same by these class costs: its class, and its extra class where the condition holds in that state.
+    pub fn cost_by(&self, costs: &ClassCosts, index: u16, state: u16) -> u64 {
+        let [class, extra] = of_classes(self.action(index), costs);
+        if !self.is_dearer(index, state) {
+            return class;
+        }
+        if self.fault == Fault::ExtraForSum {
+            return extra;
+        }
+        class + extra
+    }
+
+    /// What a move costs that is made in a state, while least costs are looked for.
+    pub fn searched_cost(&self, index: u16, state: u16) -> u64 {
+        match self.fault {
+            Fault::PlainLeast => self.class_costs(index)[0],
+            _ => self.cost(index, state),
+        }
+    }
+
+    /// What the class and the extra class of a move cost.
+    pub fn class_costs(&self, index: u16) -> [u64; 2] {
+        of_classes(self.action(index), &self.costs)
+    }
+
+    /// Whether a move's extra class is added in a state, or what a fault takes for it.
+    pub fn is_dearer(&self, index: u16, state: u16) -> bool {
+        let judged = match self.fault {
+            Fault::CostAfterMove => self.successor(index, state).unwrap_or(state),
+            _ => state,
+        };
+        self.holds(self.action(index).extra_condition, judged)
+    }
+
+    fn action(&self, index: u16) -> &Move {
+        &self.job.moves[usize::from(index)]
     }
 
     /// Whether the goal holds.
@@ -104,6 +137,11 @@ impl<'a> Domain<'a> {
             _ => clear_and_set(effects),
         }
     }
+}
+
+/// What the class and the extra class of a move cost by these class costs.
+fn of_classes(action: &Move, costs: &ClassCosts) -> [u64; 2] {
+    [action.class, action.extra_class].map(|class| costs[usize::from(class)].into())
 }
 
 /// Whether effects both clear and set one fact.

@@ -50,10 +50,16 @@ pub enum Fault {
     NearestForOutermost,
     /// For a row that is used several times, the use that is read first says how many picks are around it.
     FirstUse,
+    /// Whether a move's extra class is added is judged in the state after the move.
+    CostAfterMove,
+    /// Where its condition holds, a move costs its extra class alone.
+    ExtraForSum,
+    /// The least cost and the cost table are found without extra classes.
+    PlainLeast,
 }
 
 /// The faults by their names on the command line.
-pub const FAULTS: [(&str, Fault); 23] = [
+pub const FAULTS: [(&str, Fault); 26] = [
     ("star", Fault::Star),
     ("effects", Fault::Effects),
     ("conflict-ignored", Fault::ConflictIgnored),
@@ -77,6 +83,9 @@ pub const FAULTS: [(&str, Fault); 23] = [
     ("object-order", Fault::ObjectOrder),
     ("nearest-for-outermost", Fault::NearestForOutermost),
     ("first-use", Fault::FirstUse),
+    ("cost-after-move", Fault::CostAfterMove),
+    ("extra-for-sum", Fault::ExtraForSum),
+    ("plain-least", Fault::PlainLeast),
 ];
 
 impl Fault {

@@ -50,9 +50,9 @@ impl<'a> Runs<'a> {
             let (Some(after), reached) = self.advance(state, &residuals, *index) else {
                 return Verdict::Blocked(made);
             };
+            cost += self.domain.cost(*index, state);
             residuals = self.closed(after, reached);
             state = after;
-            cost += self.domain.cost(*index);
         }
         if !residuals.contains(&NIL) {
             Verdict::Unfinished
@@ -96,6 +96,15 @@ impl<'a> Runs<'a> {
 
     /// The least cost of all allowed plans; none where there is no plan.
     pub fn least(&mut self) -> Option<u64> {
+        let domain = self.domain;
+        match self.fault {
+            Fault::HouseLeast => self.least_by(|index, state| domain.cost_by(&HOUSE_COSTS, index, state)),
+            _ => self.least_by(|index, state| domain.searched_cost(index, state)),
+        }
+    }
+
+    /// The least sum over all allowed plans of what each move costs in the state before it, by these costs.
+    pub fn least_by(&mut self, cost_of: impl Fn(u16, u16) -> u64) -> Option<u64> {
         let start = self.start();
         let mut best = Best { costs: vec![Vec::new(); state_count(self.domain.job)] };
         let mut open = BinaryHeap::from([Reverse((0, start))]);
@@ -108,7 +117,7 @@ impl<'a> Runs<'a> {
                 continue;
             }
             for (made, to) in self.next(from) {
-                let reached = cost + made.map_or(0, |index| self.searched_cost(index));
+                let reached = cost + made.map_or(0, |index| cost_of(index, from.0));
                 if best.lower(to, reached) {
                     open.push(Reverse((reached, to)));
                 } else if self.fault == Fault::FreeLoops && made.is_none() {
@@ -117,14 +126,6 @@ impl<'a> Runs<'a> {
             }
         }
         None
-    }
-
-    /// What a move costs while the least cost is looked for.
-    fn searched_cost(&self, index: u16) -> u64 {
-        if self.fault == Fault::HouseLeast {
-            return self.domain.cost_by(&HOUSE_COSTS, index);
-        }
-        self.domain.cost(index)
     }
 }
 

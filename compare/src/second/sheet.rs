@@ -12,9 +12,11 @@ const WIDTH: usize = 30;
 /// The sheet of a plan: a line for each move, and lines of spaces up to the end of the last page.
 pub fn sheet(domain: &Domain, moves: &[u16], fault: Fault) -> Vec<u8> {
     let mut lines = Vec::new();
+    let mut state = domain.job.init;
     let mut total = 0;
     for (made, index) in moves.iter().enumerate() {
-        let cost = domain.cost(*index);
+        let cost = domain.cost(*index, state);
+        state = domain.successor(*index, state).expect("each move of a plan can be made");
         let before = total;
         total += cost;
         let shown = if fault == Fault::LateTotals { before } else { total };

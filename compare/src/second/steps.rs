@@ -1,6 +1,6 @@
 //! Steps of the compiled job, and the verdict of a step list.
 
-use super::compiler::{Compiled, FAILS, HOLDS, NO_OP};
+use super::compiler::{Compiled, FAILS, HOLDS, MOVE, NO_OP};
 use super::domain::Domain;
 use super::fault::Fault;
 use super::verdict::Verdict;
@@ -42,14 +42,6 @@ impl<'a> Steps<'a> {
         }
     }
 
-    /// What a step costs.
-    pub fn cost(&self, [kind, _, _, arg]: [u16; 4]) -> u64 {
-        match kind {
-            NO_OP | HOLDS | FAILS => 0,
-            _ => self.domain.cost(arg),
-        }
-    }
-
     /// The verdict of a list of steps.
     pub fn verdict(&self, entries: &[u16], fault: Fault) -> Verdict {
         let (mut state, mut position) = (self.domain.job.init, 0);
@@ -60,8 +52,8 @@ impl<'a> Steps<'a> {
             let Some(after) = self.after(state, step).filter(|_| from == position) else {
                 return Verdict::Blocked(made);
             };
+            cost += made_by(step).map_or(0, |index| self.domain.cost(index, state));
             (state, position) = (after, to);
-            cost += self.cost(step);
         }
         if fault == Fault::LateSteps {
             position = self.slide(state, position);
@@ -80,4 +72,9 @@ impl<'a> Steps<'a> {
         let silent = |step: &[u16; 4]| step[0] == NO_OP && self.after(state, *step).is_some();
         self.from(position).map(|(_, step)| step).find(silent).map_or(position, |[_, _, to, _]| to)
     }
+}
+
+/// The move that a step makes, if any.
+pub fn made_by([kind, _, _, arg]: [u16; 4]) -> Option<u16> {
+    (kind == MOVE).then_some(arg)
 }

@@ -86,7 +86,7 @@ fn positions() {
 #[test]
 fn steps() {
     let text = |rows: &[[u16; 4]]| {
-        let free = Move { pre: 0, class: 0, effects: Vec::new() };
+        let free = Move::plain(0, 0, Vec::new());
         text_of(0, &[[1, 0, 0]], vec![free; 64], 0, rows)
     };
     let mut rows = vec![[2, 0, 0, 0], [4, 0, 0, 0], [4, 1, 1, 0], [4, 2, 2, 0], [4, 3, 3, 0]];

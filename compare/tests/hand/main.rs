@@ -1,6 +1,7 @@
 //! Expectations worked out by hand from documents 01 and 02, of the library and of the second implementation.
 
 mod both;
+mod conditional;
 mod costs;
 mod dear;
 mod edges;

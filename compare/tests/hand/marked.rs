@@ -120,7 +120,7 @@ fn judged(job: &str, moves: &[u16]) -> [u64; 3] {
 #[test]
 fn conditions_are_judged_in_the_old_state() {
     // The first effect sets fact 0, the second sets fact 1 where fact 0 holds.
-    let action = Move { pre: 0, class: 0, effects: vec![[0, 0, 1], [1, 1, 1]] };
+    let action = Move::plain(0, 0, vec![[0, 0, 1], [1, 1, 1]]);
     let job = text_of(2, &[[1, 0, 0], [2, 0, 0], [2, 1, 0]], vec![action], 2, &[[1, 0, 0, 0]]);
     assert_eq!(judged(&job, &[0]), [MISSED, 0, 0]);
 }

@@ -15,7 +15,7 @@ fn over_two(rows: &[[u16; 4]], positions: u64, list: &[[u16; 4]], table: Vec<u64
 }
 
 /// The steps of a pick of move x over two objects.
-const PICK: [[u16; 4]; 6] = [[3, 1, 2, 0], [3, 3, 4, 1], [0, 0, 1, 0], [0, 0, 3, 0], [0, 2, 5, 0], [0, 4, 5, 0]];
+pub const PICK: [[u16; 4]; 6] = [[3, 1, 2, 0], [3, 3, 4, 1], [0, 0, 1, 0], [0, 0, 3, 0], [0, 2, 5, 0], [0, 4, 5, 0]];
 
 #[test]
 #[rustfmt::skip]
@@ -43,7 +43,7 @@ fn a_pick_of_a_move() {
 #[test]
 fn the_least_over_every_object() {
     // Both moves set fact 0, the goal, move 0 at 20 and move 1 at 5.
-    let [dear, cheap] = [3, 1].map(|class| Move { pre: 0, class, effects: vec![[0, 0, 1]] });
+    let [dear, cheap] = [3, 1].map(|class| Move::plain(0, class, vec![[0, 0, 1]]));
     let job = text_of(1, &[[1, 0, 0], [2, 0, 0]], vec![dear, cheap], 1, &[[10, 0, 0, 0], [9, 0, 0, 0]]);
     let job = job.replace("objects=0", "objects=2");
     let table = vec![0, 0, X, 0, X, X, X, X, 20, X, 5, 5];
@@ -171,7 +171,7 @@ fn a_test_of_an_object() {
 /// Pick x, then any number of times pick y: move y and then move 2 + x. Four moves cost 5, 20, 12 and 30.
 #[rustfmt::skip]
 fn outer_and_inner() -> Worked {
-    let moves = [1, 3, 2, 4].map(|class| Move { pre: 0, class, effects: Vec::new() }).to_vec();
+    let moves = [1, 3, 2, 4].map(|class| Move::plain(0, class, Vec::new())).to_vec();
     let rows = [[10, 0, 0, 0], [10, 2, 1, 0], [4, 0, 1, 0], [9, 2, 0, 0], [8, 3, 0, 0], [9, 4, 0, 0]];
     let list = [
         [3, 3, 4, 0], [3, 4, 5, 2], [3, 6, 7, 1], [3, 7, 8, 2], [0, 2, 3, 0], [0, 2, 6, 0], [0, 5, 9, 0], [0, 8, 9, 0],
@@ -208,7 +208,7 @@ fn variable_0_is_of_the_nearest_pick() {
 #[test]
 fn sixteen_objects() {
     // Move k is of class 15 - k and does nothing: the last object costs nothing.
-    let moves = (0..16).map(|object| Move { pre: 0, class: 15 - object, effects: Vec::new() }).collect();
+    let moves = (0..16).map(|object| Move::plain(0, 15 - object, Vec::new())).collect();
     let job = text_of(0, &[[1, 0, 0]], moves, 0, &[[10, 0, 0, 0], [9, 0, 0, 0]]).replace("objects=0", "objects=16");
     let mut list: Vec<u16> = (0..16).flat_map(|k| [3, 2 * k + 1, 2 * k + 2, k]).collect();
     list.extend((0..16).flat_map(|k| [0, 0, 2 * k + 1, 0]));
@@ -251,7 +251,7 @@ fn a_hundred_and_twenty_seven_picks() {
 
 /// The text of a job of 64 moves that do nothing, with so many objects.
 fn free_moves(objects: u16, rows: &[[u16; 4]]) -> String {
-    let free = Move { pre: 0, class: 0, effects: Vec::new() };
+    let free = Move::plain(0, 0, Vec::new());
     text_of(0, &[[1, 0, 0]], vec![free; 64], 0, rows).replace("objects=0", &format!("objects={objects}"))
 }
 

@@ -39,7 +39,7 @@ fn forms_and_fields() {
     changed("facts=2", "facts=65536", 1, 2);
     changed("facts=2", "facts=65535", 2, 2);
     changed("facts=2", "facts=2\r", 1, 2);
-    changed("m=0,3,1", "m=9,16,17", 2, 10);
+    changed("m=0,3,1,0,0", "m=9,16,17,0,0", 2, 10);
     changed("p=4,0,1,0", "p=12,0,0,0", 3, 19);
 }
 

@@ -97,7 +97,7 @@ pub fn one_move(effects: &[[u16; 3]]) -> Worked {
 
 /// The same with a move of this class; the table is that of a move that costs 5.
 pub fn one_move_of(class: u16, effects: &[[u16; 3]]) -> Worked {
-    let action = Move { pre: 0, class, effects: effects.to_vec() };
+    let action = Move::plain(0, class, effects.to_vec());
     Worked {
         job: text_of(1, &[[1, 0, 0], [2, 0, 0]], vec![action], 1, &[[1, 0, 0, 0]]),
         costs: None,

@@ -15,7 +15,7 @@ use crate::worked::Worked;
 const EMPTY: &str = "                              \n";
 
 /// A page of these lines and others without a move.
-fn page(lines: &[&str]) -> Vec<u8> {
+pub fn page(lines: &[&str]) -> Vec<u8> {
     let page = lines.concat() + &EMPTY.repeat(60 - lines.len());
     assert_eq!(page.len(), 1860);
     page.into_bytes()
@@ -47,7 +47,7 @@ fn loaded_costs() {
 #[test]
 fn moves_of_one_and_two_digits() {
     // The star of any of 64 moves that change nothing, at classes 0 to 15 in turn.
-    let moves = (0..64).map(|index| Move { pre: 0, class: index % 16, effects: Vec::new() }).collect();
+    let moves = (0..64).map(|index| Move::plain(0, index % 16, Vec::new())).collect();
     let mut list: Vec<u16> = (0..64).flat_map(|index| [3, 1, 2, index]).collect();
     list.extend([[0, 0, 1, 0], [0, 2, 0, 0], [0, 0, 3, 0]].concat());
     let job = text_of(0, &[[1, 0, 0]], moves, 0, &[[2, 0, 0, 0], [8, 0, 0, 0]]);
@@ -105,16 +105,15 @@ fn an_output_that_is_too_short() {
 }
 
 /// With the star of the sample's moves: move 0 so many times, then move 1. The sheet has so many bytes, and these lines.
-fn has_lines(costs: Option<Vec<u8>>, zeros: usize, bytes: usize, lines: &[(usize, &str)]) {
-    let worked = Worked { costs, ..star_of_or() };
+pub fn has_lines(worked: &Worked, zeros: usize, bytes: usize, lines: &[(usize, &str)]) {
     let mut moves = vec![0; zeros];
     moves.push(1);
-    let asked = ask_sheet(&worked, &moves, worked.list.len(), bytes);
+    let asked = ask_sheet(worked, &moves, worked.list.len(), bytes);
     assert_eq!(asked.answer, Answer::accepted([LAID, bytes as u64, 0, 0, 0]));
     for (number, line) in lines {
         assert_eq!(asked.line(*number, 31), *line);
     }
-    let asked = ask_sheet(&worked, &moves, worked.list.len(), bytes - 1);
+    let asked = ask_sheet(worked, &moves, worked.list.len(), bytes - 1);
     assert_eq!(asked.answer, Answer::refused(6, bytes as u64));
     asked.holds(&[], &[]);
 }
@@ -128,21 +127,21 @@ fn sixty_moves_fill_a_page() {
         (59, "   59    0       20       1180\n"),
         (60, "   60    1        5       1185\n"),
     ];
-    has_lines(None, 59, 1860, &lines);
+    has_lines(&star_of_or(), 59, 1860, &lines);
     let lines = [(119, "  119    0       20       2380\n"), (120, "  120    1        5       2385\n")];
-    has_lines(None, 119, 3720, &lines);
+    has_lines(&star_of_or(), 119, 3720, &lines);
 }
 
 #[test]
 fn one_move_more_takes_another_page() {
     let lines =
         [(60, "   60    0       20       1200\n"), (61, "   61    1        5       1205\n"), (62, EMPTY), (120, EMPTY)];
-    has_lines(None, 60, 3720, &lines);
-    has_lines(None, 120, 5580, &[(121, "  121    1        5       2405\n"), (122, EMPTY), (180, EMPTY)]);
+    has_lines(&star_of_or(), 60, 3720, &lines);
+    has_lines(&star_of_or(), 120, 5580, &[(121, "  121    1        5       2405\n"), (122, EMPTY), (180, EMPTY)]);
 }
 
 #[test]
-fn the_longest_sheet_at_the_greatest_cost() {
+fn the_longest_sheet_at_65535_a_move() {
     let lines = [
         (1, "    1    0    65535      65535\n"),
         (999, "  999    0    65535   65469465\n"),
@@ -153,5 +152,5 @@ fn the_longest_sheet_at_the_greatest_cost() {
         (4001, EMPTY),
         (4020, EMPTY),
     ];
-    has_lines(Some(all_at(65535)), 3999, 124_620, &lines);
+    has_lines(&Worked { costs: Some(all_at(65535)), ..star_of_or() }, 3999, 124_620, &lines);
 }

@@ -1,7 +1,7 @@
 //! The cost table filled by Dijkstra's algorithm with a binary heap: plainly, or with the cells that free steps lead to
 //! on a stack beside the heap.
 
-use crate::states::{least_entry, States, Values};
+use crate::states::{least_entry, Cost, States, Values};
 use jesmovit_compare::second::compiler::{compile, Compiled, FAILS, HOLDS, NO_OP};
 use jesmovit_compare::second::costs::UNREACHED;
 use jesmovit_compare::second::reader::read_job;
@@ -14,7 +14,7 @@ struct Link {
     kind: u16,
     to: u16,
     arg: u16,
-    cost: u64,
+    cost: Cost,
 }
 
 /// Steps by the positions that they start from: those from p are `links[starts[p]..starts[p + 1]]`.
@@ -32,9 +32,9 @@ fn group(compiled: &Compiled, states: &States) -> Grouped {
         starts[p + 1] += starts[p];
     }
     let mut places = starts.clone();
-    let mut links = vec![Link { kind: 0, to: 0, arg: 0, cost: 0 }; compiled.steps.len()];
+    let mut links = vec![Link { kind: 0, to: 0, arg: 0, cost: Cost::NONE }; compiled.steps.len()];
     for &[kind, from, to, arg] in &compiled.steps {
-        let cost = if kind < 3 { 0 } else { states.cost(arg) };
+        let cost = if kind < 3 { Cost::NONE } else { states.cost(arg) };
         let place = &mut places[usize::from(from)];
         links[*place] = Link { kind, to, arg, cost };
         *place += 1;
@@ -80,7 +80,7 @@ impl<'a> Memo<'a> {
 }
 
 /// A cell and its cost in one number, which orders by cost: 8 bits of it are the position, 12 the state. No cost needs
-/// more than 36: a cell is reached over each of 1,048,576 once at most, by moves of at most 65,535.
+/// more than 37: a cell is reached over each of 1,048,576 once at most, by moves of at most 131,070.
 fn entry(cost: u64, state: u16, position: u16) -> Reverse<u64> {
     Reverse(cost << 20 | u64::from(state) << 8 | u64::from(position))
 }
@@ -98,18 +98,18 @@ fn settle<const STACK: bool>(init: u16, positions: usize, steps: &Grouped, memo:
         }
         let values = memo.values(state);
         for link in &steps.links[steps.starts[p]..steps.starts[p + 1]] {
-            let after = match link.kind {
-                NO_OP => Some(state),
-                HOLDS => values.holds(link.arg).then_some(state),
-                FAILS => (!values.holds(link.arg)).then_some(state),
-                _ => memo.successor(&values, link.arg, state),
+            let (after, more) = match link.kind {
+                NO_OP => (Some(state), 0),
+                HOLDS => (values.holds(link.arg).then_some(state), 0),
+                FAILS => ((!values.holds(link.arg)).then_some(state), 0),
+                _ => (memo.successor(&values, link.arg, state), link.cost.given(&values)),
             };
             let Some(next) = after else { continue };
             let cell = &mut table[usize::from(next) * positions + usize::from(link.to)];
-            if cost + link.cost < *cell {
-                *cell = cost + link.cost;
+            if cost + more < *cell {
+                *cell = cost + more;
                 let lowered = entry(*cell, next, link.to);
-                if STACK && link.cost == 0 {
+                if STACK && more == 0 {
                     stack.push(lowered);
                 } else {
                     heap.push(lowered);

@@ -43,6 +43,7 @@ fn largest() -> Vec<(&'static str, Job)> {
     vec![
         ("counter", job_of(12, moves::counter(12), wide())),
         ("cube", job_of(12, moves::cube(12), wide())),
+        ("conditional", job_of(12, moves::conditional(12), wide())),
         ("mixed", jobs::mixed(12, 17, wide())),
         ("tangled", jobs::tangled(12, 256, 1024, 1)),
         ("improving", job_of(12, moves::improving(12), shapes::chain(22, 44))),

@@ -95,11 +95,11 @@ fn check(compiled: &Compiled, states: &States, init: u16, plan: &[u16]) -> Verdi
         if next.marked.is_empty() {
             return Verdict::Blocked(i);
         }
+        cost += states.cost(m).given(&values);
         if after != state {
             state = after;
             values = states.values(state);
         }
-        cost += states.cost(m);
         next.close(&steps, &values);
         std::mem::swap(&mut now, &mut next);
     }

@@ -1,7 +1,7 @@
 //! What the baselines know of a job's states: formula values, successors and costs, prepared for speed.
 
 use jesmovit_compare::second::costs::UNREACHED;
-use jesmovit_compare::second::job::{Job, HOUSE_COSTS};
+use jesmovit_compare::second::job::{Job, Move, HOUSE_COSTS};
 
 /// The values of all formulas in a state, a bit each.
 #[derive(Clone, Copy, Default)]
@@ -24,9 +24,32 @@ struct Effect {
     sets: u16,
 }
 
+/// What a move costs, and what more where a condition holds.
+#[derive(Clone, Copy)]
+pub struct Cost {
+    plain: u64,
+    condition: u16,
+    extra: u64,
+}
+
+impl Cost {
+    /// Of a step that makes no move.
+    pub const NONE: Cost = Cost { plain: 0, condition: 0, extra: 0 };
+
+    fn of(action: &Move) -> Cost {
+        let by = |class: u16| HOUSE_COSTS[usize::from(class)].into();
+        Cost { plain: by(action.class), condition: action.extra_condition, extra: by(action.extra_class) }
+    }
+
+    /// The cost in a state, by the values of its formulas.
+    pub fn given(&self, values: &Values) -> u64 {
+        self.plain + if values.holds(self.condition) { self.extra } else { 0 }
+    }
+}
+
 struct Action {
     pre: u16,
-    cost: u64,
+    cost: Cost,
     effects: Vec<Effect>,
 }
 
@@ -47,7 +70,7 @@ impl States {
         };
         let actions = job.moves.iter().map(|m| Action {
             pre: m.pre,
-            cost: HOUSE_COSTS[usize::from(m.class)].into(),
+            cost: Cost::of(m),
             effects: m.effects.iter().map(effect).collect(),
         });
         States {
@@ -92,7 +115,7 @@ impl States {
         (clears & sets == 0).then_some(state & !clears | sets)
     }
 
-    pub fn cost(&self, m: u16) -> u64 {
+    pub fn cost(&self, m: u16) -> Cost {
         self.actions[usize::from(m)].cost
     }
 

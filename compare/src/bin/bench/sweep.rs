@@ -31,7 +31,7 @@ fn sweep_state(compiled: &Compiled, states: &States, state: u16, view: &View, ta
             NO_OP => (Some(state), 0),
             HOLDS => (view.values.holds(arg).then_some(state), 0),
             FAILS => ((!view.values.holds(arg)).then_some(state), 0),
-            _ => (view.successors[usize::from(arg)], states.cost(arg)),
+            _ => (view.successors[usize::from(arg)], states.cost(arg).given(&view.values)),
         };
         let Some(next) = after else { continue };
         let cell = &mut table[usize::from(next) * compiled.positions + usize::from(to)];

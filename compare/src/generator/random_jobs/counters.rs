@@ -1,6 +1,7 @@
 //! Jobs in which every state has to be passed: the facts are the digits of a binary number, and moves add one to it.
 
 use super::domains::random_move;
+use super::extras::add_extras;
 use crate::generator::jobs::{job_of, rounds};
 use crate::generator::moves::increments;
 use crate::generator::random::Random;
@@ -17,8 +18,11 @@ pub fn random_counter(random: &mut Random) -> Job {
     job
 }
 
-/// A counter of all facts, or of one less, that counts so often that its one plan has more than 65,537 moves.
+/// A counter of all facts, or of one less, that counts so often that its one plan has more than 65,537 moves; many of
+/// them cost more.
 pub fn long_counter(random: &mut Random) -> Job {
     let (facts, least) = random.pick(&[(MOST_FACTS, 17), (MOST_FACTS - 1, 33)]);
-    rounds(facts, least + random.below(3))
+    let mut job = rounds(facts, least + random.below(3));
+    add_extras(random, &mut job);
+    job
 }

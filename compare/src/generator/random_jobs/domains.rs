@@ -49,7 +49,7 @@ pub fn random_move(random: &mut Random, facts: usize, formulas: &[[u16; 3]]) -> 
         let value = u16::from(random.chance(600));
         effects.push([condition, random.below(facts) as u16, value]);
     }
-    Move { pre, class, effects }
+    Move::plain(pre, class, effects)
 }
 
 /// A number of objects for a job, mostly one for which it has moves enough.
