@@ -2,7 +2,7 @@
 -- may.
 -- Assumes nothing.
 use Prim.Native.Nat.{ℕ, _+_, _≤_, _<_}
-use mathlib.Core.Path.{_≡_}
+use mathlib.Core.Path.{_≡_, refl, sym}
 use mathlib.Core.Bool.{Bool, false, cond}
 use mathlib.Core.List.{List}
 use native.Mathlib.Omega.{arith}
@@ -11,7 +11,7 @@ use Rattle.laws.proofs.Tests.{cond-has}
 use Rattle.limits.specs.Limits.{lastClass, mostCost}
 use Rattle.job.specs.Job.{Move, moveAt}
 use Rattle.job.specs.Task.{Task, classCost, CostsWithin}
-use Rattle.job.specs.Store.{jobOf, storedCosts}
+use Rattle.job.specs.Store.{jobOf, storedCosts, taskOf}
 use Rattle.job.specs.Stored.{Stored}
 use Rattle.job.specs.declared.head.Head.{Head}
 use Rattle.job.proofs.StoredLaws.{move-count, move-fits}
@@ -22,10 +22,15 @@ module _ {head : Head} {rows : List ℕ} (s : Stored head rows) (m : ℕ) {x : M
   pub classes-within : m < domainIn head rows .moves → (x .class ≤ lastClass) × (x .extra ≤ lastClass)
   classes-within h = let f = move-fits s m (omega (arith, move-count head rows)) in rw is (f .class, f .extra)
 
-  pub cost-told : (w : ℕ) (vs : List Bool) → Tells (domainIn head rows) w vs → {own extra more : ℕ} {on : Bool} → own ≡ classCost (storedCosts rows) (x .class)
-      → extra ≡ classCost (storedCosts rows) (x .extra) → on ≡ getD vs (x .when) false → more ≡ cond on extra 0 → own + more ≡ domainIn head rows .cost m w
-  unfolding costIn
-  cost-told w vs tells own-is extra-is on-is more-is = rw (more-is, own-is, extra-is, on-is, tells (x .when), is)
+  module _ (w : ℕ) (vs : List Bool) (tells : Tells (domainIn head rows) w vs) {own extra : ℕ} (own-is : own ≡ classCost (storedCosts rows) (x .class))
+      (extra-is : extra ≡ classCost (storedCosts rows) (x .extra)) where
+    pub cost-told : {on : Bool} {more : ℕ} → on ≡ getD vs (x .when) false → more ≡ cond on extra 0 → own + more ≡ domainIn head rows .cost m w
+    unfolding costIn
+    cost-told on-is more-is = rw (more-is, own-is, extra-is, on-is, tells (x .when), is)
+
+    -- whether or not the formula holds
+    pub cost-plain : extra ≡ 0 → own ≡ domainIn head rows .cost m w
+    cost-plain free = omega (arith, cost-told refl (cond-has (λ (n : ℕ). 0 ≡ n) (getD vs (x .when) false) extra 0 (λ e. sym free) (λ e. refl)))
 
 -- two classes at the most
 pub cost-within : (t : Task) (m w : ℕ) → CostsWithin (t .costs) → costIn t m w ≤ mostCost
@@ -34,3 +39,7 @@ cost-within t m w c =
     let x : Move = moveAt (t .job) m in
     cond-has (λ (n : ℕ). classCost (t .costs) (x .class) + n ≤ mostCost) (holdsIn (t .job) (x .when) w) (classCost (t .costs) (x .extra)) 0
     (λ e. omega (arith, c (x .class), c (x .extra))) (λ e. omega (arith, c (x .class)))
+
+pub told-within : {head : Head} {rows : List ℕ} → Stored head rows → (m w : ℕ) {r : ℕ} → r ≡ domainIn head rows .cost m w
+    → (r ≡ domainIn head rows .cost m w) × (r ≤ mostCost)
+told-within {head} {rows} s m w e = (e, omega (arith, e, cost-within (taskOf head rows) m w (s .costs)))

@@ -54,5 +54,8 @@ pub fn cost(head: Head, rows: &[u16], values: &[bool], m: u16, state: u16) -> u6
     let made = job::stored::move_at(head, rows, m);
     let own = job::costs::class_cost(rows, made.class) as u64;
     let extra = job::costs::class_cost(rows, made.extra) as u64;
+    if extra == 0 {
+        return own;
+    }
     own + counted(crate::formulas::value_at(values, made.when), extra)
 }

@@ -1,7 +1,6 @@
 use native.Mathlib.Omega.{arith}
-use Rattle.job.specs.Store.{taskOf}
 use Rattle.job.proofs.StoredLaws.{move-count}
-use Rattle.domain.proofs.CostLaws.{classes-within, cost-told, cost-within}
+use Rattle.domain.proofs.CostLaws.{classes-within, cost-told, cost-plain, told-within}
 use borrow.Author.Needs.{needs}
 use Rattle.domain.proofs.moves.cost.Statement.{statement}
 use Rattle.domain.proofs.moves.cost.Tie as tie
@@ -24,19 +23,28 @@ class-cost-requires-2 c κs =
 
 returns : tie.Need-returns
 returns c =
-    let at3 = c .before .before .before in
-    let a = at3 .before .before .before .before .args in
-    let p = at3 .before .before .before .before .pre in
-    let told = cost-told (p .0 .0) (a .m) (at3 .before .move-at .ensures) (a .state) (a .values .now) (p .0 .1) (at3 .class-cost .ensures)
-    (c .before .before .class-cost2 .ensures) (c .before .value-at .ensures) (c .counted .ensures) in
-    (told, omega (arith, told, cost-within (taskOf (a .head) (a .rows .now)) (a .m) (a .state) (p .0 .0 .costs)))
+    let at2 = c .before .before in
+    let a = at2 .before .before .before .before .args in
+    let p = at2 .before .before .before .before .pre in
+    told-within (p .0 .0) (a .m) (a .state)
+    (cost-plain (p .0 .0) (a .m) (at2 .before .move-at .ensures) (a .state) (a .values .now) (p .0 .1) (at2 .class-cost .ensures)
+    (c .before .class-cost2 .ensures) (omega (arith, c .if1 .taken)))
+
+returns-2 : tie.Need-returns-2
+returns-2 c =
+    let at4 = c .before .before .before .before in
+    let a = at4 .before .before .before .before .args in
+    let p = at4 .before .before .before .before .pre in
+    told-within (p .0 .0) (a .m) (a .state)
+    (cost-told (p .0 .0) (a .m) (at4 .before .move-at .ensures) (a .state) (a .values .now) (p .0 .1) (at4 .class-cost .ensures)
+    (c .before .before .before .class-cost2 .ensures) (c .before .value-at .ensures) (c .counted .ensures))
 
 add-result : tie.Need-add-result
-add-result c = omega (arith, returns c .1)
+add-result c = omega (arith, returns-2 c .1)
 
 pub cost-spec : {M : Type 1} → statement M
 cost-spec =
     tie.close
     (tie.spec
-    move-at-requires class-cost-requires (λ c. search needs) class-cost-requires-2 (λ c. search needs) (λ c κs. search needs) (λ c κs. search needs) add-result
-    returns)
+    move-at-requires class-cost-requires (λ c. search needs) class-cost-requires-2 (λ c. search needs) returns (λ c κs. search needs) (λ c κs. search needs)
+    add-result returns-2)
