@@ -5,9 +5,9 @@
  * nothing else that it is handed. These rules are the caller's, and nothing tests them. No other is: any bytes and any lengths get their answer.
  *
  * A costs text, the line `costs=16` and a line `c=cost` for each class from 0 to 15, says what a class costs: 0 to 65,535 tenths of a second. A move costs its
- * first class, and its second one too where its formula holds before it. The text may be left out: where `given` has the bit JESMOVIT_COSTS_GIVEN it is handed
- * in, and then an empty one is refused; otherwise the house numbers hold, and the bytes of `costs` are not looked at (any pointer that is not null will do,
- * beside a length of 0). No other bit of `given` is looked at.
+ * first class, and its second one too where its formula holds before it. A costs text may be left out: where `given` has the bit JESMOVIT_COSTS_GIVEN it is
+ * handed in, and then an empty one is refused; otherwise the house numbers hold, and the bytes of `costs` are not looked at (any pointer that is not null
+ * will do, beside a length of 0). No other bit of `given` is looked at.
  *
  * Each function gives back 0, or the number of the refusal. Refusals are looked for in this order; of 1 to 3 the first bad line decides:
  *

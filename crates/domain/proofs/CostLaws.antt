@@ -1,5 +1,5 @@
--- What a move costs: its class, and where its formula holds the extra one too; no more than two classes
--- may.
+-- What a move costs: its class, and where its formula holds the second one too; at most what two classes
+-- may cost.
 -- Assumes nothing.
 use Prim.Native.Nat.{ℕ, _+_, _≤_, _<_}
 use mathlib.Core.Path.{_≡_, refl, sym}
@@ -19,26 +19,26 @@ use Rattle.domain.specs.Domain.{holdsIn, costIn, domainIn, Tells}
 
 -- of a stored task, by a move that is read and the formulas' values in the state
 module _ {head : Head} {rows : List ℕ} (s : Stored head rows) (m : ℕ) {x : Move} (is : x ≡ moveAt (jobOf head rows) m) where
-  pub classes-within : m < domainIn head rows .moves → (x .class ≤ lastClass) × (x .extra ≤ lastClass)
-  classes-within h = let f = move-fits s m (omega (arith, move-count head rows)) in rw is (f .class, f .extra)
+  pub classes-within : m < domainIn head rows .moves → (x .class ≤ lastClass) × (x .second ≤ lastClass)
+  classes-within h = let f = move-fits s m (omega (arith, move-count head rows)) in rw is (f .class, f .second)
 
-  module _ (w : ℕ) (vs : List Bool) (tells : Tells (domainIn head rows) w vs) {own extra : ℕ} (own-is : own ≡ classCost (storedCosts rows) (x .class))
-      (extra-is : extra ≡ classCost (storedCosts rows) (x .extra)) where
-    pub cost-told : {on : Bool} {more : ℕ} → on ≡ getD vs (x .when) false → more ≡ cond on extra 0 → own + more ≡ domainIn head rows .cost m w
+  module _ (w : ℕ) (vs : List Bool) (tells : Tells (domainIn head rows) w vs) {own second : ℕ} (own-is : own ≡ classCost (storedCosts rows) (x .class))
+      (second-is : second ≡ classCost (storedCosts rows) (x .second)) where
+    pub cost-told : {on : Bool} {more : ℕ} → on ≡ getD vs (x .when) false → more ≡ cond on second 0 → own + more ≡ domainIn head rows .cost m w
     unfolding costIn
-    cost-told on-is more-is = rw (more-is, own-is, extra-is, on-is, tells (x .when), is)
+    cost-told on-is more-is = rw (more-is, own-is, second-is, on-is, tells (x .when), is)
 
     -- whether or not the formula holds
-    pub cost-plain : extra ≡ 0 → own ≡ domainIn head rows .cost m w
-    cost-plain free = omega (arith, cost-told refl (cond-has (λ (n : ℕ). 0 ≡ n) (getD vs (x .when) false) extra 0 (λ e. sym free) (λ e. refl)))
+    pub cost-plain : second ≡ 0 → own ≡ domainIn head rows .cost m w
+    cost-plain free = omega (arith, cost-told refl (cond-has (λ (n : ℕ). 0 ≡ n) (getD vs (x .when) false) second 0 (λ e. sym free) (λ e. refl)))
 
 -- two classes at the most
 pub cost-within : (t : Task) (m w : ℕ) → CostsWithin (t .costs) → costIn t m w ≤ mostCost
 unfolding costIn
 cost-within t m w c =
     let x : Move = moveAt (t .job) m in
-    cond-has (λ (n : ℕ). classCost (t .costs) (x .class) + n ≤ mostCost) (holdsIn (t .job) (x .when) w) (classCost (t .costs) (x .extra)) 0
-    (λ e. omega (arith, c (x .class), c (x .extra))) (λ e. omega (arith, c (x .class)))
+    cond-has (λ (n : ℕ). classCost (t .costs) (x .class) + n ≤ mostCost) (holdsIn (t .job) (x .when) w) (classCost (t .costs) (x .second)) 0
+    (λ e. omega (arith, c (x .class), c (x .second))) (λ e. omega (arith, c (x .class)))
 
 pub told-within : {head : Head} {rows : List ℕ} → Stored head rows → (m w : ℕ) {r : ℕ} → r ≡ domainIn head rows .cost m w
     → (r ≡ domainIn head rows .cost m w) × (r ≤ mostCost)

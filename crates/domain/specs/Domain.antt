@@ -36,7 +36,7 @@ successorOf j m w =
 unfoldable pub costIn : Task → ℕ → ℕ → ℕ
 costIn t m w =
     let x = moveAt (t .job) m in
-    classCost (t .costs) (x .class) + cond (holdsIn (t .job) (x .when) w) (classCost (t .costs) (x .extra)) 0
+    classCost (t .costs) (x .class) + cond (holdsIn (t .job) (x .when) w) (classCost (t .costs) (x .second)) 0
 
 abbrev pub domainOf : Task → Domain
 domainOf t = record {

@@ -45,7 +45,7 @@ fn counted(on: bool, cost: u64) -> u64
 }
 
 // What move m costs in a state, by the formulas' values in it: its class, and where its formula holds
-// the extra one too.
+// the second one too.
 pub fn cost(head: Head, rows: &[u16], values: &[bool], m: u16, state: u16) -> u64
     requires { ⌜ Stored head (now rows) × Tells (domainIn head (now rows)) state (now values) ⌝ }
     requires { ⌜ m < domainIn head (now rows) .moves ⌝ }
@@ -53,9 +53,9 @@ pub fn cost(head: Head, rows: &[u16], values: &[bool], m: u16, state: u16) -> u6
 {
     let made = job::stored::move_at(head, rows, m);
     let own = job::costs::class_cost(rows, made.class) as u64;
-    let extra = job::costs::class_cost(rows, made.extra) as u64;
-    if extra == 0 {
+    let second = job::costs::class_cost(rows, made.second) as u64;
+    if second == 0 {
         return own;
     }
-    own + counted(crate::formulas::value_at(values, made.when), extra)
+    own + counted(crate::formulas::value_at(values, made.when), second)
 }

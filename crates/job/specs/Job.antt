@@ -10,14 +10,14 @@ pub record Formula : Type 0 where
   pub a : ℕ
   pub b : ℕ
 
--- `m=pre,class,E,formula,class`: the last two, `when` and `extra`, say where it costs more, and of which
--- class that is; its effects are E of the job's effects, from number `first` on
+-- `m=pre,class,E,formula,class`: "its first class, plus the second where the formula holds", which is
+-- `when`; its effects are E of the job's effects, from number `first` on
 pub record Move : Type 0 where
   pub pre : ℕ
   pub class : ℕ
   pub effects : ℕ
   pub when : ℕ
-  pub extra : ℕ
+  pub second : ℕ
   pub first : ℕ
 
 -- `e=cond,fact,value`
@@ -73,7 +73,7 @@ moveOf first r = record {
   class = getD r 1 0;
   effects = getD r 2 0;
   when = getD r 3 0;
-  extra = getD r 4 0;
+  second = getD r 4 0;
   first = first;
 }
 

@@ -92,7 +92,7 @@ moveIn r = record {
   class = r .class;
   effects = r .effects;
   when = r .when;
-  extra = r .extra;
+  second = r .second;
   first = r .first;
 }
 

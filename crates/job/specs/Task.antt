@@ -20,6 +20,6 @@ atHouseCosts j = record { job = j; costs = houseCosts }
 unfoldable pub classCost : List ℕ → ℕ → ℕ
 classCost costs class = getD costs class 0
 
--- no class costs more than the greatest cost
+-- no class costs more than the greatest cost of one
 abbrev pub CostsWithin : List ℕ → Type 0
 CostsWithin costs = (class : ℕ) → classCost costs class ≤ mostClassCost

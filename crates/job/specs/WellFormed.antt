@@ -26,7 +26,7 @@ pub record MoveFits (formulas : ℕ) (m : Move) : Type 0 where
   pub class : m .class ≤ lastClass
   pub effects : m .effects ≤ mostMoveEffects
   pub when : m .when < formulas
-  pub extra : m .extra ≤ lastClass
+  pub second : m .second ≤ lastClass
 
 abbrev pub MoveRows : ℕ → List Move → Type 0
 MoveRows formulas = Every (moveOf 0 []) (λ i m. MoveFits formulas m)

@@ -85,8 +85,8 @@ fn move_reason(numbers: [u16; WIDTH], counts: Counts) -> u8
         return 2;
     }
     let own = formula_and_class(numbers[0], numbers[1], counts);
-    let extra = formula_and_class(numbers[3], numbers[4], counts);
-    unless(own & extra, 3)
+    let second = formula_and_class(numbers[3], numbers[4], counts);
+    unless(own & second, 3)
 }
 
 fn effect_right(numbers: [u16; WIDTH], facts: u16, formulas: u16) -> bool

@@ -20,13 +20,13 @@ pub struct Formula {
 }
 
 // A move: its precondition and cost class, how many effects it has, the formula that says when it
-// costs an extra class too, that class, and the number of its first effect.
+// costs a second class too, that class, and the number of its first effect.
 pub struct Move {
     pub pre: u16,
     pub class: u16,
     pub effects: u16,
     pub when: u16,
-    pub extra: u16,
+    pub second: u16,
     pub first: u16,
 }
 
@@ -67,7 +67,7 @@ pub fn move_at(head: Head, rows: &[u16], i: u16) -> Move
         class: r[1],
         effects: r[EFFECT_COUNT],
         when: r[3],
-        extra: r[4],
+        second: r[4],
         first: r[FIRST_EFFECT],
     }
 }

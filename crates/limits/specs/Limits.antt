@@ -1,4 +1,4 @@
--- The limits of documents 01 and 02. `src/lib.rt` has the same numbers.
+-- The limits of documents 01 and 02. `src/lib.rt` has the same numbers, of costs that of a class.
 use Prim.Native.Nat.{ℕ, suc, _+_, _*_, _^_}
 
 -- "`facts=F`, 0 to 12"

@@ -121,13 +121,13 @@ module _ (s : Reading) (r : List ℕ) where
   row-fits Move x h f =
       let m : J.Move = moveOf (length (j .effects)) r in
       let own = formula-and-class-iff c (getD r 0 0) (getD r 1 0) .0 (and-left (formulaAndClass c (getD r 0 0) (getD r 1 0)) _ (x .1)) in
-      let extra = formula-and-class-iff c (getD r 3 0) (getD r 4 0) .0 (and-right (formulaAndClass c (getD r 0 0) (getD r 1 0)) _ (x .1)) in
+      let second = formula-and-class-iff c (getD r 3 0) (getD r 4 0) .0 (and-right (formulaAndClass c (getD r 0 0) (getD r 1 0)) _ (x .1)) in
       let e : length (j .effects) + s .effects ≡ length (j .effects) = omega (arith, h .owed .1) in
       let d : length (j .program) ≡ 0 = omega (arith, h .fit .program) in
       record {
         formula = f .formula;
         move = every-more (moveOf 0 []) (λ i m. MoveFits (length (j .formulas)) m) (j .moves) m (f .move)
-            (record { pre = own .0; class = own .1; effects = leb-true (getD r 2 0) mostMoveEffects (x .0); when = extra .0; extra = extra .1 });
+            (record { pre = own .0; class = own .1; effects = leb-true (getD r 2 0) mostMoveEffects (x .0); when = second .0; second = second .1 });
         tiled = tiled-more 0 (length (j .effects)) (j .moves) m (subst (Tiled 0 (j .moves)) e (f .tiled)) refl;
         effect = f .effect;
         row = λ i g. absurd (omega arith);

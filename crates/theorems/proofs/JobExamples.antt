@@ -15,7 +15,7 @@ reads-job : readJob
     (bytes "job=1\nfacts=1\ninit=0\nformulas=1\nf=2,0,0\nmoves=1\nm=0,3,1,0,2\ne=0,0,1\ngoal=0\nobjects=0\nprogram=1\np=1,0,0,0\n") ≡ read 12 (record {
       scalars = record { facts = 1; init = 0; goal = 0; objects = 0 };
       formulas = record { kind = 2; a = 0; b = 0 } ∷ [];
-      moves = record { pre = 0; class = 3; effects = 1; when = 0; extra = 2; first = 0 } ∷ [];
+      moves = record { pre = 0; class = 3; effects = 1; when = 0; second = 2; first = 0 } ∷ [];
       effects = record { cond = 0; fact = 0; value = 1 } ∷ [];
       program = record { kind = 1; a = 0; b = 0; c = 0 } ∷ [];
     })

@@ -35,8 +35,8 @@ abbrev caseEight : Job
 caseEight = record {
   scalars = record { facts = 2; init = 0; goal = 1; objects = 0 };
   formulas = record { kind = 1; a = 0; b = 0 } ∷ record { kind = 2; a = 0; b = 0 } ∷ record { kind = 2; a = 1; b = 0 } ∷ record { kind = 3; a = 1; b = 0 } ∷ [];
-  moves = record { pre = 0; class = 3; effects = 1; when = 0; extra = 0; first = 0 }
-      ∷ record { pre = 2; class = 1; effects = 1; when = 0; extra = 0; first = 1 } ∷ [];
+  moves = record { pre = 0; class = 3; effects = 1; when = 0; second = 0; first = 0 }
+      ∷ record { pre = 2; class = 1; effects = 1; when = 0; second = 0; first = 1 } ∷ [];
   effects = record { cond = 0; fact = 1; value = 1 } ∷ record { cond = 0; fact = 0; value = 1 } ∷ [];
   program = record { kind = 1; a = 0; b = 0; c = 0 } ∷ record { kind = 7; a = 3; b = 0; c = 0 } ∷ record { kind = 8; a = 1; b = 0; c = 0 } ∷ [];
 }

@@ -30,7 +30,7 @@ use Rattle.load.specs.View.{viewIn}
 use Rattle.load.specs.declared.request.Sort.the-variants.{Moves}
 use Rattle.jesmovit.specs.Texts.{withoutCosts}
 use Rattle.jesmovit.specs.Checking.{checking}
-use Rattle.theorems.specs.MarkedCases.{sample, dearMoveZero}
+use Rattle.theorems.specs.MarkedCases.{sample, dearMoveZero, dearMoveOne}
 
 -- the sheet of a list of moves, from the bytes of job and plan text
 abbrev sheetBy : List ℕ → String → Checked (List ℕ)
@@ -40,16 +40,18 @@ sheetBy job plan = next (viewIn (checking Moves (withoutCosts job (bytes plan)) 
 abbrev page : String → ℕ → Checked (List ℕ)
 page rows blanks = passed (bytes rows ++ flatten (replicate blanks (bytes "                              \n")))
 
--- of the sample; and, where move 0 costs 12 more while fact 0 is false, of the list 0,0,1: "the sheet prints
--- these costs"
+-- of the sample; where move 0 costs 12 more while fact 0 is false; and where move 1, which makes it true,
+-- costs 12 more once it is: "the sheet prints these costs"
 sample-sheets : (sheetBy sample "plan=2\nm=0\nm=1\n" ≡ page "    1    0       20         20\n    2    1        5         25\n" 58)
     × (sheetBy dearMoveZero "plan=3\nm=0\nm=0\nm=1\n"
     ≡ page "    1    0       32         32\n    2    0       32         64\n    3    1        5         69\n" 57)
+    × (sheetBy (dearMoveOne "m=2,1,1,1,2\n") "plan=3\nm=0\nm=1\nm=1\n"
+    ≡ page "    1    0       20         20\n    2    1        5         25\n    3    1       17         42\n" 57)
 unfolding bytes lines hasKey valueOf byteRead numbers digitsWithin lineNumbers fault classCost taken ended readFrom readJob end steps branchSteps starSteps scoped build programs fits
     fact stateWith value values anyOf gives gets conflicts factAfter affected holdsIn successorOf costIn
     entryIn countIn readEntries readLines readList jobIn taskIn textsIn loading
     column lineBytes planLinesFrom blankLine pagedLines sheetOf flatten
-sample-sheets = (refl, refl)
+sample-sheets = (refl, refl, refl)
 
 -- "an empty plan has no page"
 empty-sheet : (D : Domain) → sheetOf D [] ≡ []

@@ -151,14 +151,14 @@ move-step : (due n : ℕ) (j : J.Job) (m : J.Move) (rest : List (List ℕ)) → 
     → readFrom n (on (Of Move) (suc due) 0 j) (moveLine m ∷ rest) ≡ readFrom (n + 1)
     (on (afterRow Effect due (m .effects)) due (m .effects) (J.addMove j m)) rest
 move-step due n j m rest h f e =
-    row-line Move _ (suc due) 0 due (m .effects) n j (m .pre) (m .class ∷ m .effects ∷ m .when ∷ m .extra ∷ []) rest refl refl
-    (omega (arith, f .pre), (omega (arith, f .class), (omega (arith, f .effects), (omega (arith, f .when), (omega (arith, f .extra), tt)))))
+    row-line Move _ (suc due) 0 due (m .effects) n j (m .pre) (m .class ∷ m .effects ∷ m .when ∷ m .second ∷ []) rest refl refl
+    (omega (arith, f .pre), (omega (arith, f .class), (omega (arith, f .effects), (omega (arith, f .when), (omega (arith, f .second), tt)))))
     (le-leb _ _ (f .effects))
     (and-both (formulaAndClass (countsOf j) (m .pre) (m .class)) _ (formula-and-class-iff (countsOf j) (m .pre) (m .class) .1 (f .pre, f .class))
-    (formula-and-class-iff (countsOf j) (m .when) (m .extra) .1 (f .when, f .extra)))
+    (formula-and-class-iff (countsOf j) (m .when) (m .second) .1 (f .when, f .second)))
     (omega arith) refl
     ∙ ap (λ i. readFrom (n + 1) (on (afterRow Effect due (m .effects)) due (m .effects)
-    (J.addMove j (J.moveOf i (m .pre ∷ m .class ∷ m .effects ∷ m .when ∷ m .extra ∷ [])))) rest) (sym e)
+    (J.addMove j (J.moveOf i (m .pre ∷ m .class ∷ m .effects ∷ m .when ∷ m .second ∷ [])))) rest) (sym e)
 
 -- the moves, each with its effects
 module _ (sc : J.Scalars) (fs : List J.Formula) (few : length fs ≤ mostFormulas) where

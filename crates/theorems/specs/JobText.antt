@@ -17,7 +17,7 @@ abbrev pub formulaLine : J.Formula → List ℕ
 formulaLine f = lineOf (Of Formula) (f .kind ∷ f .a ∷ f .b ∷ [])
 
 abbrev pub moveLine : J.Move → List ℕ
-moveLine m = lineOf (Of Move) (m .pre ∷ m .class ∷ m .effects ∷ m .when ∷ m .extra ∷ [])
+moveLine m = lineOf (Of Move) (m .pre ∷ m .class ∷ m .effects ∷ m .when ∷ m .second ∷ [])
 
 abbrev pub effectLine : J.Effect → List ℕ
 effectLine e = lineOf (Of Effect) (e .cond ∷ e .fact ∷ e .value ∷ [])

@@ -46,9 +46,16 @@ sampleBy first second init goal objects program =
     ++ bytes "formulas=4\nf=1,0,0\nf=2,0,0\nf=2,1,0\nf=3,1,0\nmoves=2\n" ++ bytes first ++ bytes "e=0,1,1\n" ++ bytes second ++ bytes "e=0,0,1\n"
     ++ bytes goal ++ bytes objects ++ bytes program
 
--- "Marked cases carry formula 0 and class 0", and 0 objects
+-- the lines of its own moves: "Marked cases carry formula 0 and class 0"
+abbrev moveZero : String
+moveZero = "m=0,3,1,0,0\n"
+
+abbrev moveOne : String
+moveOne = "m=2,1,1,0,0\n"
+
+-- with these; "marked cases carry 0" objects
 abbrev pub sampleWith : String → String → String → String → List ℕ
-sampleWith = sampleBy "m=0,3,1,0,0\n" "m=2,1,1,0,0\n"
+sampleWith = sampleBy moveZero moveOne
 
 abbrev pub sample : List ℕ
 sample = sampleWith "init=0\n" "goal=1\n" "objects=0\n" "program=3\np=1,0,0,0\np=1,1,0,0\np=4,0,1,0\n"
@@ -58,7 +65,7 @@ abbrev pub starBy : String → String → String → List ℕ
 starBy first second goal = sampleBy first second "init=0\n" goal "objects=0\n" "program=4\np=1,0,0,0\np=1,1,0,0\np=6,0,1,0\np=8,2,0,0\n"
 
 abbrev pub starOfChoice : List ℕ
-starOfChoice = starBy "m=0,3,1,0,0\n" "m=2,1,1,0,0\n" "goal=1\n"
+starOfChoice = starBy moveZero moveOne "goal=1\n"
 
 -- "With star of (while formula 3 do 0), 6 positions"
 abbrev pub starOfWhile : List ℕ
@@ -168,11 +175,11 @@ pickCases =
 -- "The move's cost in a world is its first class, plus the second where the formula holds in the world
 -- before the move": rounds of either move, with these lines
 abbrev pub dearMoveZero : List ℕ
-dearMoveZero = starBy "m=0,3,1,3,2\n" "m=2,1,1,0,0\n" "goal=1\n"
+dearMoveZero = starBy "m=0,3,1,3,2\n" moveOne "goal=1\n"
 
 -- move 1 makes fact 0 true: formula 3 holds before it and not after it, formula 1 after it alone
-abbrev dearMoveOne : String → List ℕ
-dearMoveOne second = starBy "m=0,3,1,0,0\n" second "goal=1\n"
+abbrev pub dearMoveOne : String → List ℕ
+dearMoveOne line = starBy moveZero line "goal=1\n"
 
 -- move 0 costs more unless move 1 was made before it, and the goal is what move 0 does
 abbrev longerCheaper : List ℕ
@@ -189,7 +196,7 @@ conditionalCases =
     ∷ marks (dearMoveOne "m=2,1,1,1,2\n") 8 9 "plan=3\nm=0\nm=1\nm=1\n" (dearer 42 25)
     ∷ marks longerCheaper 8 9 "plan=1\nm=0\n" (dearer 65 25)
     ∷ marks longerCheaper 8 9 "plan=2\nm=1\nm=0\n" (least 25)
-    ∷ priced (marks (starBy "m=0,3,1,3,3\n" "m=2,1,1,0,0\n" "goal=1\n") 8 9 "plan=2\nm=0\nm=1\n" (least 131077)) ownCosts
+    ∷ priced (marks (starBy "m=0,3,1,3,3\n" moveOne "goal=1\n") 8 9 "plan=2\nm=0\nm=1\n" (least 131077)) ownCosts
     ∷ []
 
 -- "the judge program's table holds 6,144", "its compiled list 4,096"
