@@ -54,6 +54,7 @@ pub fn cost(head: Head, rows: &[u16], values: &[bool], m: u16, state: u16) -> u6
     let made = job::stored::move_at(head, rows, m);
     let own = job::costs::class_cost(rows, made.class) as u64;
     let second = job::costs::class_cost(rows, made.second) as u64;
+    // most moves have no second cost, and the formula is then not looked at
     if second == 0 {
         return own;
     }

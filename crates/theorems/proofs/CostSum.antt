@@ -20,12 +20,12 @@ use Rattle.semantics.proofs.PathLaws.{stateAfter}
 use Rattle.semantics.proofs.VerdictLaws.{plan-leads}
 use Rattle.domain.specs.Domain.{costIn, domainOf}
 use Rattle.compile.specs.Program.{programOf}
+use Rattle.layout.specs.declared.line.SheetLine.{SheetLine}
 use Rattle.load.specs.Refusals.{Checked, Offer}
 use Rattle.load.specs.View.{viewOf}
 use Rattle.load.specs.declared.request.Given.{Given}
 use Rattle.jesmovit.specs.Outcomes.{SizedJudgement}
 use Rattle.theorems.specs.Accepted.{AcceptedTask}
-use Rattle.layout.specs.declared.line.SheetLine.{SheetLine}
 use Rattle.theorems.specs.Decided.{Decided}
 use Rattle.theorems.specs.LaysOut.{Shows}
 use Rattle.theorems.specs.CostSum.{secondCost, CostsAlong, no-move, first-alone, with-second, PlanCosts, LeastAlong, classSum}

@@ -1,4 +1,4 @@
--- Sheets computed from the definitions: two, from the bytes of their texts, and the bytes that sheets of
+-- Sheets computed from the definitions: three, from the bytes of their texts, and the bytes that sheets of
 -- some numbers of moves have.
 -- Assumes nothing.
 use Prim.Native.Nat.{ℕ}
@@ -47,7 +47,8 @@ sample-sheets : (sheetBy sample "plan=2\nm=0\nm=1\n" ≡ page "    1    0       
     ≡ page "    1    0       32         32\n    2    0       32         64\n    3    1        5         69\n" 57)
     × (sheetBy (dearMoveOne "m=2,1,1,1,2\n") "plan=3\nm=0\nm=1\nm=1\n"
     ≡ page "    1    0       20         20\n    2    1        5         25\n    3    1       17         42\n" 57)
-unfolding bytes lines hasKey valueOf byteRead numbers digitsWithin lineNumbers fault classCost taken ended readFrom readJob end steps branchSteps starSteps scoped build programs fits
+unfolding bytes lines hasKey valueOf byteRead numbers digitsWithin lineNumbers fault classCost taken ended readFrom readJob
+    end steps branchSteps starSteps scoped build programs fits
     fact stateWith value values anyOf gives gets conflicts factAfter affected holdsIn successorOf costIn
     entryIn countIn readEntries readLines readList jobIn taskIn textsIn loading
     column lineBytes planLinesFrom blankLine pagedLines sheetOf flatten

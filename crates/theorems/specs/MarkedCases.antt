@@ -53,10 +53,11 @@ moveZero = "m=0,3,1,0,0\n"
 abbrev moveOne : String
 moveOne = "m=2,1,1,0,0\n"
 
--- with these; "marked cases carry 0" objects
+-- the same with its own moves
 abbrev pub sampleWith : String → String → String → String → List ℕ
 sampleWith = sampleBy moveZero moveOne
 
+-- of objects "marked cases carry 0"
 abbrev pub sample : List ℕ
 sample = sampleWith "init=0\n" "goal=1\n" "objects=0\n" "program=3\np=1,0,0,0\np=1,1,0,0\np=4,0,1,0\n"
 
