@@ -7,6 +7,7 @@ mod dear;
 mod edges;
 mod lengths;
 mod marked;
+mod order;
 mod pick;
 mod refusals;
 mod sample;

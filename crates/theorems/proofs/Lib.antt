@@ -11,9 +11,11 @@ pub mod Agreement
 pub mod StepPlans
 pub mod Conflicts
 pub mod Picks
+pub mod Traces
 pub mod CostSum
 pub mod TableWidths
 pub mod OneAnswer
+pub mod CheckEquation
 pub mod OneCall
 pub mod CallNumbers
 pub mod JudgedChecks

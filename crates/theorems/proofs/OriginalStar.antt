@@ -4,6 +4,7 @@
 -- Assumes nothing.
 use Prim.Native.Nat.{ℕ, _<_}
 use mathlib.Core.Path.{_≡_, refl}
+use mathlib.Core.Bool.{false}
 use mathlib.Core.List.{List, [], _∷_}
 use native.Mathlib.Omega.{arith}
 use Rattle.text.specs.Bytes.{bytes}
@@ -64,6 +65,11 @@ way-out =
     P.step (there here) (passes refl)
     (P.step here (moves-on refl) (P.step (there (there (there here))) idles (P.step (there (there (there (there here)))) idles P.stop)))
 
+-- fact 0 is false there
+goal-false : D .goal 2 ≡ false
+unfolding fact value values holdsIn
+goal-false = refl
+
 final-below : finalPosition D (star body) < 6
 unfolding end
 final-below = omega arith
@@ -92,5 +98,6 @@ original-star-fails = record {
   numbers = 1 ∷ 0 ∷ 3 ∷ 4 ∷ [];
   last = 2;
   path = way-out;
+  goal-false = goal-false;
   no-run = no-run;
 }

@@ -10,3 +10,5 @@ pub mod MarkedCases
 pub mod Printed
 pub mod LaysOut
 pub mod Picks
+pub mod Traces
+pub mod CheckEquation

@@ -2,6 +2,7 @@
 -- L′, n₂)", where the body L starts at n itself.
 use Prim.Native.Nat.{ℕ, suc}
 use mathlib.Core.Path.{_≡_}
+use mathlib.Core.Bool.{false}
 use mathlib.Core.List.{List, [], _∷_, _++_}
 use Rattle.job.specs.Job.{Job}
 use Rattle.job.specs.Task.{atHouseCosts}
@@ -39,5 +40,7 @@ pub record StarFails (text moves : List ℕ) : Type 0 where
   pub last : ℕ
   pub path : Path (houseDomain job) (originalSteps (houseDomain job) body 0) (houseDomain job .start) 0 numbers moves last
       (originalEnd (houseDomain job) body 0)
+  -- where the goal is false: "case 8 would say goal missed"
+  pub goal-false : houseDomain job .goal last ≡ false
   -- no run of the program that makes them leaves nil
   pub no-run : (t : ℕ) → Run (houseDomain job) (houseDomain job .start) (programOf job) moves t nil → ⊥
