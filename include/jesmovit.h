@@ -7,11 +7,11 @@
  * A costs text, the line `costs=16` and a line `c=cost` for each class from 0 to 15, says what a class costs: 0 to 65,535 tenths of a second. A move costs its
  * first class, and its second one too where its formula holds before it. A costs text may be left out: where `given` has the bit JESMOVIT_COSTS_GIVEN it is
  * handed in, and then an empty one is refused; otherwise the house numbers hold, and the bytes of `costs` are not looked at (any pointer that is not null
- * will do, beside a length of 0). No other bit of `given` is looked at.
+ * will do, beside a length of 0). No other bit of `given` is looked at yet; leave them 0.
  *
  * Each function gives back 0, or the number of the refusal. Refusals are looked for in this order; of 1 to 3 the first bad line decides:
  *
- *   1  a line of the job text is of wrong form, missing or extra       the place is the line, counted from 1
+ *   1  a line of the job text is of wrong form, missing or extra       the place is the line, counted from 1; one past the last for a missing one
  *   2  a count, or init, is outside its range                          the line
  *   3  a kind, reference, class, value or unused field is wrong        the line
  *   8  a variable of the program has too few enclosing picks           the last job line
@@ -28,8 +28,9 @@
  * The list, where there is one, is filled whenever nothing is refused: four numbers for each step of the compiled job, its kind (0 no-op, 1 formula arg
  * holds, 2 formula arg doesn't hold, 3 move arg), the positions that it leads from and to, and its arg. 4,096 numbers are enough for every job. The cost
  * table is filled by jesmovit_least_cost, and by jesmovit_judge for a plan: at state * positions + position the least cost of reaching it, in tenths of a
- * second, or JESMOVIT_UNREACHED. 1,048,576 numbers of 64 bits, 8 MB, are enough for every job. The output of jesmovit_sheet is written for a plan alone;
- * 124,620 bytes are enough for every plan. Numbers and bytes behind the filled ones keep what they held.
+ * second, or JESMOVIT_UNREACHED. A state is the sum of 2^i for each fact i that is true; jesmovit_compile and jesmovit_judge answer how many positions and
+ * steps there are. 1,048,576 numbers of 64 bits, 8 MB, are enough for every job. The output of jesmovit_sheet is written for a plan alone; 124,620 bytes are
+ * enough for every plan. Numbers and bytes behind the filled ones keep what they held.
  *
  * Tables once had numbers of 32 bits, under the same names of functions. A caller of then compiles anew with this header, and one that has declarations of its
  * own, in C or another language, changes them: the numbers of a table take twice the bytes, and nothing notices an old declaration.

@@ -1,4 +1,4 @@
-//! The library under test, by its C header.
+//! The library under test, declared as its C header declares it.
 
 use crate::answer::Answer;
 
