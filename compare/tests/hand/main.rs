@@ -5,6 +5,7 @@ mod conditional;
 mod costs;
 mod dear;
 mod edges;
+mod kinds;
 mod lengths;
 mod marked;
 mod order;
