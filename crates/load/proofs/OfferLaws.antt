@@ -48,8 +48,8 @@ module _ (r : Request) (plan rows entries : List ℕ) (job : LoadedJob) (m : Mea
       ap (λ (x : Bool). cond x (offered t (readPlan (keyFor (r .sort)) (boundFor (r .sort) (t .job)) plan)) (passed alone)) (sym f)
 
   -- no plan text
-  pub plan-none : r .plan ≡ false → Post (Loaded.Ready job)
-  plan-none f = (
+  pub offer-none : r .plan ≡ false → Post (Loaded.Ready job)
+  offer-none f = (
     ap (λ (n : ℕ). passed (record { task = t; entries = take n entries })) (m .1) ∙ by-plan f,
     (m .0, omega (arith, m .1)),
   )
@@ -61,16 +61,16 @@ module _ (r : Request) (plan rows entries : List ℕ) (job : LoadedJob) (m : Mea
         ap (offered t) (sym e ∙ read .0 ∙ ap (λ (b : ℕ). readPlan (keyFor (r .sort)) b plan) (bound-of (r .sort) (job .head) rows d (m .0 .steps)))
         ∙ by-plan f
 
-    pub plan-refused : {line : ℕ} {q : Refusal} → p ≡ ListAnswer.Refused line → q ≡ listRefusal p 5 → Post (Loaded.Refused q)
-    plan-refused k e = (
+    pub offer-refused : {line : ℕ} {q : Refusal} → p ≡ ListAnswer.Refused line → q ≡ listRefusal p 5 → Post (Loaded.Refused q)
+    offer-refused k e = (
       ap (λ (x : Refusal). refused (x .number) (x .place)) (e ∙ ap (λ (x : ListAnswer). listRefusal x 5) k)
           ∙ offers (ap (λ (x : ListAnswer). listedAs x entries) k),
       tt,
     )
 
-    pub plan-ready : {n : ℕ} → p ≡ ListAnswer.Read n
+    pub offer-ready : {n : ℕ} → p ≡ ListAnswer.Read n
         → Post (Loaded.Ready (record { head = job .head; sizes = job .sizes; states = job .states; entries = n }))
-    plan-ready k =
+    offer-ready k =
         let s = m .0 in (
           offers (ap (λ (x : ListAnswer). listedAs x entries) k),
           (record { stored = s .stored; scoped = s .scoped; fit = s .fit; positions = s .positions; steps = s .steps; states = s .states }, rw k at (read .1)),

@@ -18,7 +18,7 @@ use Rattle.semantics.proofs.Compiled.{compiled}
 use Rattle.semantics.proofs.OneVerdict.{same-verdict}
 use Rattle.semantics.proofs.VerdictLaws.{byPaths, verdicts-agree}
 use Rattle.semantics.proofs.Reach.{Reach}
-use Rattle.semantics.proofs.FirstSet.{first-ready, first-reach}
+use Rattle.semantics.proofs.FirstSet.{first-settled, first-reach}
 use Rattle.semantics.proofs.SetVerdict.{bySet, set-judged}
 
 module _ (D : Domain) (σ : Program) where
@@ -44,5 +44,5 @@ module _ (D : Domain) (σ : Program) where
     pub verdict-by-judged : (ms : List ℕ) → Judged D (byRuns D σ) ms (verdictBy n D σ ms)
     unfolding verdictBy bySet byPaths
     verdict-by-judged ms =
-        let j = set-judged D L (finalPosition D σ) ms first (first-ready D L n (D .start) (omega arith) inside) in
+        let j = set-judged D L (finalPosition D σ) ms first (first-settled D L n (D .start) (omega arith) inside) in
         verdicts-agree D σ ms _ .1 (same-verdict D (bySet D L (finalPosition D σ) first) (byPaths D σ) ms (λ ks u. set-partial-path) (λ ks u. set-path) refl j)

@@ -25,18 +25,18 @@ onward-verdict D k (is-blocked {i} h y f) = is-blocked {i = suc i} (omega arith)
 onward-verdict D k (is-unfinished y f) = is-unfinished (k .made _ _ .0 y) (λ t z. f t (k .completed _ _ .1 z))
 onward-verdict D k (is-missed y g) = is-missed (k .completed _ _ .0 y) g
 
-module _ (M : Machine) (Ready : M .Config → Type 0) (E : M .Config → Entries) where
+module _ (M : Machine) (Settled : M .Config → Type 0) (E : M .Config → Entries) where
   -- what comes of a first entry x from c
   pub data Takes (c : M .Config) (x : ℕ) : Option (Arrival (M .Config)) → Type 0 where
     stuck : ((u : ℕ) → E c .Made (x ∷ []) u → ⊥) → Takes c x none
-    goes : {a : Arrival (M .Config)} → Ready (a .to) → GoesOn (E c) (E (a .to)) x (a .cost) → Takes c x (some a)
+    goes : {a : Arrival (M .Config)} → Settled (a .to) → GoesOn (E c) (E (a .to)) x (a .cost) → Takes c x (some a)
 
   -- configurations that are ready stand for entries: E c is what lists of entries do from c
   pub record StandsFor : Type 0 where
-    pub made : (c : M .Config) → Ready c → E c .Made [] (M .state c)
-    pub completed : (c : M .Config) (u : ℕ) → Ready c → E c .Completed [] u ↔ ((u ≡ M .state c) × (M .complete c ≡ true))
+    pub made : (c : M .Config) → Settled c → E c .Made [] (M .state c)
+    pub completed : (c : M .Config) (u : ℕ) → Settled c → E c .Completed [] u ↔ ((u ≡ M .state c) × (M .complete c ≡ true))
     pub free : (c : M .Config) → E c .costOf [] ≡ 0
-    pub takes : (c : M .Config) (x : ℕ) → Ready c → Takes c x (M .take c x)
+    pub takes : (c : M .Config) (x : ℕ) → Settled c → Takes c x (M .take c x)
 
 module _ (D : Domain) (M : Machine) (c : M .Config) (x : ℕ) (xs : List ℕ) where
   pub verdict-blocked : M .take c x ≡ none → verdictFrom D M c (x ∷ xs) ≡ blocked 0
@@ -47,18 +47,18 @@ module _ (D : Domain) (M : Machine) (c : M .Config) (x : ℕ) (xs : List ℕ) wh
   unfolding verdictFrom
   verdict-onward a h = rw (h, verdictFrom)
 
-module _ (D : Domain) (M : Machine) (Ready : M .Config → Type 0) (E : M .Config → Entries) (law : StandsFor M Ready E) where
-  judged-end : (c : M .Config) (a b : Bool) → Ready c → M .complete c ≡ a → D .goal (M .state c) ≡ b → Judged D (E c) [] (finished a b)
+module _ (D : Domain) (M : Machine) (Settled : M .Config → Type 0) (E : M .Config → Entries) (law : StandsFor M Settled E) where
+  judged-end : (c : M .Config) (a b : Bool) → Settled c → M .complete c ≡ a → D .goal (M .state c) ≡ b → Judged D (E c) [] (finished a b)
   unfolding finished
   judged-end c true true r m g = rw (← law .free c) (is-plan {u = M .state c} (law .completed c _ r .1 (refl, m)) g)
   judged-end c true false r m g = is-missed {u = M .state c} (law .completed c _ r .1 (refl, m)) g
   judged-end c false b r m g = is-unfinished {u = M .state c} (law .made c r) (λ t y. never (cc (law .completed c t r .0 y .1)))
 
-  pub machine-judged : (es : List ℕ) (c : M .Config) → Ready c → Judged D (E c) es (verdictFrom D M c es)
+  pub machine-judged : (es : List ℕ) (c : M .Config) → Settled c → Judged D (E c) es (verdictFrom D M c es)
   machine-judged [] c r = unfold verdictFrom in judged-end c (M .complete c) (D .goal (M .state c)) r refl refl
-  machine-judged (x ∷ es) c r = by (M .take c x) refl (law .takes c x r) (λ (d : M .Config) (k : Ready d). machine-judged es d k)
+  machine-judged (x ∷ es) c r = by (M .take c x) refl (law .takes c x r) (λ (d : M .Config) (k : Settled d). machine-judged es d k)
     where
-      by : (o : Option (Arrival (M .Config))) → M .take c x ≡ o → Takes M Ready E c x o
-          → ((d : M .Config) → Ready d → Judged D (E d) es (verdictFrom D M d es)) → Judged D (E c) (x ∷ es) (verdictFrom D M c (x ∷ es))
+      by : (o : Option (Arrival (M .Config))) → M .take c x ≡ o → Takes M Settled E c x o
+          → ((d : M .Config) → Settled d → Judged D (E d) es (verdictFrom D M d es)) → Judged D (E c) (x ∷ es) (verdictFrom D M c (x ∷ es))
       by none h (stuck f) rest = rw (verdict-blocked D M c x es h) (is-blocked {i = 0} {u = M .state c} (omega arith) (law .made c r) f)
       by (some a) h (goes k f) rest = rw (verdict-onward D M c x es a h) (onward-verdict D f (rest (a .to) k))

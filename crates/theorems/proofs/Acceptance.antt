@@ -61,10 +61,10 @@ module _ (text : List ℕ) (j : Job) where
     job-passes,
   )
 
-key-plain : (s : Sort) → plain (keyFor s) ≡ true
+entry-key-plain : (s : Sort) → plain (keyFor s) ≡ true
 unfolding bytes
-key-plain Moves = refl
-key-plain Steps = refl
+entry-key-plain Moves = refl
+entry-key-plain Steps = refl
 
 -- of a plan text: reason 5
 module _ (sort : Sort) (j : Job) (plan entries : List ℕ) where
@@ -74,7 +74,7 @@ module _ (sort : Sort) (j : Job) (plan entries : List ℕ) where
     bound-small Steps = omega (arith, accepted .steps)
 
     pub plan-iff : (readPlan (keyFor sort) (boundFor sort j) plan ≡ listed entries) ↔ AcceptedPlan sort j plan entries
-    plan-iff = plan-text-iff (keyFor sort) (boundFor sort j) plan entries (key-plain sort) (bound-small sort)
+    plan-iff = plan-text-iff (keyFor sort) (boundFor sort j) plan entries (entry-key-plain sort) (bound-small sort)
 
 -- of a job text and a costs text: reasons 1 to 4, 8 and 7
 module _ (g : Given) (text costs : List ℕ) (t : Task) where

@@ -1,4 +1,4 @@
-use Rattle.load.proofs.OfferLaws.{plan-none, plan-refused, plan-ready}
+use Rattle.load.proofs.OfferLaws.{offer-none, offer-refused, offer-ready}
 use borrow.Author.Needs.{needs}
 use Rattle.load.proofs.offer.load_plan.Statement.{statement}
 use Rattle.load.proofs.offer.load_plan.Tie as tie
@@ -19,7 +19,7 @@ returns c =
     let at7 = at5 .before .before in
     let at9 = at7 .before .before in
     let at13 = at9 .before .before .before .before in
-    plan-refused (at13 .args .request) (at13 .args .plan .now) (at13 .args .rows .now) _ (at13 .args .job) (at13 .pre .0) (at9 .if1 .taken)
+    offer-refused (at13 .args .request) (at13 .args .plan .now) (at13 .args .rows .now) _ (at13 .args .job) (at13 .pre .0) (at9 .if1 .taken)
     (at7 .move-count .ensures)
     (at5 .read-plan .result) (at5 .read-plan .ensures) (c .before .enum-told .given .1) (c .list-refusal .ensures)
 
@@ -29,14 +29,14 @@ returns-2 c =
     let at7 = at5 .before .before in
     let at9 = at7 .before .before in
     let at13 = at9 .before .before .before .before in
-    plan-ready (at13 .args .request) (at13 .args .plan .now) (at13 .args .rows .now) _ (at13 .args .job) (at13 .pre .0) (at9 .if1 .taken)
+    offer-ready (at13 .args .request) (at13 .args .plan .now) (at13 .args .rows .now) _ (at13 .args .job) (at13 .pre .0) (at9 .if1 .taken)
     (at7 .move-count .ensures)
     (at5 .read-plan .result) (at5 .read-plan .ensures) (c .before .read .given .1)
 
 returns-3 : tie.Need-returns-3
 returns-3 c =
     let at4 = c .before .before .before .before in
-    plan-none (at4 .args .request) (at4 .args .plan .now) (at4 .args .rows .now) (at4 .args .entries .now) (at4 .args .job) (at4 .pre .0) (c .if1 .left)
+    offer-none (at4 .args .request) (at4 .args .plan .now) (at4 .args .rows .now) (at4 .args .entries .now) (at4 .args .job) (at4 .pre .0) (c .if1 .left)
 
 pub load-plan-spec : {M : Type 1} → statement M
 load-plan-spec =
