@@ -69,7 +69,7 @@ module _ {g : ℕ → List Step} {count : ℕ} {old : List ℕ} {at : ℕ} where
         → CopiesOver g count old at (k + 1) new after
     copies-more h e q x = record { few = omega (arith, h); size = q ∙ l .size; laid = laid-copy g k e (l .laid) x }
 
-    pub copies-all : count ≤ k → CopiesOver g count old at count list next
+    copies-all : count ≤ k → CopiesOver g count old at count list next
     copies-all h = let e : k ≡ count = omega (arith, h, l .few) in subst (λ (n : ℕ). CopiesOver g count old at n list next) e l
 
 -- one step for each

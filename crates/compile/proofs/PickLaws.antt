@@ -103,7 +103,7 @@ module _ {c : Counts} {env : List ℕ} {σ : Program} {from : Cursor} {places : 
 
   -- after all copies
   module _ {old list : List ℕ} {last : Cursor} (same : length old ≡ places) (some : 0 < O) (k : CopiesLaid c env σ old from O list last) where
-    pub apart-is : (last .position - (n + 1)) / O ≡ apart c σ
+    apart-is : (last .position - (n + 1)) / O ≡ apart c σ
     apart-is =
         let e : last .position - (n + 1) ≡ apart c σ * O = omega (arith, k .ends, starts-at c σ n O) in
         ap (λ (x : ℕ). x / O) e ∙ mul-div-cancel (apart c σ) some

@@ -192,7 +192,7 @@ module _ (c : Counts) where
       pub steps-of : Tabled (λ k. capped (of k .steps)) i steps
 
     module _ {i : ℕ} {positions steps : List ℕ} (s : Listed i positions steps) where
-      pub listed-at : (k : ℕ) → k < i → listed positions steps k ≡ cappedSizes (of k)
+      listed-at : (k : ℕ) → k < i → listed positions steps k ≡ cappedSizes (of k)
       listed-at k h = ap₂ sized (s .positions-of k h) (s .steps-of k h)
 
       row-capped : (r : Construct) → Refers i r → cappedSizes (sizesIn c (listed positions steps) r) ≡ cappedSizes (sizesIn c of r)

@@ -22,7 +22,7 @@ use Rattle.domain.proofs.StateLaws.{state-only, state-same, facts-decid
 use Rattle.domain.proofs.ValueLaws.{Same}
 
 module _ {A : Type 0} (p : A → Bool) where
-  pub any-append : (k l : List A) → anyOf p (k ++ l) ≡ anyOf p k || anyOf p l
+  any-append : (k l : List A) → anyOf p (k ++ l) ≡ anyOf p k || anyOf p l
   unfolding anyOf
   any-append [] l = refl
   any-append (a ∷ k) l = rw (any-append k l) (sym (or-assoc (p a) (anyOf p k) (anyOf p l)))

@@ -59,7 +59,7 @@ module _ {h : Head} {l : List ℕ} (s : Stored h l) where
 
   module _ (i : ℕ) where
     -- what a formula and a program row refer to
-    pub formula-within : i < h .counts .formulas
+    formula-within : i < h .counts .formulas
         → Within (beforeFormula (h .counts .facts) i) (getD formulaFields (formulaAt (jobOf h l) i .kind) [])
         (formulaAt (jobOf h l) i .a ∷ formulaAt (jobOf h l) i .b ∷ [])
     formula-within g = s .job .formula i (omega (arith, formula-count h l))

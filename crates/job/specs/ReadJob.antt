@@ -42,7 +42,7 @@ again Move = Move
 again Effect = Move
 again Row = Row
 
--- "formulas=N, then N lines"; "Each is a line m=.. followed by its E lines"; "program=P, then P
+-- "`formulas=N` … then N lines"; "Each is a line … followed by its E lines"; "`program=P` … then P
 -- lines"
 abbrev pub afterRow : RowSort → ℕ → ℕ → Line
 afterRow k due effects = cond (eqb effects 0) (cond (eqb due 0) (past k) (Of (again k))) (Of Effect)

@@ -2,17 +2,15 @@
 // job's program allows, each text in the file that its argument names (job.txt and plan.txt without
 // one), or the refusal. Without COSTS, or with `-`, the house's class costs hold.
 use limits::LIST;
+use limits::PROGRAM_TABLE;
 use load::request::Given;
-
-// How many numbers the cost table holds.
-const TABLE: usize = 6144;
 
 fn main() {
     let mut text = io::large_buffer();
     let mut plan = io::large_buffer();
     let mut costs = io::large_buffer();
     let mut list = [0u16; LIST];
-    let mut table = [0u64; TABLE];
+    let mut table = [0u64; PROGRAM_TABLE];
     let mut out = io::large_buffer();
     let got = console::texts::read_texts(&mut text, &mut plan, &mut costs);
     let n = got.job;

@@ -32,11 +32,11 @@ pub record Laying (first : ℕ) (all rest : List (List ℕ)) (old out : List ℕ
   pub laid : sets out (i * lineSize) (flatten rest) ≡ sets old (first * lineSize) (flatten all)
   pub count : i + length rest ≡ first + length all
 
-pub laying-start : (first : ℕ) (all : List (List ℕ)) (old : List ℕ) → Laying first all all old old first
+laying-start : (first : ℕ) (all : List (List ℕ)) (old : List ℕ) → Laying first all all old old first
 laying-start first all old = record { size = refl; laid = refl; count = refl }
 
 -- one line
-pub laying-more : {first i : ℕ} {all : List (List ℕ)} {old out new : List ℕ} (l : List ℕ) (rest : List (List ℕ)) → Laying first all (l ∷ rest) old out i
+laying-more : {first i : ℕ} {all : List (List ℕ)} {old out new : List ℕ} (l : List ℕ) (rest : List (List ℕ)) → Laying first all (l ∷ rest) old out i
     → WholeLine l → new ≡ sets out (i * lineSize) l → Laying first all rest old new (i + 1)
 unfolding flatten
 laying-more {first} {i} {out = out} {new} l rest x h e =
@@ -47,7 +47,7 @@ laying-more {first} {i} {out = out} {new} l rest x h e =
       count = omega (arith, x .count);
     }
 
-pub laying-end : {first i : ℕ} {all : List (List ℕ)} {old out : List ℕ} → Laying first all [] old out i
+laying-end : {first i : ℕ} {all : List (List ℕ)} {old out : List ℕ} → Laying first all [] old out i
     → (out ≡ sets old (first * lineSize) (flatten all)) × (i ≡ first + length all)
 unfolding flatten
 laying-end x = (x .laid, omega (arith, x .count))

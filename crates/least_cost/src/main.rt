@@ -2,16 +2,14 @@
 // there is none, each text in the file that its argument names (job.txt without one), or the
 // refusal. Without COSTS, or with `-`, the house's class costs hold.
 use limits::LIST;
+use limits::PROGRAM_TABLE;
 use load::request::Given;
-
-// How many numbers the cost table holds.
-const TABLE: usize = 6144;
 
 fn main() {
     let mut text = io::large_buffer();
     let mut costs = io::large_buffer();
     let mut list = [0u16; LIST];
-    let mut table = [0u64; TABLE];
+    let mut table = [0u64; PROGRAM_TABLE];
     let mut out = io::large_buffer();
     let got = console::texts::read_job_texts(&mut text, &mut costs);
     let n = got.job;

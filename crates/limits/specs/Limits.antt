@@ -57,3 +57,7 @@ mostSteps = 1024
 -- "`plan=K`, K from 0 to 4,000"
 abbrev pub mostEntries : ℕ
 mostEntries = 4000
+
+-- "the judge program's table holds 6,144"
+abbrev pub programTable : ℕ
+programTable = 6144

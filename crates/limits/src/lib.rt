@@ -35,3 +35,6 @@ pub const LIST: usize = STEPS * 4;
 
 // Entries of a plan.
 pub const ENTRIES: usize = 4000;
+
+// Numbers of the judge program's cost table.
+pub const PROGRAM_TABLE: usize = 6144;

@@ -36,7 +36,7 @@ counts-are c e = rw e
 -- there are no more rows of a sort than it has room for, and where a row's line comes next there is
 -- room for it
 module _ {due effects : ℕ} {c : Counts} where
-  pub rows-within : {next : Line} → Room next due effects c → Limited c
+  rows-within : {next : Line} → Room next due effects c → Limited c
   rows-within h = record {
     facts = h .facts;
     formulas = omega (arith, h .fit .formulas);

@@ -24,7 +24,7 @@ both b k rest true e h = (eqb-true b k e, h)
 both b k rest false e h = never h
 
 -- a line that has a key begins with it and an equals sign
-pub key-front : (k l : List ℕ) → hasKey k l ≡ true → l ≡ k ++ (61 ∷ drop (length k + 1) l)
+key-front : (k l : List ℕ) → hasKey k l ≡ true → l ≡ k ++ (61 ∷ drop (length k + 1) l)
 unfolding hasKey
 key-front [] [] e = never e
 key-front [] (b ∷ l) e = rw (eqb-true b 61 e)
@@ -34,7 +34,7 @@ key-front (k ∷ ks) (b ∷ l) e =
     let n : suc (length ks) + 1 ≡ suc (length ks + 1) = omega arith in
     rw (h .0, n) (ap (λ r. k ∷ r) (key-front ks l (h .1)))
 
-pub key-has : (k v : List ℕ) → hasKey k (k ++ (61 ∷ v)) ≡ true
+key-has : (k v : List ℕ) → hasKey k (k ++ (61 ∷ v)) ≡ true
 unfolding hasKey
 key-has [] v = refl
 key-has (k ∷ ks) v = rw (eq-eqb k k refl) (key-has ks v)

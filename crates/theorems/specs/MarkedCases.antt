@@ -3,7 +3,7 @@ use Prim.Native.Nat.{ℕ, _*_}
 use Prim.Native.String.{String}
 use mathlib.Core.Path.{_≡_}
 use mathlib.Core.List.{List, [], _∷_, _++_}
-use Rattle.limits.specs.Limits.{mostSteps}
+use Rattle.limits.specs.Limits.{mostSteps, programTable}
 use Rattle.text.specs.Bytes.{bytes}
 use Rattle.semantics.specs.Verdict.{blocked, unfinished, missed}
 use Rattle.semantics.specs.Judgement.{Judgement, least, dearer, other, Finds}
@@ -202,7 +202,7 @@ conditionalCases =
 
 -- "the judge program's table holds 6,144", "its compiled list 4,096"
 abbrev pub handedByProgram : Texts → Handed
-handedByProgram texts = judging texts (mostSteps * 4) 6144
+handedByProgram texts = judging texts (mostSteps * 4) programTable
 
 -- nothing is refused, the compiled job has these sizes, and this is what the judge finds: by the
 -- program's own runs, and by all allowed plans of whatever length

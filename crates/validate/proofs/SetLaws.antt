@@ -21,7 +21,7 @@ use Rattle.validate.specs.Positions.{Counted, old, new, Followed}
 use Rattle.validate.proofs.MarkLaws.{mark-new}
 
 -- no position
-pub empty-counted : (ms : List ℕ) → length ms ≡ mostPositions → Counted (replicate mostPositions false) ms 0
+empty-counted : (ms : List ℕ) → length ms ≡ mostPositions → Counted (replicate mostPositions false) ms 0
 empty-counted ms e = record {
   size = length-replicate mostPositions false;
   room = e;
