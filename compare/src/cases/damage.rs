@@ -3,8 +3,8 @@
 use super::fields::{change_fields, change_move, change_variable};
 use crate::generator::random::Random;
 
-/// Bytes that take another's place.
-const BYTES: &[u8] = b"0123456789,,==\n\n\r\t -+.\0\xffmtfepjcx";
+/// Bytes that take another's place; a slash and a colon stand beside the digits.
+const BYTES: &[u8] = b"0123456789/:,,==\n\n\r\t -+.\0\xffmtfepjcx";
 
 /// Numbers at the edges of ranges and forms.
 #[rustfmt::skip]

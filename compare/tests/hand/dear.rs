@@ -142,6 +142,18 @@ fn choices_above_32_bits() {
 }
 
 #[test]
+fn a_way_above_32_bits_beside_a_cheaper_one() {
+    // 17 rounds, or two: 4,563,333,120, of which the lower 32 bits are 268,365,824, or 536,862,720. Row 3 is one round.
+    let mut job = rounds(12, 17);
+    let all = job.rows.len() as u16 - 1;
+    job.rows.extend([[4, 3, 3, 0], [6, all, all + 1, 0]]);
+    let (text, costs) = (job_text(&job), all_at(65535));
+    let handed = Handed { job: &text, plan: b"", costs: Some(&costs) };
+    let asked = ask_with(Operation::LeastCost, handed, 4096, 4096 * 80);
+    assert_eq!(asked.answer, Answer::accepted([COSTS, 536_862_720, 0, 0, 0]));
+}
+
+#[test]
 fn a_judged_table_above_32_bits() {
     // 17 rounds from position 1 to 69, or nil from 70 to 71; both lead to 72, nil at cost 0. The empty plan takes nil.
     let mut job = rounds(12, 17);

@@ -168,6 +168,29 @@ fn a_test_of_an_object() {
     worked.costs([COSTS, 5]);
 }
 
+#[test]
+#[rustfmt::skip]
+fn a_test_of_the_outer_object() {
+    // Pick x, then pick y: that fact x is true, then move y. Fact 1 alone is true at first, so x is 1, and y is either.
+    let list = [
+        [1, 2, 3, 1], [3, 3, 4, 0], [1, 5, 6, 1], [3, 6, 7, 1], [0, 1, 2, 0], [0, 1, 5, 0], [0, 4, 8, 0], [0, 7, 8, 0],
+        [1, 10, 11, 2], [3, 11, 12, 0], [1, 13, 14, 2], [3, 14, 15, 1],
+        [0, 9, 10, 0], [0, 9, 13, 0], [0, 12, 16, 0], [0, 15, 16, 0],
+        [0, 0, 1, 0], [0, 0, 9, 0], [0, 8, 17, 0], [0, 16, 17, 0],
+    ];
+    let mut table = vec![X; 2 * 18];
+    table.extend([0, 0, 0, X, X, 0, X, X, X, 0, 0, 0, 20, 0, 0, X, 20, 20]);
+    table.extend([X; 15]);
+    table.extend([5; 3]);
+    let rows = [[11, 1, 1, 0], [10, 0, 0, 0], [4, 0, 1, 0], [9, 2, 0, 0], [9, 3, 0, 0]];
+    let mut worked = over_two(&rows, 18, &list, table);
+    worked.job = worked.job.replace("init=0", "init=2");
+    worked.compiles();
+    worked.judges(&[0], [MISSED, 0, 0]);
+    worked.judges(&[1], [LEAST, 5, 5]);
+    worked.costs([COSTS, 5]);
+}
+
 /// Pick x, then any number of times pick y: move y and then move 2 + x. Four moves cost 5, 20, 12 and 30.
 #[rustfmt::skip]
 fn outer_and_inner() -> Worked {
