@@ -34,7 +34,7 @@ pub const EDGES: [Edge; 99] = [
     }),
     ("17 effects", |look| look.move_out_of_range(|[_, _, effects, ..], _| effects == 17)),
     ("17 effects, bad class", |look| {
-        look.move_out_of_range(|[_, _, effects, _, extra], _| effects == 17 && extra == 16)
+        look.move_out_of_range(|[_, _, effects, _, second], _| effects == 17 && second == 16)
     }),
     ("17 effects, bad formula", |look| {
         look.move_out_of_range(|[_, _, effects, condition, _], formulas| effects == 17 && condition == formulas)
@@ -45,28 +45,28 @@ pub const EDGES: [Edge; 99] = [
     ("blocked by a conflict", |look| look.blocked_by_conflict()),
     ("conflict if all held", |look| look.plan_with(|action| clear_and_set(&action.effects))),
     ("class 15", |look| look.job(|job| job.moves.iter().any(|action| action.class == CLASSES - 1))),
-    ("extra class 15", |look| look.job(|job| job.moves.iter().any(|action| action.extra_class == CLASSES - 1))),
-    ("extra class 16", |look| {
-        look.wrong_move(|[pre, class, _, condition, extra], formulas| {
-            extra == 16 && class < 16 && pre.max(condition) < formulas
+    ("second class 15", |look| look.job(|job| job.moves.iter().any(|action| action.second_class == CLASSES - 1))),
+    ("second class 16", |look| {
+        look.wrong_move(|[pre, class, _, condition, second], formulas| {
+            second == 16 && class < 16 && pre.max(condition) < formulas
         })
     }),
-    ("extra by last formula", |look| {
-        look.job(|job| job.moves.iter().any(|action| has_extra_by(action, job.formulas.len() - 1)))
+    ("second by last formula", |look| {
+        look.job(|job| job.moves.iter().any(|action| has_second_by(action, job.formulas.len() - 1)))
     }),
-    ("extra by no formula", |look| {
-        look.wrong_move(|[pre, class, _, condition, extra], formulas| {
-            condition == formulas && pre < formulas && class.max(extra) < 16
+    ("second by no formula", |look| {
+        look.wrong_move(|[pre, class, _, condition, second], formulas| {
+            condition == formulas && pre < formulas && class.max(second) < 16
         })
     }),
     ("one move at two costs", |look| look.plan(has_two_costs)),
-    ("extra only before a move", |look| look.plan(|plan| plan.iter().any(|made| made.has_extra(true, false)))),
-    ("extra only after a move", |look| look.plan(|plan| plan.iter().any(|made| made.has_extra(false, true)))),
+    ("second only before a move", |look| look.plan(|plan| plan.iter().any(|made| made.has_second(true, false)))),
+    ("second only after a move", |look| look.plan(|plan| plan.iter().any(|made| made.has_second(false, true)))),
     ("move at 131070", |look| look.plan(|plan| plan.iter().any(|made| made.cost() == 131_070))),
-    ("dearer by extra classes", |look| {
+    ("dearer by second classes", |look| {
         look.stands(|plan| plan.cost > plan.least && plan.plain_cost == plan.plain_least)
     }),
-    ("least by extra classes", |look| {
+    ("least by second classes", |look| {
         look.stands(|plan| plan.cost == plan.least && plan.plain_cost > plan.plain_least)
     }),
     ("least by a longer way", |look| {
@@ -148,9 +148,9 @@ pub const EDGES: [Edge; 99] = [
     ("total above 262140000", |look| look.plan(|plan| total(plan) > 262_140_000)),
 ];
 
-/// Whether a move has an extra class above 0 under this formula.
-fn has_extra_by(action: &Move, formula: usize) -> bool {
-    action.extra_class > 0 && usize::from(action.extra_condition) == formula
+/// Whether a move has a second class above 0 under this formula.
+fn has_second_by(action: &Move, formula: usize) -> bool {
+    action.second_class > 0 && usize::from(action.second_formula) == formula
 }
 
 /// Whether a plan makes one move at two costs.

@@ -54,7 +54,7 @@ pub fn change_variable(random: &mut Random, lines: &mut [Vec<u8>]) {
     lines[place] = format!("p={kind},{base},{pick},0\n").into_bytes();
 }
 
-/// Gives a move an extra class or a condition at its limit or one past it, perhaps beside 17 effects, or one number too
+/// Gives a move a second class or a condition at its limit or one past it, perhaps beside 17 effects, or one number too
 /// few or too many; where there is no move, any fields are changed.
 pub fn change_move(random: &mut Random, lines: &mut [Vec<u8>]) {
     let formulas = number_of(lines, "formulas");
@@ -63,11 +63,11 @@ pub fn change_move(random: &mut Random, lines: &mut [Vec<u8>]) {
     if moves.is_empty() {
         return change_fields(random, lines);
     }
-    let (place, [pre, class, effects, condition, extra]) = random.pick(&moves);
+    let (place, [pre, class, effects, condition, second]) = random.pick(&moves);
     let condition = random.pick(&[condition, condition, formulas.saturating_sub(1), formulas]);
-    let extra = random.pick(&[extra, 15, 16]);
+    let second = random.pick(&[second, 15, 16]);
     let effects = random.pick(&[effects, effects, effects, 17]);
-    let mut numbers = vec![pre, class, effects, condition, extra, 0];
+    let mut numbers = vec![pre, class, effects, condition, second, 0];
     numbers.truncate(random.pick(&[3, 4, 5, 5, 5, 5, 5, 6]));
     let numbers: Vec<String> = numbers.iter().map(usize::to_string).collect();
     lines[place] = format!("m={}\n", numbers.join(",")).into_bytes();

@@ -5,7 +5,7 @@ use crate::second::fault::Fault;
 use crate::second::runs::Runs;
 use crate::second::verdict::Verdict;
 
-/// A move of a plan: its number, what its class and its extra class cost, and whether the condition of the extra class
+/// A move of a plan: its number, what its class and its second class cost, and whether the condition of the second class
 /// holds before the move, and after it.
 pub struct Made {
     pub index: u16,
@@ -16,12 +16,12 @@ pub struct Made {
 impl Made {
     /// What the move costs.
     pub fn cost(&self) -> u64 {
-        let [class, extra] = self.costs;
-        class + if self.condition[0] { extra } else { 0 }
+        let [class, second] = self.costs;
+        class + if self.condition[0] { second } else { 0 }
     }
 
-    /// Whether the extra class costs something, and its condition is so before and after the move.
-    pub fn has_extra(&self, before: bool, after: bool) -> bool {
+    /// Whether the second class costs something, and its condition is so before and after the move.
+    pub fn has_second(&self, before: bool, after: bool) -> bool {
         self.costs[1] > 0 && self.condition == [before, after]
     }
 }
@@ -42,7 +42,7 @@ pub fn made(domain: &Domain, moves: &[u16]) -> Option<Vec<Made>> {
     Some(all)
 }
 
-/// What a plan costs, and what the least plan does; and the same without extra classes, with the fewest moves that a
+/// What a plan costs, and what the least plan does; and the same without second classes, with the fewest moves that a
 /// least plan has then.
 pub struct Standing {
     pub cost: u64,

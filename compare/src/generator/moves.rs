@@ -47,10 +47,10 @@ pub fn cube(facts: u16) -> Vec<Move> {
     moves
 }
 
-/// `cube`, whose moves cost more where some fact is true: extra classes 1 to 15, in turn.
+/// `cube`, whose moves cost more where some fact is true: second classes 1 to 15, in turn.
 pub fn conditional(facts: u16) -> Vec<Move> {
     let formulas = Formulas { facts };
-    let dearer = |(m, action): (u16, Move)| action.with_extra(formulas.fact((7 * m + 3) % facts), 1 + m % 15);
+    let dearer = |(m, action): (u16, Move)| action.with_second(formulas.fact((7 * m + 3) % facts), 1 + m % 15);
     (0..).zip(cube(facts)).map(dearer).collect()
 }
 

@@ -13,7 +13,7 @@ pub fn job_text(job: &Job) -> Vec<u8> {
     text.count("moves", job.moves.len());
     for action in &job.moves {
         let effects = action.effects.len() as u16;
-        text.line("m", &[action.pre, action.class, effects, action.extra_condition, action.extra_class]);
+        text.line("m", &[action.pre, action.class, effects, action.second_formula, action.second_class]);
         text.lines("e", &action.effects);
     }
     text.line("goal", &[job.goal]);

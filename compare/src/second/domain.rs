@@ -40,16 +40,16 @@ impl<'a> Domain<'a> {
         self.cost_by(&self.costs, index, state)
     }
 
-    /// The same by these class costs: its class, and its extra class where the condition holds in that state.
+    /// The same by these class costs: its class, and its second class where the condition holds in that state.
     pub fn cost_by(&self, costs: &ClassCosts, index: u16, state: u16) -> u64 {
-        let [class, extra] = of_classes(self.action(index), costs);
+        let [class, second] = of_classes(self.action(index), costs);
         if !self.is_dearer(index, state) {
             return class;
         }
-        if self.fault == Fault::ExtraForSum {
-            return extra;
+        if self.fault == Fault::SecondForSum {
+            return second;
         }
-        class + extra
+        class + second
     }
 
     /// What a move costs that is made in a state, while least costs are looked for.
@@ -60,18 +60,18 @@ impl<'a> Domain<'a> {
         }
     }
 
-    /// What the class and the extra class of a move cost.
+    /// What the class and the second class of a move cost.
     pub fn class_costs(&self, index: u16) -> [u64; 2] {
         of_classes(self.action(index), &self.costs)
     }
 
-    /// Whether a move's extra class is added in a state, or what a fault takes for it.
+    /// Whether a move's second class is added in a state, or what a fault takes for it.
     pub fn is_dearer(&self, index: u16, state: u16) -> bool {
         let judged = match self.fault {
             Fault::CostAfterMove => self.successor(index, state).unwrap_or(state),
             _ => state,
         };
-        self.holds(self.action(index).extra_condition, judged)
+        self.holds(self.action(index).second_formula, judged)
     }
 
     fn action(&self, index: u16) -> &Move {
@@ -139,9 +139,9 @@ impl<'a> Domain<'a> {
     }
 }
 
-/// What the class and the extra class of a move cost by these class costs.
+/// What the class and the second class of a move cost by these class costs.
 fn of_classes(action: &Move, costs: &ClassCosts) -> [u64; 2] {
-    [action.class, action.extra_class].map(|class| costs[usize::from(class)].into())
+    [action.class, action.second_class].map(|class| costs[usize::from(class)].into())
 }
 
 /// Whether effects both clear and set one fact.

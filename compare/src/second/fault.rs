@@ -50,11 +50,11 @@ pub enum Fault {
     NearestForOutermost,
     /// For a row that is used several times, the use that is read first says how many picks are around it.
     FirstUse,
-    /// Whether a move's extra class is added is judged in the state after the move.
+    /// Whether a move's second class is added is judged in the state after the move.
     CostAfterMove,
-    /// Where its condition holds, a move costs its extra class alone.
-    ExtraForSum,
-    /// The least cost and the cost table are found without extra classes.
+    /// Where its condition holds, a move costs its second class alone.
+    SecondForSum,
+    /// The least cost and the cost table are found without second classes.
     PlainLeast,
 }
 
@@ -84,7 +84,7 @@ pub const FAULTS: [(&str, Fault); 26] = [
     ("nearest-for-outermost", Fault::NearestForOutermost),
     ("first-use", Fault::FirstUse),
     ("cost-after-move", Fault::CostAfterMove),
-    ("extra-for-sum", Fault::ExtraForSum),
+    ("second-for-sum", Fault::SecondForSum),
     ("plain-least", Fault::PlainLeast),
 ];
 

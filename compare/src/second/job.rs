@@ -28,26 +28,26 @@ pub const HOUSE_COSTS: ClassCosts = [0, 5, 12, 20, 30, 45, 60, 90, 120, 180, 240
 /// An effect `[condition, fact, value]`.
 pub type Effect = [u16; 3];
 
-/// A move: its precondition, its cost class and its effects, and an extra class that is added to its cost where a
+/// A move: its precondition, its cost class and its effects, and a second class that is added to its cost where a
 /// condition holds before it.
 #[derive(Clone, Debug, PartialEq, Eq)]
 pub struct Move {
     pub pre: u16,
     pub class: u16,
     pub effects: Vec<Effect>,
-    pub extra_condition: u16,
-    pub extra_class: u16,
+    pub second_formula: u16,
+    pub second_class: u16,
 }
 
 impl Move {
-    /// A move that costs the same everywhere: the formula and the extra class are 0.
+    /// A move that costs the same everywhere: the formula and the second class are 0.
     pub fn plain(pre: u16, class: u16, effects: Vec<Effect>) -> Move {
-        Move { pre, class, effects, extra_condition: 0, extra_class: 0 }
+        Move { pre, class, effects, second_formula: 0, second_class: 0 }
     }
 
-    /// The move with this extra class where a condition holds.
-    pub fn with_extra(self, condition: u16, class: u16) -> Move {
-        Move { extra_condition: condition, extra_class: class, ..self }
+    /// The move with this second class where a condition holds.
+    pub fn with_second(self, condition: u16, class: u16) -> Move {
+        Move { second_formula: condition, second_class: class, ..self }
     }
 }
 

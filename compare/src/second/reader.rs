@@ -93,17 +93,17 @@ impl JobReader<'_> {
         let count = self.count(b"moves", 0, MOST_MOVES)?;
         let mut moves = Vec::new();
         for _ in 0..count {
-            let [pre, class, effect_count, extra_condition, extra_class] = self.row(b"m")?;
+            let [pre, class, effect_count, second_formula, second_class] = self.row(b"m")?;
             self.demand(effect_count <= MOST_EFFECTS, 2)?;
-            self.demand([pre, extra_condition].into_iter().all(|formula| usize::from(formula) < formulas), 3)?;
-            self.demand(class < CLASSES && extra_class < CLASSES, 3)?;
+            self.demand([pre, second_formula].into_iter().all(|formula| usize::from(formula) < formulas), 3)?;
+            self.demand(class < CLASSES && second_class < CLASSES, 3)?;
             let mut effects = Vec::new();
             for _ in 0..effect_count {
                 let [condition, fact, value] = self.row(b"e")?;
                 self.demand(usize::from(condition) < formulas && fact < facts && value < 2, 3)?;
                 effects.push([condition, fact, value]);
             }
-            moves.push(Move { pre, class, effects, extra_condition, extra_class });
+            moves.push(Move { pre, class, effects, second_formula, second_class });
         }
         Ok(moves)
     }

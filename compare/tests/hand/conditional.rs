@@ -1,4 +1,4 @@
-//! Costs by state, request (g) of document 02: behind its effect count a move line has a formula and an extra class,
+//! Costs by state, request (g) of document 02: behind its effect count a move line has a formula and a second class,
 //! which is added to the move's cost where the formula holds before the move.
 //!
 //! The sample's formulas are 0 true, 1 fact 0, 2 fact 1, 3 not fact 0. Its move 0 sets fact 1, at 20; its move 1 sets
@@ -150,13 +150,13 @@ fn a_detour_is_least() {
         12, 12, 12, 12,
         17, 17, 17, 17,
     ];
-    let worked = in_any_order(vec![set(1, 2), set(0, 1).with_extra(3, 3)], table);
+    let worked = in_any_order(vec![set(1, 2), set(0, 1).with_second(3, 3)], table);
     worked.judges(&[0, 1], [LEAST, 17, 17]);
     worked.judges(&[1], [DEARER, 25, 17]);
     worked.judges(&[1, 0], [DEARER, 37, 17]);
     worked.judges(&[0, 0, 1], [DEARER, 29, 17]);
     worked.costs([COSTS, 17]);
-    // Without the extra class the one move is least.
+    // Without the second class the one move is least.
     let table = vec![
         0, 0, X, 0,
         5, 5, 5, 5,
@@ -171,7 +171,7 @@ fn a_detour_is_least() {
 /// A pick of one of two moves that set fact 0: move 0 at 20, move 1 at 5, and at 5 + 30 as long as fact 1 is false.
 fn picked(init: u16, table: Vec<u64>) -> Worked {
     let [dear, cheap] = [3, 1].map(|class| Move::plain(0, class, vec![[0, 0, 1]]));
-    let worked = in_any_order(vec![dear, cheap.with_extra(3, 4)], table);
+    let worked = in_any_order(vec![dear, cheap.with_second(3, 4)], table);
     let domain = worked.job.split("objects=").next().expect("a text has a first part");
     let job = format!("{domain}objects=2\nprogram=2\np=10,0,0,0\np=9,0,0,0\n");
     Worked { job: job.replace("init=0", &format!("init={init}")), positions: 6, list: PICK.concat(), ..worked }
@@ -219,7 +219,7 @@ fn formula_0_and_class_0_change_no_cost() {
 }
 
 #[test]
-fn every_extra_class() {
+fn every_second_class() {
     let costs = [20, 25, 32, 40, 50, 65, 80, 110, 140, 200, 260, 380, 620, 920, 1820, 3620];
     for (class, cost) in costs.into_iter().enumerate() {
         house_is_least(&format!("m=0,3,1,0,{class}"), SECOND, [cost, 5]);
@@ -237,7 +237,7 @@ fn loaded_is_least(first: &str, second: &str, costs: Vec<u8>, [zero, one]: [u64;
 #[test]
 fn loaded_costs_of_both_classes() {
     loaded_is_least("m=0,3,1,3,2", SECOND, house_with(&[(1, 7), (2, 300), (3, 4800)]), [5100, 7]);
-    // Class 0 as the extra class, and as the first; one class twice.
+    // Class 0 as the second class, and as the first; one class twice.
     loaded_is_least("m=0,3,1,3,0", "m=2,0,1,3,1", all_at(100), [100, 100]);
     loaded_is_least("m=0,3,1,3,3", "m=2,0,1,3,0", all_at(100), [200, 0]);
     // Both at the greatest cost, and one below.
@@ -278,7 +278,7 @@ fn sums_above_32_bits() {
     // twice as much; clearing doesn't. 11 times 6,143 costs.
     let mut job = rounds(12, 11);
     for action in &mut job.moves[..12] {
-        (action.extra_condition, action.extra_class) = (12, 1);
+        (action.second_formula, action.second_class) = (12, 1);
     }
     let (text, costs) = (job_text(&job), all_at(65535));
     let handed = Handed { job: &text, plan: b"", costs: Some(&costs) };

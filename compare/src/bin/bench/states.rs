@@ -29,21 +29,21 @@ struct Effect {
 pub struct Cost {
     plain: u64,
     condition: u16,
-    extra: u64,
+    second: u64,
 }
 
 impl Cost {
     /// Of a step that makes no move.
-    pub const NONE: Cost = Cost { plain: 0, condition: 0, extra: 0 };
+    pub const NONE: Cost = Cost { plain: 0, condition: 0, second: 0 };
 
     fn of(action: &Move) -> Cost {
         let by = |class: u16| HOUSE_COSTS[usize::from(class)].into();
-        Cost { plain: by(action.class), condition: action.extra_condition, extra: by(action.extra_class) }
+        Cost { plain: by(action.class), condition: action.second_formula, second: by(action.second_class) }
     }
 
     /// The cost in a state, by the values of its formulas.
     pub fn given(&self, values: &Values) -> u64 {
-        self.plain + if values.holds(self.condition) { self.extra } else { 0 }
+        self.plain + if values.holds(self.condition) { self.second } else { 0 }
     }
 }
 

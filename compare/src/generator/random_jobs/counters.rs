@@ -1,7 +1,7 @@
 //! Jobs in which every state has to be passed: the facts are the digits of a binary number, and moves add one to it.
 
 use super::domains::random_move;
-use super::extras::add_extras;
+use super::second_classes::add_second_classes;
 use crate::generator::jobs::{job_of, rounds};
 use crate::generator::moves::increments;
 use crate::generator::random::Random;
@@ -23,6 +23,6 @@ pub fn random_counter(random: &mut Random) -> Job {
 pub fn long_counter(random: &mut Random) -> Job {
     let (facts, least) = random.pick(&[(MOST_FACTS, 17), (MOST_FACTS - 1, 33)]);
     let mut job = rounds(facts, least + random.below(3));
-    add_extras(random, &mut job);
+    add_second_classes(random, &mut job);
     job
 }

@@ -19,7 +19,7 @@ pub fn random_flips(random: &mut Random) -> Job {
         let fact = random.below_u16(facts);
         if random.chance(500) {
             let at_first = if init >> fact & 1 == 1 { formulas.fact(fact) } else { formulas.no(fact) };
-            (action.extra_condition, action.extra_class) = (at_first, 5 + random.below_u16(CLASSES - 5));
+            (action.second_formula, action.second_class) = (at_first, 5 + random.below_u16(CLASSES - 5));
         }
     }
     let goal = formulas.fact(random.below_u16(facts));

@@ -1,16 +1,16 @@
 //! Random jobs: random facts, formulas and moves (`domains`) or a counter (`counters`), with a random program
 //! (`programs`), perhaps one of nested picks (`picks`) or at the limits (`limits`); a few jobs of the greatest size
-//! (`largest`), and jobs of long plans. Most of their moves cost more in some states (`extras`), which the least plans of
+//! (`largest`), and jobs of long plans. Most of their moves cost more in some states (`second_classes`), which the least plans of
 //! some jobs avoid (`flips`).
 
 mod counters;
 mod domains;
-mod extras;
 mod flips;
 mod largest;
 mod limits;
 mod picks;
 mod programs;
+mod second_classes;
 
 pub use counters::long_counter;
 
@@ -26,7 +26,7 @@ pub fn random_job(random: &mut Random) -> Job {
         303..=702 => return flips::random_flips(random),
         _ => with_program(random, domains::random_domain),
     };
-    extras::add_extras(random, &mut job);
+    second_classes::add_second_classes(random, &mut job);
     job
 }
 

@@ -1,26 +1,26 @@
-//! Extra classes of random moves, with the conditions under which they are added.
+//! Second classes of random moves, with the conditions under which they are added.
 
 use crate::generator::random::Random;
 use crate::second::job::{Job, CLASSES};
 
-/// How the moves of a job get extra classes: none does, each under a condition of its own, or all under one.
+/// How the moves of a job get second classes: none does, each under a condition of its own, or all under one.
 #[derive(Clone, Copy)]
-enum ExtraStyle {
+enum Style {
     Plain,
     Own,
     Common,
 }
 
-/// Gives the moves of a job extra classes and conditions, or some of them none.
-pub fn add_extras(random: &mut Random, job: &mut Job) {
-    let style = random.weighted(&[(100, ExtraStyle::Plain), (750, ExtraStyle::Own), (150, ExtraStyle::Common)]);
+/// Gives the moves of a job second classes and conditions, or some of them none.
+pub fn add_second_classes(random: &mut Random, job: &mut Job) {
+    let style = random.weighted(&[(100, Style::Plain), (750, Style::Own), (150, Style::Common)]);
     let open = with_facts(&job.formulas);
     let common = condition(random, job.formulas.len(), &open);
     for action in &mut job.moves {
         let own = condition(random, job.formulas.len(), &open);
-        (action.extra_condition, action.extra_class) = match style {
-            ExtraStyle::Own if random.chance(800) => (own, class(random)),
-            ExtraStyle::Common => (common, class(random)),
+        (action.second_formula, action.second_class) = match style {
+            Style::Own if random.chance(800) => (own, class(random)),
+            Style::Common => (common, class(random)),
             _ => (0, 0),
         };
     }
