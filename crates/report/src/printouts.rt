@@ -1,5 +1,4 @@
 // What each program prints: the buffer's first bytes, as many as the function answers.
-ghost use mathlib.Core.Path.{_≡_};
 ghost use Prim.Native.Nat.{_+_, _*_, _≤_};
 ghost use lib.ListN.{length, take};
 ghost use Rattle.limits.specs.Limits.{mostSteps};
