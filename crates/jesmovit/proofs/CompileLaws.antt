@@ -1,29 +1,30 @@
 -- The promise of compiling, from the chain of reasons.
 -- Assumes nothing.
 use Prim.Native.Nat.{ℕ}
-use mathlib.Core.Path.{_≡_, _∙_, ap}
+use mathlib.Core.Path.{_≡_, refl, _∙_, ap}
 use mathlib.Core.List.{List}
 use lib.ListN.{length}
 use Rattle.job.specs.declared.refusal.Refusal.{Refusal}
 use Rattle.compile.specs.declared.sizes.Sizes.{Sizes}
-use Rattle.load.specs.Refusals.{Checked, passed, refused, next, Offer, loading}
-use Rattle.load.specs.View.{viewOf}
-use Rattle.jesmovit.specs.Compiling.{compiling, listAfter, listIn, viewSizes, Compiles}
+use Rattle.load.specs.Refusals.{Checked, passed, next, Offer}
+use Rattle.load.specs.Loaded.{loadRefusal}
+use Rattle.load.specs.declared.loaded.LoadedJob.{LoadedJob}
+use Rattle.load.specs.declared.loaded.Loaded.{Loaded}
+use Rattle.jesmovit.specs.Compiling.{compiling, viewSizes, Prepares, Compiles}
 use Rattle.jesmovit.specs.declared.compiling.CompileAnswer.{CompileAnswer}
 use Rattle.jesmovit.proofs.AnswerLaws.{viewed}
+use Rattle.jesmovit.proofs.LoadedLaws.{load-refusal, load-sized, load-passed, sizes-of}
 
 module _ (text list : List ℕ) where
   abbrev sizesIn : Checked Offer → Checked Sizes
   sizesIn c = next (viewed c) (λ v. passed (viewSizes v))
 
-  abbrev filled : Checked Offer → List ℕ
-  filled c = listIn (viewed c) list
+  module _ {a : Loaded} {rows entries after : List ℕ} (e : Prepares (compiling text (length list)) a rows entries list after) where
+    pub compile-refused : {q r : Refusal} → a ≡ Loaded.Refused q → r ≡ loadRefusal a → Compiles text list (CompileAnswer.Refused r) after
+    compile-refused g f = record { outcome = ap sizesIn (load-refusal (e .loads) g f); holds = e .holds }
 
-  pub compile-refused : {r : Refusal} → refused (r .number) (r .place) ≡ loading (compiling text (length list))
-      → Compiles text list (CompileAnswer.Refused r) list
-  compile-refused e = record { outcome = ap sizesIn e; holds = ap filled e }
-
-  pub compile-done : {o : Offer} → passed o ≡ loading (compiling text (length list)) → {positions steps : ℕ}
-      → record { positions = positions; steps = steps } ≡ viewSizes (viewOf o) → {after : List ℕ} → after ≡ listAfter (viewOf o) list
-      → Compiles text list (CompileAnswer.Compiled positions steps) after
-  compile-done e s f = record { outcome = ap passed s ∙ ap sizesIn e; holds = f ∙ ap filled e }
+    pub compile-done : {l : LoadedJob} → a ≡ Loaded.Ready l → Compiles text list (CompileAnswer.Compiled (l .sizes .positions) (l .sizes .steps)) after
+    compile-done g = record {
+      outcome = ap passed (sizes-of (load-sized (e .loads) g)) ∙ ap sizesIn (load-passed (e .loads) g refl);
+      holds = e .holds;
+    }

@@ -8,7 +8,9 @@ use lib.Seq.{sets}
 use Rattle.semantics.specs.CompilingTable.{flat}
 use Rattle.compile.specs.declared.sizes.Sizes.{Sizes}
 use Rattle.load.specs.Refusals.{Handed, Checked, passed, refused, next}
+use Rattle.load.specs.Loaded.{Loads}
 use Rattle.load.specs.View.{View, viewSteps, positionsOf, viewIn}
+use Rattle.load.specs.declared.loaded.Loaded.{Loaded}
 use Rattle.load.specs.declared.request.Sort.the-variants.{Moves}
 use Rattle.jesmovit.specs.Texts.{noneGiven}
 use Rattle.jesmovit.specs.Outcomes.{compileOutcome}
@@ -35,6 +37,11 @@ viewSizes v = record { positions = positionsOf v; steps = length (viewSteps v) }
 abbrev pub listIn : Checked View → List ℕ → List ℕ
 listIn (passed v) list = listAfter v list
 listIn (refused number place) list = list
+
+-- what every operation that is lent a list begins with: its texts are loaded, and the list is filled
+pub record Prepares (h : Handed) (answer : Loaded) (rows entries list after : List ℕ) : Type 0 where
+  pub loads : Loads h answer rows entries
+  pub holds : after ≡ listIn (viewIn h) list
 
 -- the whole promise: the sizes or the refusal, and what the list holds afterwards
 pub record Compiles (text list : List ℕ) (answer : CompileAnswer) (after : List ℕ) : Type 0 where

@@ -6,14 +6,16 @@ ghost use Rattle.validate.specs.Verdict.{verdictOf};
 ghost use Rattle.load.specs.Refusals.{boundFor};
 ghost use Rattle.load.specs.View.{viewOf};
 ghost use Rattle.jesmovit.specs.Checking.{Says, Checks};
-use job::head::Head;
+use crate::preparing::prepare;
 use job::refusal::Refusal;
 use job::rows::STORE;
 use limits::ENTRIES;
 use load::loaded::Loaded;
+use load::loaded::LoadedJob;
 use load::request::Given;
 use load::request::Request;
 use load::request::Sort;
+use load::room::front;
 use validate::verdict::Verdict;
 
 // The verdict on a plan; or why the texts or the list are refused.
@@ -23,21 +25,18 @@ pub enum CheckAnswer {
 }
 
 // The verdict on the entries of a plan; the list holds the compiled job's steps and nothing else.
-fn verdict(
-    sort: Sort,
-    head: Head,
-    rows: &[u16],
-    list: &[u16],
-    positions: u16,
-    plan: &[u16],
-) -> Verdict
-    requires { ⌜ Ready head (now rows) (now list) positions ⌝ }
-    requires { ⌜ EntriesBelow (now plan) (boundFor sort (jobOf head (now rows))) ⌝ }
-    ensures { λ r. ⌜ Says sort (viewOf (record { task = taskOf head (now (rows .entry)); entries = now (plan .entry) })) (verdictOf r) ⌝ }
+fn verdict(sort: Sort, job: LoadedJob, rows: &[u16], list: &[u16], plan: &[u16]) -> Verdict
+    requires { ⌜ Ready (job .head) (now rows) (now list) (job .sizes .positions) ⌝ }
+    requires { ⌜ EntriesBelow (now plan) (boundFor sort (jobOf (job .head) (now rows))) ⌝ }
+    ensures { λ r. ⌜ Says sort (viewOf (record { task = taskOf (job .head) (now (rows .entry)); entries = now (plan .entry) })) (verdictOf r) ⌝ }
 {
     match sort {
-        Sort::Moves => validate::moves::check_moves(head, rows, list, positions, plan),
-        Sort::Steps => validate::steps::check_steps(head, rows, list, positions, plan),
+        Sort::Moves => {
+            validate::moves::check_moves(job.head, rows, list, job.sizes.positions, plan)
+        }
+        Sort::Steps => {
+            validate::steps::check_steps(job.head, rows, list, job.sizes.positions, plan)
+        }
     }
 }
 
@@ -62,24 +61,15 @@ fn check(
         table: false,
         cells: 0,
     };
-    let loaded = load::loading::load(request, text, plan, costs, &mut rows, &mut entries);
+    let loaded = prepare(request, text, plan, costs, &mut rows, &mut entries, list);
     let Loaded::Ready(job) = loaded else {
         let r = load::loaded::refusal(loaded);
         return CheckAnswer::Refused(r);
     };
-    let head = job.head;
     let need = load::room::list_need(job);
-    let n = job.entries;
-    compile::program::compile(head, &rows, list);
-    let offered = &entries[0..n];
-    let v = verdict(
-        sort,
-        head,
-        &rows,
-        &list[0..need],
-        job.sizes.positions,
-        offered,
-    );
+    let steps = front(list, need);
+    let offered = front(&entries, job.entries);
+    let v = verdict(sort, job, &rows, steps, offered);
     CheckAnswer::Said(v)
 }
 

@@ -1,5 +1,6 @@
 // A job text compiled.
 ghost use Rattle.jesmovit.specs.Compiling.{Compiles};
+use crate::preparing::prepare;
 use job::refusal::Refusal;
 use job::rows::STORE;
 use load::loaded::Loaded;
@@ -29,19 +30,11 @@ pub fn compile(text: &[u8], list: &mut [u16]) -> CompileAnswer
         table: false,
         cells: 0,
     };
-    let loaded = load::loading::load(
-        request,
-        text,
-        &text[0..0],
-        &text[0..0],
-        &mut rows,
-        &mut entries,
-    );
+    let none = &text[0..0];
+    let loaded = prepare(request, text, none, none, &mut rows, &mut entries, list);
     let Loaded::Ready(job) = loaded else {
         let r = load::loaded::refusal(loaded);
         return CompileAnswer::Refused(r);
     };
-    let head = job.head;
-    compile::program::compile(head, &rows, list);
     CompileAnswer::Compiled(job.sizes.positions, job.sizes.steps)
 }

@@ -12,6 +12,7 @@ ghost use Rattle.load.specs.View.{viewOf};
 ghost use Rattle.load.specs.Refusals.{passed};
 ghost use Rattle.jesmovit.specs.Outcomes.{leastOutcome, judgementOf};
 ghost use Rattle.jesmovit.specs.Judging.{lowestOf, CostsLeast, compared, Found, Judges};
+use crate::preparing::prepare;
 use job::head::Head;
 use job::refusal::Refusal;
 use job::rows::STORE;
@@ -20,6 +21,7 @@ use load::loaded::Loaded;
 use load::request::Given;
 use load::request::Request;
 use load::request::Sort;
+use load::room::front;
 use search::Grid;
 use validate::verdict::Verdict;
 
@@ -79,19 +81,19 @@ pub fn least_cost(
         table: true,
         cells: table.len(),
     };
-    let loaded = load::loading::load(request, text, &text[0..0], costs, &mut rows, &mut entries);
+    let none = &text[0..0];
+    let loaded = prepare(request, text, none, costs, &mut rows, &mut entries, list);
     let Loaded::Ready(job) = loaded else {
         let r = load::loaded::refusal(loaded);
         return LeastAnswer::Refused(r);
     };
-    let head = job.head;
     let need = load::room::list_need(job);
     let grid = Grid {
         states: job.states,
         positions: job.sizes.positions,
     };
-    compile::program::compile(head, &rows, list);
-    let least = search::least::least_cost(table, head, &rows, &list[0..need], grid);
+    let steps = front(list, need);
+    let least = search::least::least_cost(table, job.head, &rows, steps, grid);
     answer_of(least)
 }
 
@@ -153,19 +155,18 @@ pub fn judge(
         table: true,
         cells: table.len(),
     };
-    let loaded = load::loading::load(request, text, plan, costs, &mut rows, &mut entries);
+    let loaded = prepare(request, text, plan, costs, &mut rows, &mut entries, list);
     let Loaded::Ready(job) = loaded else {
         let r = load::loaded::refusal(loaded);
         return JudgeAnswer::Refused(r);
     };
-    let head = job.head;
     let need = load::room::list_need(job);
-    let n = job.entries;
     let grid = Grid {
         states: job.states,
         positions: job.sizes.positions,
     };
-    compile::program::compile(head, &rows, list);
-    let found = judge_entries(table, head, &rows, &list[0..need], grid, &entries[0..n]);
+    let steps = front(list, need);
+    let offered = front(&entries, job.entries);
+    let found = judge_entries(table, job.head, &rows, steps, grid, offered);
     JudgeAnswer::Judged(job.sizes.positions, job.sizes.steps, found)
 }

@@ -23,6 +23,7 @@ use load::loaded::LoadedJob;
 use load::request::Given;
 use load::request::Request;
 use load::request::Sort;
+use load::room::front;
 use validate::verdict::Verdict;
 
 // How many bytes the sheet of a plan has; the verdict on what is no plan; or why the texts, the
@@ -42,9 +43,10 @@ fn move_verdict(job: LoadedJob, rows: &[u16], plan: &[u16]) -> Verdict
 {
     let head = job.head;
     let need = load::room::list_need(job);
-    let mut steps = [0u16; LIST];
-    compile::program::compile(head, rows, &mut steps);
-    validate::moves::check_moves(head, rows, &steps[0..need], job.sizes.positions, plan)
+    let mut list = [0u16; LIST];
+    compile::program::compile(head, rows, &mut list);
+    let steps = front(&list, need);
+    validate::moves::check_moves(head, rows, steps, job.sizes.positions, plan)
 }
 
 // How many bytes the output needs after the verdict on so many moves: none for what is no plan.
@@ -118,6 +120,6 @@ pub fn sheet(
         let r = load::loaded::refusal(loaded);
         return SheetAnswer::Refused(r);
     };
-    let n = job.entries;
-    lay_out(job, &rows, &entries[0..n], list, out)
+    let offered = front(&entries, job.entries);
+    lay_out(job, &rows, offered, list, out)
 }

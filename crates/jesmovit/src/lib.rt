@@ -4,6 +4,7 @@ mod compiling;
 mod job_text;
 mod judging;
 mod laying;
+mod preparing;
 
 pub use checking::CheckAnswer;
 pub use checking::check_moves;

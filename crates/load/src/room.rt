@@ -2,6 +2,7 @@
 ghost use mathlib.Core.Path.{_≡_};
 ghost use mathlib.Core.Bool.{cond};
 ghost use Prim.Native.Nat.{_*_};
+ghost use lib.ListN.{take};
 use crate::loaded::LoadedJob;
 use job::refusal::Refusal;
 
@@ -20,6 +21,16 @@ pub fn list_need(job: LoadedJob) -> usize
     ensures { λ r. ⌜ r ≡ job .sizes .steps * 4 ⌝ }
 {
     (job.sizes.steps as usize) * 4
+}
+
+// The first n numbers of a list, as far as it goes.
+pub fn front(list: &[u16], n: usize) -> &[u16]
+    ensures { λ r. ⌜ now r ≡ take n (now (list .entry)) ⌝ }
+{
+    if n <= list.len() {
+        return &list[..n];
+    }
+    list
 }
 
 // The cells of the cost table, one for each state and position; none where there is no table.

@@ -1,5 +1,4 @@
 // What each program prints: the buffer's first bytes, as many as the function answers.
-ghost use mathlib.Core.Path.{_≡_};
 ghost use Prim.Native.Nat.{_+_, _*_, _≤_};
 ghost use lib.ListN.{length, take};
 ghost use Rattle.limits.specs.Limits.{mostSteps};
@@ -18,24 +17,13 @@ use jesmovit::ReadAnswer;
 use jesmovit::SheetAnswer;
 use job::head::Counts;
 
-// The numbers of a list's first steps, as far as it goes.
-fn front(list: &[u16], steps: u16) -> &[u16]
-    ensures { λ r. ⌜ now r ≡ take (steps * 4) (now (list .entry)) ⌝ }
-{
-    let n = (steps as usize) * 4;
-    if n <= list.len() {
-        return &list[..n];
-    }
-    list
-}
-
 fn compiled(out: &mut [u8], positions: u16, steps: u16, list: &[u16]) -> usize
     requires { ⌜ (32768 ≤ length (now out)) × (length (now list) ≤ mostSteps * 4) ⌝ }
     ensures { λ r. ⌜ Put 28800 (compiledLines positions steps (now (list .entry))) (now (out .entry)) 0 (now (out .exit)) r ⌝ }
 {
     let a = lines::line(out, 0, b"positions=", positions as u64);
     let b = lines::line(out, a, b"steps=", steps as u64);
-    let numbers = front(list, steps);
+    let numbers = load::room::front(list, (steps as usize) * 4);
     lines::steps(out, b, numbers)
 }
 

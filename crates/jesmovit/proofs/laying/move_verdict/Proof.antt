@@ -1,6 +1,5 @@
 use mathlib.Core.Path.{refl}
-use native.Mathlib.Omega.{arith}
-use Rattle.jesmovit.proofs.FrontLaws.{own-room, own-fits, own-ready}
+use Rattle.jesmovit.proofs.FrontLaws.{own-room, own-ready}
 use Rattle.jesmovit.proofs.SaysLaws.{says-moves}
 use borrow.Author.Needs.{needs}
 use Rattle.jesmovit.proofs.laying.move_verdict.Statement.{statement}
@@ -11,27 +10,22 @@ compile-requires c κs =
     let at5 = c .before .before .before .before .before in
     ((at5 .pre .0 .stored, at5 .pre .0 .scoped), (at5 .pre .0 .fit, own-room (at5 .pre .0)))
 
-part-check-moves-end : tie.Need-part-check-moves-end
-part-check-moves-end c =
-    let at4 = c .before .before .before .before in
-    let at8 = at4 .before .before .before .before in
-    omega (arith, own-fits (at8 .pre .0) (at4 .list-need .ensures), c .before .before .compile .kept .1 .1 .0)
-
 check-moves-requires : tie.Need-check-moves-requires
 check-moves-requires c κs =
-    let at5 = c .before .before .before .before .before in
+    let at3 = c .before .before .before in
+    let at5 = at3 .before .before in
     let at9 = at5 .before .before .before .before in
-    (own-ready (at9 .pre .0) (at5 .list-need .ensures) (c .before .before .before .compile .ensures), at9 .pre .1)
+    (own-ready (at9 .pre .0) (at5 .list-need .ensures) (at3 .compile .ensures) (c .front .ensures), at9 .pre .1)
 
 returns : tie.Need-returns
 returns c =
     let at4 = c .before .before .before .before in
     let at6 = at4 .before .before in
     let at10 = at6 .before .before .before .before in
-    says-moves _ _ _ refl (own-ready (at10 .pre .0) (at6 .list-need .ensures) (at4 .compile .ensures)) (c .check-moves .ensures)
+    says-moves _ _ _ refl (own-ready (at10 .pre .0) (at6 .list-need .ensures) (at4 .compile .ensures) (c .before .front .ensures)) (c .check-moves .ensures)
 
 pub move-verdict-spec : {M : Type 1} → statement M
 move-verdict-spec =
     tie.close
     (tie.spec
-    (λ c κs. search needs) (λ c. search needs) compile-requires (λ c. search needs) (λ c. search needs) part-check-moves-end check-moves-requires returns)
+    (λ c κs. search needs) (λ c. search needs) compile-requires (λ c. search needs) (λ c κs. search needs) check-moves-requires returns)

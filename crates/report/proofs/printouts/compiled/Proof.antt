@@ -43,5 +43,5 @@ pub compiled-spec : {M : Type 1} → statement M
 compiled-spec =
     tie.close
     (tie.spec
-    (λ c. search needs) (λ c κs. search needs) (λ c. search needs) (λ c κs. search needs) (λ c κs. search needs) steps-requires (λ c. search needs)
-    returns)
+    (λ c. search needs) (λ c κs. search needs) (λ c. search needs) (λ c κs. search needs) (λ c. search needs) (λ c κs. search needs) steps-requires
+    (λ c. search needs) returns)
