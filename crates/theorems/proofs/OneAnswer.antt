@@ -146,7 +146,8 @@ one-compile-answer text list a b l m x y = (compile-injective a b (x .outcome �
 
 module _ (t : Texts) where
   -- of a check
-  pub one-check-answer : (sort : Sort) (list : List ℕ) (a b : K.CheckAnswer) (l m : List ℕ) → Checks sort t list a l → Checks sort t list b m → (a ≡ b) × (l ≡ m)
+  pub one-check-answer : (sort : Sort) (list : List ℕ) (a b : K.CheckAnswer) (l m : List ℕ) → Checks sort t list a l → Checks sort t list b m
+      → (a ≡ b) × (l ≡ m)
   one-check-answer sort list a b l m x y = let z = one-outcome one-checked x y in (check-injective a b (z .0), z .1)
 
   -- of the least cost
