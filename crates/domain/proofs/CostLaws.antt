@@ -14,13 +14,13 @@ use Rattle.job.specs.Task.{Task, classCost, CostsWithin}
 use Rattle.job.specs.Store.{jobOf, storedCosts, taskOf}
 use Rattle.job.specs.Stored.{Stored}
 use Rattle.job.specs.declared.head.Head.{Head}
-use Rattle.job.proofs.StoredLaws.{move-count, move-fits}
+use Rattle.job.proofs.StoredLaws.{move-count, move-classes}
 use Rattle.domain.specs.Domain.{holdsIn, costIn, domainIn, Tells}
 
 -- of a stored task, by a move that is read and the formulas' values in the state
 module _ {head : Head} {rows : List ℕ} (s : Stored head rows) (m : ℕ) {x : Move} (is : x ≡ moveAt (jobOf head rows) m) where
   pub classes-within : m < domainIn head rows .moves → (x .class ≤ lastClass) × (x .second ≤ lastClass)
-  classes-within h = let f = move-fits s m (omega (arith, move-count head rows)) in rw is (f .class, f .second)
+  classes-within h = rw is (move-classes s m (omega (arith, move-count head rows)))
 
   module _ (w : ℕ) (vs : List Bool) (tells : Tells (domainIn head rows) w vs) {own second : ℕ} (own-is : own ≡ classCost (storedCosts rows) (x .class))
       (second-is : second ≡ classCost (storedCosts rows) (x .second)) where

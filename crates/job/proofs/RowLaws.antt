@@ -2,21 +2,19 @@
 -- Assumes nothing.
 use Prim.Native.Nat.{ℕ, zero, suc, _+_, _≤_, _<_}
 use mathlib.Core.Path.{_≡_, refl}
-use mathlib.Core.Bool.{true, _&&_, and-true}
+use mathlib.Core.Bool.{true, _&&_, and-true, and-assoc}
 use mathlib.Core.List.{List, [], _∷_, _++_, map}
 use mathlib.Core.Logic.{_↔_}
 use native.Mathlib.Omega.{arith}
 use native.Mathlib.Decide.{decLt}
-use lib.Dec.{ltb, leb}
+use lib.Dec.{ltb}
 use lib.ListN.{length, getD, List·getD-eq-default}
-use borrow.Author.Tests.{ltb-true, leb-true, lt-ltb, le-leb}
-use Rattle.laws.proofs.Tests.{never, and-left, and-right, and-both}
+use borrow.Author.Tests.{ltb-true}
+use Rattle.laws.proofs.Tests.{never, and-left, and-right}
 use Rattle.laws.proofs.Tables.{pair-at}
-use Rattle.limits.specs.Limits.{lastClass}
 use Rattle.job.specs.Job as J
 use Rattle.job.specs.Fields.{baseBound, bound, formulaFields, within, Within}
-use Rattle.job.specs.Fault.{formulaAndClass}
-use Rattle.job.specs.WellFormed.{Tiled, beforeFormula}
+use Rattle.job.specs.WellFormed.{Tiled, beside}
 use Rattle.job.specs.declared.head.Counts.{Counts}
 use Rattle.job.specs.declared.fields.Field.{Field}
 use Rattle.job.specs.declared.fields.Field.the-variants.{Unused}
@@ -39,6 +37,11 @@ three-fields c (f ∷ g ∷ []) x y z e = absurd (omega arith)
 three-fields c (f ∷ g ∷ h ∷ []) x y z e = rw and-true
 three-fields c (f ∷ g ∷ h ∷ i ∷ fs) x y z e = absurd (omega arith)
 
+-- and more behind them
+pub three-more : (c : Counts) (f g h : Field) (fs : List Field) (x y z : ℕ) (xs : List ℕ)
+    → (within c (f ∷ g ∷ h ∷ []) (x ∷ y ∷ z ∷ []) && within c fs xs) ≡ within c (f ∷ g ∷ h ∷ fs) (x ∷ y ∷ z ∷ xs)
+three-more c f g h fs x y z xs = rw (and-true, and-assoc, and-assoc)
+
 -- a formula has no third field
 abbrev threeFields : List (List Field)
 threeFields = map (λ fs. fs ++ (Unused ∷ [])) formulaFields
@@ -59,21 +62,11 @@ kind-listed c kinds kind x xs w = elim (decLt kind (length kinds)) [
 pub base-iff : (a count objects : ℕ) → (a < baseBound count objects) ↔ (a + objects ≤ count)
 base-iff a count objects = (λ h. omega arith, λ h. omega arith)
 
--- the test of a formula and a class is their statement
-pub formula-and-class-iff : (c : Counts) (a class : ℕ) → (formulaAndClass c a class ≡ true) ↔ ((a < c .formulas) × (class ≤ lastClass))
-formula-and-class-iff c a class = (
-  λ e. (
-    ltb-true a (c .formulas) (and-left (ltb a (c .formulas)) (leb class lastClass) e),
-    leb-true class lastClass (and-right (ltb a (c .formulas)) (leb class lastClass) e),
-  ),
-  λ h. and-both (ltb a (c .formulas)) (leb class lastClass) (lt-ltb _ _ (h .0)) (le-leb _ _ (h .1)),
-)
-
 -- a formula refers to facts and formulas only
 pub formula-own : (c : Counts) (x y k : ℕ) → Within c (getD formulaFields k []) (x ∷ y ∷ [])
-    → Within (beforeFormula (c .facts) (c .formulas)) (getD formulaFields k []) (x ∷ y ∷ [])
+    → Within (beside (c .facts) (c .formulas)) (getD formulaFields k []) (x ∷ y ∷ [])
 formula-own c x y k w =
-    pair-at (λ fs gs. Within c fs (x ∷ y ∷ []) → Within (beforeFormula (c .facts) (c .formulas)) gs (x ∷ y ∷ [])) [] [] formulaFields formulaFields
+    pair-at (λ fs gs. Within c fs (x ∷ y ∷ []) → Within (beside (c .facts) (c .formulas)) gs (x ∷ y ∷ [])) [] [] formulaFields formulaFields
     (λ h. h, (λ h. h, (λ h. h, (λ h. h, (λ h. h, (λ h. h, tt)))))) k (kind-listed c formulaFields k x (y ∷ []) w) w
 
 -- a move's effects are among all of them

@@ -5,11 +5,11 @@ use mathlib.Core.Path.{_≡_}
 use mathlib.Core.List.{List, [], _∷_}
 use native.Mathlib.Omega.{arith}
 use lib.ListN.{length, getD}
-use Rattle.limits.specs.Limits.{mostFacts}
+use Rattle.limits.specs.Limits.{mostFacts, lastClass}
 use Rattle.job.specs.Job.{formulaOf, moveOf, effectOf, rowOf, formulaAt, moveAt, effectAt, programRowAt}
 use Rattle.job.specs.Fields.{Within, formulaFields, rowFields}
 use Rattle.job.specs.Store.{formulasFrom, movesFrom, effectsFrom, programFrom, rowAt, storedMove, jobOf}
-use Rattle.job.specs.WellFormed.{beforeFormula, beforeRow, MoveFits}
+use Rattle.job.specs.WellFormed.{beside, beforeRow}
 use Rattle.job.specs.Stored.{Limited, Stored}
 use Rattle.job.specs.declared.head.Head.{Head}
 use Rattle.job.proofs.StoreLaws.{rows-length, rows-at}
@@ -60,7 +60,7 @@ module _ {h : Head} {l : List ℕ} (s : Stored h l) where
   module _ (i : ℕ) where
     -- what a formula and a program row refer to
     formula-within : i < h .counts .formulas
-        → Within (beforeFormula (h .counts .facts) i) (getD formulaFields (formulaAt (jobOf h l) i .kind) [])
+        → Within (beside (h .counts .facts) i) (getD formulaFields (formulaAt (jobOf h l) i .kind) [])
         (formulaAt (jobOf h l) i .a ∷ formulaAt (jobOf h l) i .b ∷ [])
     formula-within g = s .job .formula i (omega (arith, formula-count h l))
 
@@ -73,8 +73,8 @@ module _ {h : Head} {l : List ℕ} (s : Stored h l) where
     pub formula-fact : i < h .counts .formulas → formulaAt (jobOf h l) i .kind ≡ 2 → formulaAt (jobOf h l) i .a < mostFacts
     formula-fact g e = omega (arith, (rw e at (formula-within g)) .0, s .job .facts)
 
-    pub move-fits : i < h .counts .moves → MoveFits (length (jobOf h l .formulas)) (moveAt (jobOf h l) i)
-    move-fits g = s .job .move i (omega (arith, move-count h l))
+    pub move-classes : i < h .counts .moves → (moveAt (jobOf h l) i .class ≤ lastClass) × (moveAt (jobOf h l) i .second ≤ lastClass)
+    move-classes g = let w = s .job .move i (omega (arith, move-count h l)) in (omega (arith, w .1 .0), omega (arith, w .1 .1 .1 .1 .0))
 
     pub move-effects : i < h .counts .moves → moveAt (jobOf h l) i .first + moveAt (jobOf h l) i .effects ≤ h .counts .effects
     move-effects g =
@@ -86,4 +86,4 @@ module _ {h : Head} {l : List ℕ} (s : Stored h l) where
         )
 
     pub effect-fact : i < h .counts .effects → effectAt (jobOf h l) i .fact < h .counts .facts
-    effect-fact g = s .job .effect i (omega (arith, effect-count h l)) .fact
+    effect-fact g = s .job .effect i (omega (arith, effect-count h l)) .1 .0

@@ -5,9 +5,10 @@ use mathlib.Core.List.{List, [], _∷_}
 use mathlib.Core.Option.{Option, none, some}
 use lib.Dec.{ltb, leb}
 use lib.ListN.{getD}
-use Rattle.limits.specs.Limits.{mostFacts, mostFormulas, mostMoves, mostMoveEffects, lastClass, mostObjects, mostProgram}
+use Rattle.limits.specs.Limits.{mostFacts, mostFormulas, mostMoves, mostMoveEffects, mostObjects, mostProgram}
 use Rattle.job.specs.StateCount.{stateCount}
-use Rattle.job.specs.Fields.{formulaFields, rowFields, within}
+use Rattle.job.specs.Job.{moveOf, effectOf, moveNumbers, effectNumbers}
+use Rattle.job.specs.Fields.{formulaFields, moveFields, effectFields, rowFields, within}
 use Rattle.job.specs.declared.head.Counts.{Counts}
 use Rattle.job.specs.declared.fault.Range.{Range}
 use Rattle.job.specs.declared.line.Heading.{Heading}
@@ -44,16 +45,12 @@ pub record Criteria : Type 0 where
 abbrev criterion : Bool → Bool → Criteria
 criterion range fields = record { range = range; fields = fields }
 
--- a formula and a cost class
-abbrev pub formulaAndClass : Counts → ℕ → ℕ → Bool
-formulaAndClass c a class = ltb a (c .formulas) && leb class lastClass
-
 -- reason 3: "kind, reference, class, value or unused field wrong", beside so many facts, objects and
--- earlier rows. A move has a formula and a class twice: "Formula and class are checked as the others are"
+-- earlier rows. A move's count of effects is looked at before, by reason 2
 abbrev pub criteria : RowSort → Counts → List ℕ → Criteria
 criteria Formula c r = criterion true (within c (getD formulaFields (getD r 0 0) []) (getD r 1 0 ∷ getD r 2 0 ∷ []))
-criteria Move c r = criterion (leb (getD r 2 0) mostMoveEffects) (formulaAndClass c (getD r 0 0) (getD r 1 0) && formulaAndClass c (getD r 3 0) (getD r 4 0))
-criteria Effect c r = criterion true (ltb (getD r 0 0) (c .formulas) && (ltb (getD r 1 0) (c .facts) && leb (getD r 2 0) 1))
+criteria Move c r = criterion (leb (moveOf 0 r .effects) mostMoveEffects) (within c moveFields (moveNumbers (moveOf 0 r)))
+criteria Effect c r = criterion true (within c effectFields (effectNumbers (effectOf r)))
 criteria Row c r = criterion true (within c (getD rowFields (getD r 0 0) []) (getD r 1 0 ∷ getD r 2 0 ∷ getD r 3 0 ∷ []))
 
 -- "2 before 3"

@@ -4,17 +4,18 @@ use Prim.Native.Nat.{ℕ, _+_, _-_, _<_}
 use mathlib.Core.Bool.{Bool, true, false, _&&_}
 use mathlib.Core.List.{List, [], _∷_}
 use lib.Dec.{ltb}
+use Rattle.limits.specs.Limits.{classCount, mostMoveEffects}
 use Rattle.job.specs.declared.head.Counts.{Counts}
 use Rattle.job.specs.declared.fields.Field.{Field}
-use Rattle.job.specs.declared.fields.Field.the-variants.{Unused, Fact, Formula, FormulaBase, Move, MoveBase, Row, Variable}
+use Rattle.job.specs.declared.fields.Field.the-variants.{Unused, Fact, Formula, FormulaBase, Move, MoveBase, Row, Variable, Class, EffectCount, Value}
 
 -- "The sum of a and O may not exceed the count of moves or formulas": such a number a, to which an
 -- object is added, is below this one
 abbrev pub baseBound : ℕ → ℕ → ℕ
 baseBound count objects = count + 1 - objects
 
--- what a field may refer to, beside so many facts and objects and so many rows that stand before
--- it: it is below this number. A variable may be any number of a line
+-- what a field may refer to or say, beside so many facts and objects and so many rows that stand
+-- before it: it is below this number. A variable may be any number of a line
 abbrev pub bound : Counts → Field → ℕ
 bound c Unused = 1
 bound c Fact = c .facts
@@ -24,6 +25,9 @@ bound c Move = c .moves
 bound c MoveBase = baseBound (c .moves) (c .objects)
 bound c Row = c .program
 bound c Variable = 65536
+bound c Class = classCount
+bound c EffectCount = mostMoveEffects + 1
+bound c Value = 2
 
 -- a and b of a formula, by its kind
 abbrev pub formulaFields : List (List Field)
@@ -35,6 +39,14 @@ formulaFields =
     ∷ (Formula ∷ Formula ∷ [])  -- 4 formulas a and b
     ∷ (Formula ∷ Formula ∷ [])  -- 5 a or b
     ∷ []
+
+-- `m=pre,class,E,formula,class`: "Formula and class are checked as the others are"
+abbrev pub moveFields : List Field
+moveFields = Formula ∷ Class ∷ EffectCount ∷ Formula ∷ Class ∷ []
+
+-- `e=cond,fact,value`
+abbrev pub effectFields : List Field
+effectFields = Formula ∷ Fact ∷ Value ∷ []
 
 -- a, b and c of a program row, by its kind
 abbrev pub rowFields : List (List Field)

@@ -83,6 +83,13 @@ effectOf r = record { cond = getD r 0 0; fact = getD r 1 0; value = getD r 2 0 }
 abbrev pub rowOf : List ℕ → Row
 rowOf r = record { kind = getD r 0 0; a = getD r 1 0; b = getD r 2 0; c = getD r 3 0 }
 
+-- the numbers of a move's line and of an effect's
+abbrev pub moveNumbers : Move → List ℕ
+moveNumbers m = m .pre ∷ m .class ∷ m .effects ∷ m .when ∷ m .second ∷ []
+
+abbrev pub effectNumbers : Effect → List ℕ
+effectNumbers e = e .cond ∷ e .fact ∷ e .value ∷ []
+
 -- row i of its sort
 abbrev pub formulaAt : Job → ℕ → Formula
 formulaAt j i = getD (j .formulas) i (formulaOf [])

@@ -3,9 +3,11 @@ use Prim.Native.Nat.{ℕ}
 use Prim.Native.String.{String}
 use mathlib.Core.List.{List}
 use mathlib.Core.Option.{Option}
+use lib.ListN.{length}
 use Rattle.text.specs.Bytes.{codes}
 use Rattle.text.specs.Lines.{valueOf}
 use Rattle.text.specs.Numbers.{numbers}
+use Rattle.job.specs.Fields.{moveFields, effectFields}
 use Rattle.job.specs.declared.line.Line.{Line}
 use Rattle.job.specs.declared.line.Line.the-variants.{One, Of, End}
 use Rattle.job.specs.declared.line.Heading.{Heading}
@@ -33,8 +35,8 @@ keyOf Program = "program"
 abbrev pub formOf : Line → Form
 formOf (One h) = form (keyOf h) 1
 formOf (Of Formula) = form "f" 3
-formOf (Of Move) = form "m" 5
-formOf (Of Effect) = form "e" 3
+formOf (Of Move) = form "m" (length moveFields)
+formOf (Of Effect) = form "e" (length effectFields)
 formOf (Of Row) = form "p" 4
 formOf End = form "" 0
 

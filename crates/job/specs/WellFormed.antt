@@ -3,33 +3,25 @@ use Prim.Native.Nat.{ℕ, _+_, _≤_, _<_}
 use mathlib.Core.Path.{_≡_}
 use mathlib.Core.List.{List, [], _∷_}
 use lib.ListN.{length, getD}
-use Rattle.limits.specs.Limits.{mostFacts, mostFormulas, mostMoves, mostMoveEffects, mostEffects, lastClass, mostObjects, mostProgram}
+use Rattle.limits.specs.Limits.{mostFacts, mostFormulas, mostMoves, mostEffects, mostObjects, mostProgram}
 use Rattle.job.specs.StateCount.{stateCount}
-use Rattle.job.specs.Job.{Job, Formula, Move, Effect, Row, counts, formulaOf, moveOf, effectOf, rowOf}
-use Rattle.job.specs.Fields.{formulaFields, rowFields, Within}
+use Rattle.job.specs.Job.{Job, Formula, Move, Effect, Row, counts, formulaOf, moveOf, effectOf, rowOf, moveNumbers, effectNumbers}
+use Rattle.job.specs.Fields.{formulaFields, moveFields, effectFields, rowFields, Within}
 use Rattle.job.specs.declared.head.Counts.{Counts}
 
 -- P holds of each row at its number
 abbrev pub Every : {A : Type 0} → A → (ℕ → A → Type 0) → List A → Type 0
 Every d P l = (i : ℕ) → i < length l → P i (getD l i d)
 
--- what a formula may refer to: facts, and the i formulas before it
-abbrev pub beforeFormula : ℕ → ℕ → Counts
-beforeFormula facts i = counts facts i 0 0 0 0
+-- what formulas, moves and effects may refer to: so many facts and formulas, of a formula those before it
+abbrev pub beside : ℕ → ℕ → Counts
+beside facts formulas = counts facts formulas 0 0 0 0
 
 abbrev pub FormulaRows : ℕ → List Formula → Type 0
-FormulaRows facts = Every (formulaOf []) (λ i f. Within (beforeFormula facts i) (getD formulaFields (f .kind) []) (f .a ∷ f .b ∷ []))
+FormulaRows facts = Every (formulaOf []) (λ i f. Within (beside facts i) (getD formulaFields (f .kind) []) (f .a ∷ f .b ∷ []))
 
--- a move beside so many formulas
-pub record MoveFits (formulas : ℕ) (m : Move) : Type 0 where
-  pub pre : m .pre < formulas
-  pub class : m .class ≤ lastClass
-  pub effects : m .effects ≤ mostMoveEffects
-  pub when : m .when < formulas
-  pub second : m .second ≤ lastClass
-
-abbrev pub MoveRows : ℕ → List Move → Type 0
-MoveRows formulas = Every (moveOf 0 []) (λ i m. MoveFits formulas m)
+abbrev pub MoveRows : ℕ → ℕ → List Move → Type 0
+MoveRows facts formulas = Every (moveOf 0 []) (λ i m. Within (beside facts formulas) moveFields (moveNumbers m))
 
 -- the effects of the moves stand move after move, from number `first` on, and are all before number
 -- `last`
@@ -37,14 +29,8 @@ abbrev pub Tiled : ℕ → List Move → ℕ → Type 0
 Tiled first [] last = first ≡ last
 Tiled first (m ∷ ms) last = (m .first ≡ first) × Tiled (first + m .effects) ms last
 
--- an effect beside so many facts and formulas
-pub record EffectFits (facts formulas : ℕ) (e : Effect) : Type 0 where
-  pub cond : e .cond < formulas
-  pub fact : e .fact < facts
-  pub value : e .value ≤ 1
-
 abbrev pub EffectRows : ℕ → ℕ → List Effect → Type 0
-EffectRows facts formulas = Every (effectOf []) (λ i e. EffectFits facts formulas e)
+EffectRows facts formulas = Every (effectOf []) (λ i e. Within (beside facts formulas) effectFields (effectNumbers e))
 
 -- what a program row may refer to: facts, formulas, moves, objects, and the i rows before it
 abbrev pub beforeRow : Job → ℕ → Counts
@@ -61,7 +47,7 @@ pub record WellFormed (j : Job) : Type 0 where
   pub formulas : length (j .formulas) ≤ mostFormulas
   pub formula : FormulaRows (j .scalars .facts) (j .formulas)
   pub moves : length (j .moves) ≤ mostMoves
-  pub move : MoveRows (length (j .formulas)) (j .moves)
+  pub move : MoveRows (j .scalars .facts) (length (j .formulas)) (j .moves)
   pub tiled : Tiled 0 (j .moves) (length (j .effects))
   pub effects : length (j .effects) ≤ mostEffects
   pub effect : EffectRows (j .scalars .facts) (length (j .formulas)) (j .effects)

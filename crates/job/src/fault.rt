@@ -1,11 +1,9 @@
 // Which reason refuses a line: form before 2 before 3.
 ghost use mathlib.Core.Path.{_≡_};
-ghost use mathlib.Core.Bool.{cond, _&&_};
+ghost use mathlib.Core.Bool.{cond};
 ghost use Prim.Native.Nat.{_≤_};
-ghost use lib.Dec.{leb, ltb};
-ghost use lib.ListN.{getD};
 ghost use Rattle.limits.specs.Limits.{mostFacts};
-ghost use Rattle.job.specs.Fault.{rangeOf, isIn, formulaAndClass, criteria, firstReason, fault};
+ghost use Rattle.job.specs.Fault.{rangeOf, isIn, criteria, firstReason, fault};
 ghost use Rattle.job.specs.Store.{numbersOf};
 use crate::head::Counts;
 use crate::line::Heading;
@@ -15,7 +13,6 @@ use crate::line::RowSort;
 use crate::rows::WIDTH;
 use limits::FACTS;
 use limits::FORMULAS;
-use limits::LAST_CLASS;
 use limits::MOVE_EFFECTS;
 use limits::MOVES;
 use limits::OBJECTS;
@@ -72,33 +69,13 @@ fn is_in(range: Range, n: u16) -> bool
     n < range.below
 }
 
-fn formula_and_class(a: u16, class: u16, counts: Counts) -> bool
-    ensures { λ r. ⌜ r ≡ formulaAndClass counts a class ⌝ }
-{
-    (a < counts.formulas) & (class <= LAST_CLASS)
-}
-
 fn move_reason(numbers: [u16; WIDTH], counts: Counts) -> u8
     ensures { λ r. ⌜ r ≡ firstReason (criteria RowSort.Move counts numbers) ⌝ }
 {
-    if MOVE_EFFECTS < numbers[2] {
+    if MOVE_EFFECTS < numbers[crate::rows::EFFECT_COUNT] {
         return 2;
     }
-    let own = formula_and_class(numbers[0], numbers[1], counts);
-    let second = formula_and_class(numbers[3], numbers[4], counts);
-    unless(own & second, 3)
-}
-
-fn effect_right(numbers: [u16; WIDTH], facts: u16, formulas: u16) -> bool
-    ensures { λ r. ⌜ r ≡ (ltb (getD numbers 0 0) formulas && (ltb (getD numbers 1 0) facts && leb (getD numbers 2 0) 1)) ⌝ }
-{
-    if numbers[0] < formulas {
-        if numbers[1] < facts {
-            return numbers[2] <= 1;
-        }
-        return false;
-    }
-    false
+    unless(crate::fields::move_right(numbers, counts), 3)
 }
 
 // The reason that refuses a row, or 0.
@@ -108,7 +85,7 @@ fn row_reason(sort: RowSort, numbers: [u16; WIDTH], counts: Counts) -> u8
     match sort {
         RowSort::Formula => unless(crate::fields::formula_right(numbers, counts), 3),
         RowSort::Move => move_reason(numbers, counts),
-        RowSort::Effect => unless(effect_right(numbers, counts.facts, counts.formulas), 3),
+        RowSort::Effect => unless(crate::fields::effect_right(numbers, counts), 3),
         RowSort::Row => unless(crate::fields::row_right(numbers, counts), 3),
     }
 }

@@ -1,14 +1,17 @@
-// What the fields of a row may refer to, by its kind.
+// What the numbers of a row may be: of formulas and program rows by their kind.
 ghost use mathlib.Core.Path.{_≡_};
 ghost use mathlib.Core.List.{[], _∷_};
 ghost use Prim.Native.Nat.{_+_, _-_, _<_};
 ghost use lib.ListN.{getD};
-ghost use Rattle.job.specs.Fields.{formulaFields, rowFields, within};
+ghost use Rattle.job.specs.Job.{moveOf, effectOf, moveNumbers, effectNumbers};
+ghost use Rattle.job.specs.Fields.{formulaFields, moveFields, effectFields, rowFields, within};
 ghost use Rattle.job.specs.Fields.{bound as fieldBound};
 use crate::head::Counts;
 use crate::rows::WIDTH;
+use limits::LAST_CLASS;
+use limits::MOVE_EFFECTS;
 
-// What a number refers to. A base is one to which the object of a variable is added.
+// What a number refers to, or says. A base is one to which the object of a variable is added.
 pub enum Field {
     Unused,
     Fact,
@@ -18,6 +21,9 @@ pub enum Field {
     MoveBase,
     Row,
     Variable,
+    Class,
+    EffectCount,
+    Value,
 }
 
 // a, b and c of a formula, by its kind; it has no c.
@@ -29,6 +35,15 @@ const FORMULA_FIELDS: [[Field; 3]; 6] = [
     [Field::Formula, Field::Formula, Field::Unused], // formulas a and b
     [Field::Formula, Field::Formula, Field::Unused], // a or b
 ];
+
+// The numbers of a move, by threes; it has no sixth.
+const MOVE_FIELDS: [[Field; 3]; 2] = [
+    [Field::Formula, Field::Class, Field::EffectCount],
+    [Field::Formula, Field::Class, Field::Unused],
+];
+
+// The numbers of an effect.
+const EFFECT_FIELDS: [Field; 3] = [Field::Formula, Field::Fact, Field::Value];
 
 // a, b and c of a program row, by its kind.
 const ROW_FIELDS: [[Field; 3]; 12] = [
@@ -68,6 +83,9 @@ fn bound(f: Field, counts: Counts) -> u32
         Field::MoveBase => base_bound(counts.moves, counts.objects),
         Field::Row => counts.program as u32,
         Field::Variable => 65536,
+        Field::Class => (LAST_CLASS as u32) + 1,
+        Field::EffectCount => (MOVE_EFFECTS as u32) + 1,
+        Field::Value => 2,
     }
 }
 
@@ -93,6 +111,22 @@ pub fn formula_right(numbers: [u16; WIDTH], counts: Counts) -> bool
         return right(FORMULA_FIELDS[kind], numbers[1], numbers[2], 0, counts);
     }
     false
+}
+
+// Whether a move refers to formulas alone, with classes and a count of effects in their ranges.
+pub fn move_right(numbers: [u16; WIDTH], counts: Counts) -> bool
+    ensures { λ r. ⌜ r ≡ within counts moveFields (moveNumbers (moveOf 0 numbers)) ⌝ }
+{
+    let own = right(MOVE_FIELDS[0], numbers[0], numbers[1], numbers[2], counts);
+    let second = right(MOVE_FIELDS[1], numbers[3], numbers[4], 0, counts);
+    own & second
+}
+
+// Whether an effect refers to a formula and a fact, with a value of 0 or 1.
+pub fn effect_right(numbers: [u16; WIDTH], counts: Counts) -> bool
+    ensures { λ r. ⌜ r ≡ within counts effectFields (effectNumbers (effectOf numbers)) ⌝ }
+{
+    right(EFFECT_FIELDS, numbers[0], numbers[1], numbers[2], counts)
 }
 
 // Whether a program row refers to formulas, moves and earlier rows alone, with any object added where

@@ -2,22 +2,16 @@
 -- Assumes nothing.
 use Prim.Native.Nat.{ℕ, _+_, _-_, _<_}
 use mathlib.Core.Path.{_≡_, refl, sym, _∙_, subst}
-use mathlib.Core.Bool.{_&&_}
 use mathlib.Core.List.{List, [], _∷_, _++_}
 use native.Mathlib.Omega.{arith}
-use lib.Dec.{ltb, leb}
 use lib.ListN.{length, getD, length-append}
-use borrow.Author.Tests.{leb-true, ltb-true}
-use Rattle.laws.proofs.Tests.{and-left, and-right}
 use Rattle.laws.proofs.Lists.{every-more}
-use Rattle.limits.specs.Limits.{mostMoveEffects}
 use Rattle.job.specs.StateCount.{stateCount}
 use Rattle.job.specs.Job as J
-use Rattle.job.specs.Job.{countsOf, formulaOf, moveOf, effectOf, rowOf}
-use Rattle.job.specs.Fields.{Within, formulaFields, rowFields}
-use Rattle.job.specs.Fault.{formulaAndClass}
+use Rattle.job.specs.Job.{countsOf, formulaOf, moveOf, effectOf, rowOf, moveNumbers, effectNumbers}
+use Rattle.job.specs.Fields.{Within, formulaFields, moveFields, effectFields, rowFields}
 use Rattle.job.specs.ReadJob.{Reading, past, again, afterRow, begun, takenAt, taken}
-use Rattle.job.specs.WellFormed.{FormulaRows, MoveRows, MoveFits, Tiled, EffectRows, EffectFits, ProgramRows, WellFormed, beforeFormula, beforeRow}
+use Rattle.job.specs.WellFormed.{FormulaRows, MoveRows, Tiled, EffectRows, ProgramRows, WellFormed, beside, beforeRow}
 use Rattle.job.specs.declared.head.Counts.{Counts}
 use Rattle.job.specs.declared.line.Heading.{Heading}
 use Rattle.job.specs.declared.line.Heading.the-variants.{Job, Facts, Init, Formulas, Moves, Goal, Objects, Program}
@@ -25,7 +19,7 @@ use Rattle.job.specs.declared.line.RowSort.{RowSort}
 use Rattle.job.specs.declared.line.RowSort.the-variants.{Formula, Move, Effect, Row}
 use Rattle.job.specs.declared.line.Line.{Line}
 use Rattle.job.specs.declared.line.Line.the-variants.{One, Of, End}
-use Rattle.job.proofs.RowLaws.{within-true, formula-and-class-iff, formula-own}
+use Rattle.job.proofs.RowLaws.{within-true, formula-own}
 use Rattle.reader.specs.Room.{Room}
 use Rattle.reader.proofs.RoomLaws.{Right, RoomOf, rows-has, taken-room}
 
@@ -54,7 +48,7 @@ Settled End j = InitRight j × GoalRight j × (0 < length (j .program))
 -- the rows so far are right, with so many effects of the last move still due
 pub record Fits (effects : ℕ) (j : J.Job) : Type 0 where
   pub formula : FormulaRows (j .scalars .facts) (j .formulas)
-  pub move : MoveRows (length (j .formulas)) (j .moves)
+  pub move : MoveRows (j .scalars .facts) (length (j .formulas)) (j .moves)
   pub tiled : Tiled 0 (j .moves) (length (j .effects) + effects)
   pub effect : EffectRows (j .scalars .facts) (length (j .formulas)) (j .effects)
   pub row : ProgramRows j (j .program)
@@ -110,7 +104,7 @@ module _ (s : Reading) (r : List ℕ) where
       let b : length (j .effects) ≡ 0 = omega (arith, h .fit .effects) in
       let d : length (j .program) ≡ 0 = omega (arith, h .fit .program) in
       record {
-        formula = every-more (formulaOf []) (λ i f. Within (beforeFormula (j .scalars .facts) i) (getD formulaFields (f .kind) []) (f .a ∷ f .b ∷ []))
+        formula = every-more (formulaOf []) (λ i f. Within (beside (j .scalars .facts) i) (getD formulaFields (f .kind) []) (f .a ∷ f .b ∷ []))
             (j .formulas) (formulaOf r)
             (f .formula) (formula-own c (getD r 1 0) (getD r 2 0) (getD r 0 0) (within-true c (getD formulaFields (getD r 0 0) []) _ (x .1)));
         move = λ i g. absurd (omega arith);
@@ -120,14 +114,11 @@ module _ (s : Reading) (r : List ℕ) where
       }
   row-fits Move x h f =
       let m : J.Move = moveOf (length (j .effects)) r in
-      let own = formula-and-class-iff c (getD r 0 0) (getD r 1 0) .0 (and-left (formulaAndClass c (getD r 0 0) (getD r 1 0)) _ (x .1)) in
-      let second = formula-and-class-iff c (getD r 3 0) (getD r 4 0) .0 (and-right (formulaAndClass c (getD r 0 0) (getD r 1 0)) _ (x .1)) in
       let e : length (j .effects) + s .effects ≡ length (j .effects) = omega (arith, h .owed .1) in
       let d : length (j .program) ≡ 0 = omega (arith, h .fit .program) in
       record {
         formula = f .formula;
-        move = every-more (moveOf 0 []) (λ i m. MoveFits (length (j .formulas)) m) (j .moves) m (f .move)
-            (record { pre = own .0; class = own .1; effects = leb-true (getD r 2 0) mostMoveEffects (x .0); when = second .0; second = second .1 });
+        move = every-more (moveOf 0 []) (λ i m. Within c moveFields (moveNumbers m)) (j .moves) m (f .move) (within-true c moveFields (moveNumbers m) (x .1));
         tiled = tiled-more 0 (length (j .effects)) (j .moves) m (subst (Tiled 0 (j .moves)) e (f .tiled)) refl;
         effect = f .effect;
         row = λ i g. absurd (omega arith);
@@ -136,18 +127,12 @@ module _ (s : Reading) (r : List ℕ) where
       let e : length (j .effects) + s .effects ≡ length (j .effects ++ (effectOf r ∷ [])) + (s .effects - 1) = omega
       (arith, h .owed, length-append (j .effects) (effectOf r ∷ [])) in
       let d : length (j .program) ≡ 0 = omega (arith, h .fit .program) in
-      let q = x .1 in
-      let q′ = and-right (ltb (getD r 0 0) (c .formulas)) (ltb (getD r 1 0) (c .facts) && leb (getD r 2 0) 1) q in
       record {
         formula = f .formula;
         move = f .move;
         tiled = subst (Tiled 0 (j .moves)) e (f .tiled);
-        effect = every-more (effectOf []) (λ i e. EffectFits (j .scalars .facts) (length (j .formulas)) e) (j .effects) (effectOf r) (f .effect)
-            (record {
-              cond = ltb-true (getD r 0 0) (c .formulas) (and-left (ltb (getD r 0 0) (c .formulas)) _ q);
-              fact = ltb-true (getD r 1 0) (c .facts) (and-left (ltb (getD r 1 0) (c .facts)) _ q′);
-              value = leb-true (getD r 2 0) 1 (and-right (ltb (getD r 1 0) (c .facts)) _ q′);
-            });
+        effect = every-more (effectOf []) (λ i e. Within c effectFields (effectNumbers e)) (j .effects) (effectOf r) (f .effect)
+            (within-true c effectFields (effectNumbers (effectOf r)) (x .1));
         row = λ i g. absurd (omega arith);
       }
   row-fits Row x h f = record {

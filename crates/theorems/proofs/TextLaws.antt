@@ -7,11 +7,11 @@ use mathlib.Core.List.{List, [], _∷_, _++_, map, flatten, append-assoc, append
 use mathlib.Core.Option.{some}
 use native.Mathlib.Omega.{arith}
 use native.Mathlib.Nat.{pow-le-pow-right}
-use lib.Dec.{ltb, leb}
+use lib.Dec.{ltb}
 use lib.Seq.{length-take-le}
 use lib.ListN.{length, getD, take, drop, length-append, length-drop, length-map, take-append-drop}
 use borrow.Author.Tests.{lt-ltb, le-leb, ne-eqb}
-use Rattle.limits.specs.Limits.{mostFacts, mostFormulas, mostMoves, mostProgram}
+use Rattle.limits.specs.Limits.{mostFacts, mostFormulas, mostMoves, mostMoveEffects, mostProgram}
 use Rattle.laws.proofs.Tests.{and-both}
 use Rattle.laws.proofs.Each.{All, all-every, all-at, all-take, all-drop, all-any, all-both, all-map}
 use Rattle.text.proofs.WrittenLaws.{Small}
@@ -20,11 +20,11 @@ use Rattle.text.proofs.LineText.{line-complete, plain, endsOnce, line-of, line-
 use Rattle.job.specs.Job as J
 use Rattle.job.specs.Job.{countsOf, jobWith}
 use Rattle.job.specs.Line.{formOf, lineNumbers}
-use Rattle.job.specs.Fields.{bound, within, Within, formulaFields, rowFields}
-use Rattle.job.specs.Fault.{rangeOf, formulaAndClass, criteria, reasonOf, fault}
+use Rattle.job.specs.Fields.{bound, within, Within, formulaFields, moveFields, effectFields, rowFields}
+use Rattle.job.specs.Fault.{rangeOf, criteria, reasonOf, fault}
 use Rattle.job.specs.ReadJob.{Reading, on, read, ended, begun, readFrom, readJob, taken, takenAt, takenOne, dueAfter, effectsAfter, jobAfter, afterRow}
 use Rattle.theorems.specs.JobText.{lineOf, formulaLine, moveLine, effectLine, rowLine, moveLines, programLines, jobLines, jobText}
-use Rattle.job.specs.WellFormed.{WellFormed, MoveFits, EffectFits, Tiled, beforeFormula, beforeRow}
+use Rattle.job.specs.WellFormed.{WellFormed, Tiled, beside, beforeRow}
 use Rattle.job.specs.declared.head.Counts.{Counts}
 use Rattle.job.specs.declared.fields.Field.{Field}
 use Rattle.job.specs.declared.fields.Field.the-variants as F
@@ -34,7 +34,7 @@ use Rattle.job.specs.declared.line.RowSort.{RowSort}
 use Rattle.job.specs.declared.line.RowSort.the-variants.{Formula, Move, Effect, Row}
 use Rattle.job.specs.declared.line.Line.{Line}
 use Rattle.job.specs.declared.line.Line.the-variants.{One, Of, End}
-use Rattle.job.proofs.RowLaws.{kind-listed, formula-and-class-iff, tiled-own}
+use Rattle.job.proofs.RowLaws.{kind-listed, tiled-own}
 use Rattle.reader.proofs.ReadLaws.{line-right}
 
 -- the statement of fields passes their test, and their numbers are small
@@ -61,6 +61,9 @@ bound-small c a b d e F.Move = omega arith
 bound-small c a b d e F.MoveBase = omega arith
 bound-small c a b d e F.Row = omega arith
 bound-small c a b d e F.Variable = omega arith
+bound-small c a b d e F.Class = omega arith
+bound-small c a b d e F.EffectCount = omega arith
+bound-small c a b d e F.Value = omega arith
 
 -- a row of a table of kinds: its fields pass, and its numbers are small
 abbrev KindText : Counts → List (List Field) → ℕ → List ℕ → Type 0
@@ -132,41 +135,37 @@ row-step m n j r rest q =
     row-line Row _ (suc m) 0 m 0 n j (r .kind) (r .a ∷ r .b ∷ r .c ∷ []) rest (rw (ne-eqb (suc m) 0 (λ z. omega arith))) refl (q .1) refl (q .0)
     (omega arith) refl
 
--- a move's effects
-abbrev EffectText : J.Job → J.Effect → Type 0
-EffectText j e = EffectFits (j .scalars .facts) (length (j .formulas)) e × Small (e .cond ∷ e .fact ∷ e .value ∷ [])
+-- a move's effects, and a move: their numbers are within their fields, which have small bounds
+module _ (sc : J.Scalars) (fs : List J.Formula) (small : (f : Field) → bound (beside (sc .facts) (length fs)) f ≤ 65536) where
+  abbrev beside-it : Counts
+  beside-it = beside (sc .facts) (length fs)
 
-effect-step : (due m n : ℕ) (j : J.Job) (e : J.Effect) (rest : List (List ℕ)) → EffectText j e
-    → readFrom n (on (afterRow Effect due (suc m)) due (suc m) j) (effectLine e ∷ rest) ≡ readFrom (n + 1)
-    (on (afterRow Effect due m) due m (J.addEffect j e)) rest
-effect-step due m n j e rest q =
-    row-line Effect _ due (suc m) due m n j (e .cond) (e .fact ∷ e .value ∷ []) rest (rw (ne-eqb (suc m) 0 (λ z. omega arith))) refl (q .1) refl
-    (and-both (ltb (e .cond) (length (j .formulas))) _ (lt-ltb _ _ (q .0 .cond))
-    (and-both (ltb (e .fact) (j .scalars .facts)) (leb (e .value) 1) (lt-ltb _ _ (q .0 .fact)) (le-leb _ _ (q .0 .value))))
-    refl (omega arith)
+  abbrev MoveText : J.Move → Type 0
+  MoveText m = Within beside-it moveFields (J.moveNumbers m)
 
--- a move
-move-step : (due n : ℕ) (j : J.Job) (m : J.Move) (rest : List (List ℕ)) → length (j .formulas) ≤ mostFormulas → MoveFits (length (j .formulas)) m
-    → m .first ≡ length (j .effects)
-    → readFrom n (on (Of Move) (suc due) 0 j) (moveLine m ∷ rest) ≡ readFrom (n + 1)
-    (on (afterRow Effect due (m .effects)) due (m .effects) (J.addMove j m)) rest
-move-step due n j m rest h f e =
-    row-line Move _ (suc due) 0 due (m .effects) n j (m .pre) (m .class ∷ m .effects ∷ m .when ∷ m .second ∷ []) rest refl refl
-    (omega (arith, f .pre), (omega (arith, f .class), (omega (arith, f .effects), (omega (arith, f .when), (omega (arith, f .second), tt)))))
-    (le-leb _ _ (f .effects))
-    (and-both (formulaAndClass (countsOf j) (m .pre) (m .class)) _ (formula-and-class-iff (countsOf j) (m .pre) (m .class) .1 (f .pre, f .class))
-    (formula-and-class-iff (countsOf j) (m .when) (m .second) .1 (f .when, f .second)))
-    (omega arith) refl
-    ∙ ap (λ i. readFrom (n + 1) (on (afterRow Effect due (m .effects)) due (m .effects)
-    (J.addMove j (J.moveOf i (m .pre ∷ m .class ∷ m .effects ∷ m .when ∷ m .second ∷ [])))) rest) (sym e)
+  abbrev EffectText : J.Effect → Type 0
+  EffectText e = Within beside-it effectFields (J.effectNumbers e)
 
--- the moves, each with its effects
-module _ (sc : J.Scalars) (fs : List J.Formula) (few : length fs ≤ mostFormulas) where
-  abbrev P : J.Effect → Type 0
-  P e = EffectFits (sc .facts) (length fs) e × Small (e .cond ∷ e .fact ∷ e .value ∷ [])
+  effect-step : (due m n : ℕ) (ms : List J.Move) (es : List J.Effect) (e : J.Effect) (rest : List (List ℕ)) → EffectText e
+      → readFrom n (on (afterRow Effect due (suc m)) due (suc m) (jobWith sc fs ms es [])) (effectLine e ∷ rest)
+      ≡ readFrom (n + 1) (on (afterRow Effect due m) due m (jobWith sc fs ms (es ++ (e ∷ [])) [])) rest
+  effect-step due m n ms es e rest w =
+      row-line Effect _ due (suc m) due m n (jobWith sc fs ms es []) (e .cond) (drop 1 (J.effectNumbers e)) rest (rw (ne-eqb (suc m) 0 (λ z. omega arith))) refl
+      (small-within beside-it small effectFields (J.effectNumbers e) w) refl (true-within beside-it effectFields (J.effectNumbers e) w) refl (omega arith)
 
+  move-step : (due n : ℕ) (ms : List J.Move) (es : List J.Effect) (m : J.Move) (rest : List (List ℕ)) → MoveText m → m .first ≡ length es
+      → readFrom n (on (Of Move) (suc due) 0 (jobWith sc fs ms es [])) (moveLine m ∷ rest)
+      ≡ readFrom (n + 1) (on (afterRow Effect due (m .effects)) due (m .effects) (jobWith sc fs (ms ++ (m ∷ [])) es [])) rest
+  move-step due n ms es m rest w e =
+      row-line Move _ (suc due) 0 due (m .effects) n (jobWith sc fs ms es []) (m .pre) (drop 1 (J.moveNumbers m)) rest refl refl
+      (small-within beside-it small moveFields (J.moveNumbers m) w) (le-leb (m .effects) mostMoveEffects (omega (arith, w .1 .1 .0)))
+      (true-within beside-it moveFields (J.moveNumbers m) w) (omega arith) refl
+      ∙ ap (λ i. readFrom (n + 1) (on (afterRow Effect due (m .effects)) due (m .effects)
+      (jobWith sc fs (ms ++ (J.moveOf i (J.moveNumbers m) ∷ [])) es [])) rest) (sym e)
+
+  -- the moves, each with its effects
   moves-read : (ms : List J.Move) (es : List J.Effect) (ms₀ : List J.Move) (es₀ : List J.Effect) (n : ℕ) (tail : List (List ℕ))
-      → Tiled (length es₀) ms (length es₀ + length es) → All (MoveFits (length fs)) ms → All P es
+      → Tiled (length es₀) ms (length es₀ + length es) → All MoveText ms → All EffectText es
       → readFrom n (on (afterRow Effect (length ms) 0) (length ms) 0 (jobWith sc fs ms₀ es₀ [])) (moveLines ms es ++ tail)
       ≡ readFrom (n + length (moveLines ms es)) (on (One Goal) 0 0 (jobWith sc fs (ms₀ ++ ms) (es₀ ++ es) [])) tail
   unfolding moveLines
@@ -186,11 +185,11 @@ module _ (sc : J.Scalars) (fs : List J.Formula) (few : length fs ≤ mostFormula
       let e₃ : n + 1 + length a + length (moveLines ms b) ≡ n + suc (length (map effectLine a ++ moveLines ms b)) =
       omega (arith, length-append (map effectLine a) (moveLines ms b), length-map a effectLine) in
       rw (ne-eqb (suc (length ms)) 0 (λ z. omega arith), append-assoc (map effectLine a) (moveLines ms b) tail)
-      (move-step (length ms) n (jobWith sc fs ms₀ es₀ []) m (map effectLine a ++ rest) few (f .0) (t .0)
+      (move-step (length ms) n ms₀ es₀ m (map effectLine a ++ rest) (f .0) (t .0)
       ∙ ap (λ k. readFrom (n + 1) (on (afterRow Effect (length ms) k) (length ms) k (mk es₀)) (map effectLine a ++ rest)) (sym la)
-      ∙ rows-read (J.effectOf []) mk (λ i x. P x) (λ k j. on (afterRow Effect (length ms) k) (length ms) k j) effectLine
-      (λ k i done. effect-step (length ms) k i (mk done)) a es₀ (n + 1) rest (all-at (J.effectOf []) P a (all-take P (m .effects) es g))
-      ∙ moves-read ms b (ms₀ ++ (m ∷ [])) (es₀ ++ a) (n + 1 + length a) tail (rw (e₂, e₁) (t .1)) (f .1) (all-drop P (m .effects) es g)
+      ∙ rows-read (J.effectOf []) mk (λ i x. EffectText x) (λ k j. on (afterRow Effect (length ms) k) (length ms) k j) effectLine
+      (λ k i. effect-step (length ms) k i (ms₀ ++ (m ∷ []))) a es₀ (n + 1) rest (all-at (J.effectOf []) EffectText a (all-take EffectText (m .effects) es g))
+      ∙ moves-read ms b (ms₀ ++ (m ∷ [])) (es₀ ++ a) (n + 1 + length a) tail (rw (e₂, e₁) (t .1)) (f .1) (all-drop EffectText (m .effects) es g)
       ∙ rw (append-assoc ms₀ (m ∷ []) ms, append-assoc es₀ a b, take-append-drop (m .effects) es, e₃))
 
 read-end : (n : ℕ) (j : J.Job) → readFrom n (on End 0 0 j) [] ≡ read n j
@@ -203,13 +202,13 @@ module _ (j : J.Job) (w : WellFormed j) where
   facts = j .scalars .facts
 
   abbrev FormulaAt : ℕ → J.Formula → Type 0
-  FormulaAt i f = KindText (beforeFormula facts i) formulaFields (f .kind) (f .a ∷ f .b ∷ [])
+  FormulaAt i f = KindText (beside facts i) formulaFields (f .kind) (f .a ∷ f .b ∷ [])
 
   formula-texts : (i : ℕ) → i < length (j .formulas) → FormulaAt (0 + i) (getD (j .formulas) i (J.formulaOf []))
   formula-texts i h =
       let e : i ≡ 0 + i = omega arith in
       subst (λ k. FormulaAt k (getD (j .formulas) i (J.formulaOf []))) e
-      (kind-text (beforeFormula facts i) formulaFields (omega arith)
+      (kind-text (beside facts i) formulaFields (omega arith)
       (bound-small _ (w .facts) (omega (arith, w .formulas)) (omega arith) (omega arith)) _ _ _ (w .formula i h))
 
   abbrev RowAt : ℕ → J.Row → Type 0
@@ -220,14 +219,6 @@ module _ (j : J.Job) (w : WellFormed j) where
       let e : i ≡ 0 + i = omega arith in
       subst (λ k. RowAt k (getD (j .program) i (J.rowOf []))) e
       (kind-text (beforeRow j i) rowFields (omega arith) (bound-small _ (w .facts) (w .formulas) (w .moves) (omega (arith, w .program))) _ _ _ (w .row i h))
-
-  effect-texts : All (P (j .scalars) (j .formulas) (w .formulas)) (j .effects)
-  effect-texts = all-every (J.effectOf []) (P (j .scalars) (j .formulas) (w .formulas)) (j .effects) (λ i h.
-      let f = w .effect i h in
-      (f, (omega (arith, f .cond, w .formulas), (omega (arith, f .fact, w .facts), (omega (arith, f .value), tt)))))
-
-  move-texts : All (MoveFits (length (j .formulas))) (j .moves)
-  move-texts = all-every (J.moveOf 0 []) (MoveFits (length (j .formulas))) (j .moves) (w .move)
 
   init-small : j .scalars .init ≤ 65535
   init-small = let p : 2 ^ facts ≤ 2 ^ mostFacts = pow-le-pow-right (omega arith) (w .facts) in omega (arith, w .init)
@@ -276,6 +267,7 @@ module _ (j : J.Job) (w : WellFormed j) where
       let n : ℕ = 4 + length fs in
       let mk : List J.Formula → J.Job = λ l. jobWith sc l [] [] [] in
       let z : 0 + length es ≡ length es = omega arith in
+      let small = bound-small (beside facts (length fs)) (w .facts) (w .formulas) (omega arith) (omega arith) in
       let e : 4 + length fs + 1 + length (moveLines ms es) + 1 + 1 + 1 + length (j .program) ≡ length (jobLines j) =
       omega (
         arith,
@@ -290,7 +282,8 @@ module _ (j : J.Job) (w : WellFormed j) where
       fs [] 4 after formula-texts
       ∙ one-line Moves 0 (jobWith sc fs [] [] []) n (length ms) (moveLines ms es ++ programLines j) (omega (arith, w .moves)) (omega arith)
       (omega (arith, w .moves))
-      ∙ moves-read sc fs (w .formulas) ms es [] [] (n + 1) (programLines j) (rw z (w .tiled)) move-texts effect-texts
+      ∙ moves-read sc fs small ms es [] [] (n + 1) (programLines j) (rw z (w .tiled))
+      (all-every (J.moveOf 0 []) (MoveText sc fs small) ms (w .move)) (all-every (J.effectOf []) (EffectText sc fs small) es (w .effect))
       ∙ program-read (n + 1 + length (moveLines ms es))
       ∙ ap (λ k. read k j) e
 

@@ -17,10 +17,10 @@ abbrev pub formulaLine : J.Formula → List ℕ
 formulaLine f = lineOf (Of Formula) (f .kind ∷ f .a ∷ f .b ∷ [])
 
 abbrev pub moveLine : J.Move → List ℕ
-moveLine m = lineOf (Of Move) (m .pre ∷ m .class ∷ m .effects ∷ m .when ∷ m .second ∷ [])
+moveLine m = lineOf (Of Move) (J.moveNumbers m)
 
 abbrev pub effectLine : J.Effect → List ℕ
-effectLine e = lineOf (Of Effect) (e .cond ∷ e .fact ∷ e .value ∷ [])
+effectLine e = lineOf (Of Effect) (J.effectNumbers e)
 
 abbrev pub rowLine : J.Row → List ℕ
 rowLine r = lineOf (Of Row) (r .kind ∷ r .a ∷ r .b ∷ r .c ∷ [])

@@ -9,17 +9,7 @@ returns : tie.Need-returns
 returns c = rw (lt-leb _ mostMoveEffects (c .if1 .taken))
 
 returns-2 : tie.Need-returns-2
-returns-2 c =
-    c .unless .ensures
-    ∙ rw (
-      le-leb _ mostMoveEffects (c .before .before .before .if1 .left),
-      c .before .before .formula-and-class .ensures,
-      c .before .formula-and-class2 .ensures,
-    )
+returns-2 c = c .unless .ensures ∙ rw (le-leb _ mostMoveEffects (c .before .before .if1 .left), c .before .move-right .ensures)
 
 pub move-reason-spec : {M : Type 1} → statement M
-move-reason-spec =
-    tie.close
-    (tie.spec
-    (λ c. search needs) returns (λ c. search needs) (λ c. search needs) (λ c κs. search needs) (λ c. search needs) (λ c. search needs)
-    (λ c κs. search needs) (λ c κs. search needs) returns-2)
+move-reason-spec = tie.close (tie.spec (λ c. search needs) returns (λ c κs. search needs) (λ c κs. search needs) returns-2)
