@@ -21,7 +21,7 @@ use Rattle.job.specs.declared.line.Line.{Line}
 use Rattle.job.specs.declared.line.Line.the-variants.{One, Of, End}
 use Rattle.job.proofs.RowLaws.{within-true, formula-own}
 use Rattle.reader.specs.Room.{Room}
-use Rattle.reader.proofs.RoomLaws.{Right, RoomOf, rows-has, taken-room}
+use Rattle.reader.proofs.RoomLaws.{LineRight, RoomOf, rows-has, taken-room}
 
 -- what is settled once a line has been read
 abbrev InitRight : J.Job → Type 0
@@ -97,7 +97,7 @@ module _ (s : Reading) (r : List ℕ) where
   one-fits Objects h f = let d : length (j .program) ≡ 0 = omega (arith, h .fit .program) in same-facts _ refl (λ i g. absurd (omega arith)) f
   one-fits Program h f = same-facts _ refl (f .row) f
 
-  row-fits : (k : RowSort) → Right (Of k) c r → Room (Of k) (s .due) (s .effects) c → Fits (s .effects) j
+  row-fits : (k : RowSort) → LineRight (Of k) c r → Room (Of k) (s .due) (s .effects) c → Fits (s .effects) j
       → Fits (takenAt (Of k) s r .effects) (takenAt (Of k) s r .job)
   row-fits Formula x h f =
       let a : length (j .moves) ≡ 0 = omega (arith, h .fit .moves) in
@@ -144,7 +144,7 @@ module _ (s : Reading) (r : List ℕ) where
         (within-true c (getD rowFields (getD r 0 0) []) (getD r 1 0 ∷ getD r 2 0 ∷ getD r 3 0 ∷ []) (x .1));
   }
 
-  fits-at : (k : Line) → Right k c r → Room k (s .due) (s .effects) c → Fits (s .effects) j → Fits (takenAt k s r .effects) (takenAt k s r .job)
+  fits-at : (k : Line) → LineRight k c r → Room k (s .due) (s .effects) c → Fits (s .effects) j → Fits (takenAt k s r .effects) (takenAt k s r .job)
   fits-at (One k) x h f = one-fits k h f
   fits-at (Of k) x h f = row-fits k x h f
   fits-at End x h f = f
@@ -154,7 +154,7 @@ module _ (s : Reading) (r : List ℕ) where
       → Settled (afterRow k due effects) q
   settled-rows k due effects q f g h = rows-has (λ l. Settled l q) k due effects (λ y z. f z) (λ y z. g) (λ z. h)
 
-  settled-at : (k : Line) → Right k c r → Settled k j → Settled (takenAt k s r .next) (takenAt k s r .job)
+  settled-at : (k : Line) → LineRight k c r → Settled k j → Settled (takenAt k s r .next) (takenAt k s r .job)
   settled-at (One Job) x f = tt
   settled-at (One Facts) x f = tt
   settled-at (One Init) x f = x .1
@@ -172,12 +172,12 @@ module _ (s : Reading) (r : List ℕ) where
   settled-at End x f = absurd x
 
 -- a state of reading whose rows are right
-pub record Kept (s : Reading) : Type 0 where
+pub record FormedSoFar (s : Reading) : Type 0 where
   pub room : RoomOf s
   pub fit : Fits (s .effects) (s .job)
   pub settled : Settled (s .next) (s .job)
 
-pub taken-kept : (s : Reading) (r : List ℕ) → Right (s .next) (countsOf (s .job)) r → Kept s → Kept (taken s r)
+pub taken-kept : (s : Reading) (r : List ℕ) → LineRight (s .next) (countsOf (s .job)) r → FormedSoFar s → FormedSoFar (taken s r)
 unfolding taken
 taken-kept s r x k = record {
   room = unfold taken in taken-room s r x (k .room);
@@ -185,7 +185,7 @@ taken-kept s r x k = record {
   settled = settled-at s r (s .next) x (k .settled);
 }
 
-pub begun-kept : Kept begun
+pub begun-kept : FormedSoFar begun
 begun-kept = record {
   room = record {
     facts = omega arith;
@@ -204,7 +204,7 @@ begun-kept = record {
 }
 
 -- at the end all is settled
-pub end-well-formed : (s : Reading) → Kept s → s .next ≡ End → WellFormed (s .job)
+pub end-well-formed : (s : Reading) → FormedSoFar s → s .next ≡ End → WellFormed (s .job)
 end-well-formed s k e =
     let h : Room End (s .due) (s .effects) (countsOf (s .job)) = rw e at (k .room) in
     let t : Settled End (s .job) = rw e at (k .settled) in

@@ -27,8 +27,8 @@ use Rattle.job.proofs.StoreLaws.{counts-of}
 use Rattle.reader.specs.Reading.{readingOf}
 use Rattle.reader.specs.Room.{Room}
 use Rattle.reader.specs.declared.taking.ReaderState.{ReaderState}
-use Rattle.reader.proofs.RoomLaws.{Right, fault-right}
-use Rattle.reader.proofs.KeptLaws.{Kept, taken-kept, begun-kept, end-well-formed}
+use Rattle.reader.proofs.RoomLaws.{LineRight, fault-right}
+use Rattle.reader.proofs.KeptLaws.{FormedSoFar, taken-kept, begun-kept, end-well-formed}
 
 abbrev reason : Reading → List ℕ → ℕ
 reason s line = fault (s .next) (countsOf (s .job)) (lineNumbers (s .next) line)
@@ -66,12 +66,12 @@ module _ (s : ReaderState) (rows line : List ℕ) (r : LineNumbers) (numbers-rea
     pub numbers-of : lineNumbers (s .next) line ≡ some (listOf (s .next) r)
     numbers-of = sym numbers-read ∙ rw (right-formed (s .next) (s .head .counts) r zero-reason)
 
-    pub right-of : Right (s .next) (countsOf (jobOf (s .head) rows)) (listOf (s .next) r)
+    pub right-of : LineRight (s .next) (countsOf (jobOf (s .head) rows)) (listOf (s .next) r)
     right-of =
         fault-right (s .next) (countsOf (jobOf (s .head) rows)) (listOf (s .next) r)
         (ap (fault (s .next) (countsOf (jobOf (s .head) rows))) (sym numbers-of) ∙ sym reason-of ∙ zero-reason)
 
-pub room-of : (s : ReaderState) (rows : List ℕ) → Kept (readingOf s rows) → Room (s .next) (s .due) (s .effects) (s .head .counts)
+pub room-of : (s : ReaderState) (rows : List ℕ) → FormedSoFar (readingOf s rows) → Room (s .next) (s .due) (s .effects) (s .head .counts)
 room-of s rows k = rw (counts-of (s .head) rows) at (k .room)
 
 -- the end, where a text is read
@@ -87,7 +87,7 @@ not-read a b m j e = let z : _≡_ {A = ℕ} 0 1 = cc in absurd (omega arith)
 -- is read
 module _ (m : ℕ) (j : J.Job) (P : ℕ → Reading → List (List ℕ) → Type 0)
     (at-end : (s : Reading) → s .next ≡ End → s .job ≡ j → P m s [])
-    (at-line : (n : ℕ) (s : Reading) (line r : List ℕ) (ls : List (List ℕ)) → lineNumbers (s .next) line ≡ some r → Right (s .next) (countsOf (s .job)) r
+    (at-line : (n : ℕ) (s : Reading) (line r : List ℕ) (ls : List (List ℕ)) → lineNumbers (s .next) line ≡ some r → LineRight (s .next) (countsOf (s .job)) r
     → P (n + 1) (taken s r) ls → P n s (line ∷ ls)) where
   end-by : (n : ℕ) (s : Reading) (b : Bool) → isEnd (s .next) ≡ b → cond b (read n (s .job)) (refused 1 (n + 1)) ≡ read m j → P n s []
   end-by n s true g e = let a : m ≡ n = cc in subst (λ k. P k s []) a (at-end s (end-is (s .next) g) (cc))
@@ -113,7 +113,7 @@ module _ (m : ℕ) (j : J.Job) (P : ℕ → Reading → List (List ℕ) → Type
 pub read-well-formed : (text : List ℕ) (n : ℕ) (j : J.Job) → readJob text ≡ read n j → WellFormed j
 unfolding readJob
 read-well-formed text n j e =
-    read-has n j (λ k s ls. Kept s → WellFormed j)
+    read-has n j (λ k s ls. FormedSoFar s → WellFormed j)
     (λ s g f k. subst WellFormed f (end-well-formed s k g))
     (λ k s line r ls d x f h. f (taken-kept s r x h))
     0 begun (lines text) e begun-kept

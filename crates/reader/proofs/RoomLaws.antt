@@ -22,23 +22,23 @@ use Rattle.job.specs.declared.line.RowSort.the-variants.{Formula, Move, Effect,
 use Rattle.job.specs.declared.line.Line.{Line}
 use Rattle.job.specs.declared.line.Line.the-variants.{One, Of, End}
 use Rattle.job.proofs.FaultLaws.{range-reason}
-use Rattle.reader.specs.Room.{Ahead, ahead, RoomFor, Due, Room}
+use Rattle.reader.specs.Room.{Ahead, ahead, RowsFit, Due, Room}
 
 -- a line that no reason refuses
-abbrev pub Right : Line → Counts → List ℕ → Type 0
-Right (One h) c r = (rangeOf h c .from ≤ getD r 0 0) × (getD r 0 0 < rangeOf h c .below)
-Right (Of k) c r = (criteria k c r .range ≡ true) × (criteria k c r .fields ≡ true)
-Right End c r = ⊥
+abbrev pub LineRight : Line → Counts → List ℕ → Type 0
+LineRight (One h) c r = (rangeOf h c .from ≤ getD r 0 0) × (getD r 0 0 < rangeOf h c .below)
+LineRight (Of k) c r = (criteria k c r .range ≡ true) × (criteria k c r .fields ≡ true)
+LineRight End c r = ⊥
 
 right-by : (x y : Bool) → _≡_ {A = ℕ} (cond x (cond y 0 3) 2) 0 → (x ≡ true) × (y ≡ true)
 right-by true true h = (refl, refl)
 right-by true false h = absurd (omega arith)
 right-by false y h = absurd (omega arith)
 
-reason-right : (k : Line) (c : Counts) (r : List ℕ) → reasonOf k c r ≡ 0 → Right k c r
+reason-right : (k : Line) (c : Counts) (r : List ℕ) → reasonOf k c r ≡ 0 → LineRight k c r
 reason-right (One h) c r =
     let n : ℕ = getD r 0 0 in
-    cond-has (λ (q : ℕ). q ≡ 0 → Right (One h) c r) (isIn (rangeOf h c) n) 0 (rangeOf h c .reason)
+    cond-has (λ (q : ℕ). q ≡ 0 → LineRight (One h) c r) (isIn (rangeOf h c) n) 0 (rangeOf h c .reason)
     (λ b e. (
       leb-true (rangeOf h c .from) n (and-left (leb (rangeOf h c .from) n) (ltb n (rangeOf h c .below)) b),
       ltb-true n (rangeOf h c .below) (and-right (leb (rangeOf h c .from) n) (ltb n (rangeOf h c .below)) b),
@@ -47,7 +47,7 @@ reason-right (One h) c r =
 reason-right (Of k) c r = right-by (criteria k c r .range) (criteria k c r .fields)
 reason-right End c r = λ e. omega arith
 
-pub fault-right : (k : Line) (c : Counts) (r : List ℕ) → fault k c (some r) ≡ 0 → Right k c r
+pub fault-right : (k : Line) (c : Counts) (r : List ℕ) → fault k c (some r) ≡ 0 → LineRight k c r
 unfolding fault
 fault-right k c r e = reason-right k c r e
 
@@ -62,14 +62,14 @@ rows-has P k due effects f g h = cond-has P (eqb effects 0) (cond (eqb due 0) (p
     (λ z. h (eqb-false effects 0 z))
 
 room-for : {a : Ahead} {c : Counts} → c .formulas + a .formulas ≤ mostFormulas → c .moves + a .moves ≤ mostMoves → c .effects + a .effects ≤ mostEffects
-    → c .program + a .program ≤ mostProgram → RoomFor a c
+    → c .program + a .program ≤ mostProgram → RowsFit a c
 room-for f m e p = record { formulas = f; moves = m; effects = e; program = p }
 
 module _ (due effects : ℕ) (c : Counts) where
-  moves-past : RoomFor (ahead (Of Move) due effects) c → RoomFor (ahead (One Goal) due effects) c
+  moves-past : RowsFit (ahead (Of Move) due effects) c → RowsFit (ahead (One Goal) due effects) c
   moves-past f = room-for (f .formulas) (omega (arith, f .moves)) (omega (arith, f .effects)) (f .program)
 
-  past-fit : (k : RowSort) → RoomFor (ahead (Of (again k)) due effects) c → RoomFor (ahead (past k) due effects) c
+  past-fit : (k : RowSort) → RowsFit (ahead (Of (again k)) due effects) c → RowsFit (ahead (past k) due effects) c
   past-fit Formula f = room-for (omega (arith, f .formulas)) (f .moves) (f .effects) (f .program)
   past-fit Move f = moves-past f
   past-fit Effect f = moves-past f
@@ -87,8 +87,8 @@ module _ (due effects : ℕ) (c : Counts) where
   again-due Effect h = h
   again-due Row h = h
 
-  rows-room : (k : RowSort) → c .facts ≤ mostFacts → c .objects ≤ mostObjects → RoomFor (ahead (Of (again k)) due effects) c
-      → ((effects ≡ 0 → ⊥) → RoomFor (ahead (Of Effect) due effects) c)
+  rows-room : (k : RowSort) → c .facts ≤ mostFacts → c .objects ≤ mostObjects → RowsFit (ahead (Of (again k)) due effects) c
+      → ((effects ≡ 0 → ⊥) → RowsFit (ahead (Of Effect) due effects) c)
       → Room (afterRow k due effects) due effects c
   rows-room k h o f g = rows-has (λ l. Room l due effects c) k due effects
       (λ y z. record { facts = h; objects = o; fit = past-fit k f; owed = past-due k y })
@@ -102,7 +102,7 @@ module _ (s : Reading) (r : List ℕ) where
   abbrev n : ℕ
   n = getD r 0 0
 
-  one-room : (h : Heading) → Right (One h) c r → Room (One h) (s .due) (s .effects) c → RoomOf (takenAt (One h) s r)
+  one-room : (h : Heading) → LineRight (One h) c r → Room (One h) (s .due) (s .effects) c → RoomOf (takenAt (One h) s r)
   one-room Job x h = record { facts = h .facts; objects = h .objects; fit = h .fit; owed = h .owed }
   one-room Facts x h = record {
     facts = omega (arith, x .1);
@@ -112,10 +112,10 @@ module _ (s : Reading) (r : List ℕ) where
   }
   one-room Init x h = record { facts = h .facts; objects = h .objects; fit = h .fit; owed = h .owed }
   one-room Formulas x h =
-      let f : RoomFor (ahead (Of Formula) n 0) c = room-for (omega (arith, h .fit .formulas, x .1)) (h .fit .moves) (h .fit .effects) (h .fit .program) in
+      let f : RowsFit (ahead (Of Formula) n 0) c = room-for (omega (arith, h .fit .formulas, x .1)) (h .fit .moves) (h .fit .effects) (h .fit .program) in
       rw (h .owed) (rows-room n 0 c Formula (h .facts) (h .objects) f (λ z. absurd (z refl)))
   one-room Moves x h =
-      let f : RoomFor (ahead (Of Move) n 0) c = room-for (h .fit .formulas) (omega (arith, h .fit .moves, x .1)) (omega (arith, h .fit .effects, x .1))
+      let f : RowsFit (ahead (Of Move) n 0) c = room-for (h .fit .formulas) (omega (arith, h .fit .moves, x .1)) (omega (arith, h .fit .effects, x .1))
       (h .fit .program) in
       rw (h .owed) (rows-room n 0 c Move (h .facts) (h .objects) f (λ z. absurd (z refl)))
   one-room Goal x h = record { facts = h .facts; objects = h .objects; fit = h .fit; owed = h .owed }
@@ -126,10 +126,10 @@ module _ (s : Reading) (r : List ℕ) where
     owed = h .owed;
   }
   one-room Program x h =
-      let f : RoomFor (ahead (Of Row) n 0) c = room-for (h .fit .formulas) (h .fit .moves) (h .fit .effects) (omega (arith, h .fit .program, x .1)) in
+      let f : RowsFit (ahead (Of Row) n 0) c = room-for (h .fit .formulas) (h .fit .moves) (h .fit .effects) (omega (arith, h .fit .program, x .1)) in
       rw (h .owed) (rows-room n 0 c Row (h .facts) (h .objects) f (λ z. absurd (z refl)))
 
-  row-room : (k : RowSort) → Right (Of k) c r → Room (Of k) (s .due) (s .effects) c → RoomOf (takenAt (Of k) s r)
+  row-room : (k : RowSort) → LineRight (Of k) c r → Room (Of k) (s .due) (s .effects) c → RoomOf (takenAt (Of k) s r)
   row-room Formula x h =
       let l = length-append (s .job .formulas) (formulaOf r ∷ []) in
       rows-room (s .due - 1) (s .effects) (countsOf (jobAfter Formula (s .job) r)) Formula (h .facts) (h .objects)
@@ -138,12 +138,12 @@ module _ (s : Reading) (r : List ℕ) where
   row-room Move x h =
       let l = length-append (s .job .moves) (moveOf (length (s .job .effects)) r ∷ []) in
       let n = leb-true (getD r 2 0) mostMoveEffects (x .0) in
-      let f : RoomFor (ahead (Of Move) (s .due - 1) (getD r 2 0)) (countsOf (jobAfter Move (s .job) r)) = room-for (h .fit .formulas)
+      let f : RowsFit (ahead (Of Move) (s .due - 1) (getD r 2 0)) (countsOf (jobAfter Move (s .job) r)) = room-for (h .fit .formulas)
       (omega (arith, h .fit .moves, h .owed .0, l)) (omega (arith, h .fit .effects, h .owed .0, n)) (h .fit .program) in
       rows-room (s .due - 1) (getD r 2 0) (countsOf (jobAfter Move (s .job) r)) Move (h .facts) (h .objects) f (λ z. f)
   row-room Effect x h =
       let l = length-append (s .job .effects) (effectOf r ∷ []) in
-      let f : RoomFor (ahead (Of Effect) (s .due) (s .effects - 1)) (countsOf (jobAfter Effect (s .job) r)) = room-for (h .fit .formulas) (h .fit .moves)
+      let f : RowsFit (ahead (Of Effect) (s .due) (s .effects - 1)) (countsOf (jobAfter Effect (s .job) r)) = room-for (h .fit .formulas) (h .fit .moves)
       (omega (arith, h .fit .effects, h .owed, l)) (h .fit .program) in
       rows-room (s .due) (s .effects - 1) (countsOf (jobAfter Effect (s .job) r)) Effect (h .facts) (h .objects) f (λ z. f)
   row-room Row x h =
@@ -152,11 +152,11 @@ module _ (s : Reading) (r : List ℕ) where
       (room-for (h .fit .formulas) (h .fit .moves) (h .fit .effects) (omega (arith, h .fit .program, h .owed .0, l)))
       (λ z. absurd (z (h .owed .1)))
 
-  room-at : (k : Line) → Right k c r → Room k (s .due) (s .effects) c → RoomOf (takenAt k s r)
+  room-at : (k : Line) → LineRight k c r → Room k (s .due) (s .effects) c → RoomOf (takenAt k s r)
   room-at (One h) x = one-room h x
   room-at (Of k) x = row-room k x
   room-at End x = absurd x
 
-  pub taken-room : Right (s .next) c r → RoomOf s → RoomOf (taken s r)
+  pub taken-room : LineRight (s .next) c r → RoomOf s → RoomOf (taken s r)
   unfolding taken
   taken-room x h = room-at (s .next) x h

@@ -40,7 +40,7 @@ ahead (Of Effect) due effects = may 0 due (effects + mostMoveEffects * due) most
 ahead (Of Row) due effects = may 0 0 0 due
 ahead End due effects = may 0 0 0 0
 
-pub record RoomFor (a : Ahead) (c : Counts) : Type 0 where
+pub record RowsFit (a : Ahead) (c : Counts) : Type 0 where
   pub formulas : c .formulas + a .formulas ≤ mostFormulas
   pub moves : c .moves + a .moves ≤ mostMoves
   pub effects : c .effects + a .effects ≤ mostEffects
@@ -58,5 +58,5 @@ Due End due effects = effects ≡ 0
 pub record Room (next : Line) (due effects : ℕ) (c : Counts) : Type 0 where
   pub facts : c .facts ≤ mostFacts
   pub objects : c .objects ≤ mostObjects
-  pub fit : RoomFor (ahead next due effects) c
+  pub fit : RowsFit (ahead next due effects) c
   pub owed : Due next due effects

@@ -7,7 +7,7 @@ use Rattle.text.proofs.LineLaws.{line-within}
 use Rattle.job.specs.ReadJob.{refused, readFrom, readJob}
 use Rattle.job.specs.Store.{storeSize}
 use Rattle.reader.specs.Reading.{readingOf, outcomeOf}
-use Rattle.reader.proofs.KeptLaws.{Kept, taken-kept, begun-kept}
+use Rattle.reader.proofs.KeptLaws.{FormedSoFar, taken-kept, begun-kept}
 use Rattle.reader.proofs.ReadLaws.{read-on, read-refused, read-ended, reason-of, numbers-of, right-of, room-of}
 use borrow.Author.Needs.{needs}
 use Rattle.reader.proofs.reading.read_job.Statement.{statement}
@@ -15,7 +15,7 @@ use Rattle.reader.proofs.reading.read_job.Tie as tie
 
 abbrev Inv-loop : tie.InvT-loop
 Inv-loop text rows₀ s₀ at₀ n₀ rows s at n =
-    (at ≤ length text) × (n ≤ at) × (length rows ≡ storeSize) × Kept (readingOf s rows) × (readJob text ≡ readFrom n (readingOf s rows) (lines (drop at text)))
+    (at ≤ length text) × (n ≤ at) × (length rows ≡ storeSize) × FormedSoFar (readingOf s rows) × (readJob text ≡ readFrom n (readingOf s rows) (lines (drop at text)))
 
 abbrev μ-loop : tie.MeasureT-loop
 μ-loop text rows₀ s₀ at₀ n₀ rows s at n = length text - at
@@ -25,7 +25,7 @@ unfolding readJob
 loop-holds c =
     let at3 = c .before .before .before in
     let e = c .start .ensures (at3 .args .rows .now) in
-    (search needs, search needs, at3 .pre, subst Kept (sym e) begun-kept, ap (λ q. readFrom 0 q (lines (at3 .args .text .now))) (sym e))
+    (search needs, search needs, at3 .pre, subst FormedSoFar (sym e) begun-kept, ap (λ q. readFrom 0 q (lines (at3 .args .text .now))) (sym e))
 
 sub-line : tie.Need-sub-line Inv-loop μ-loop
 sub-line c =
@@ -102,7 +102,7 @@ loop-again c =
       omega (arith, at9 .line-end .ensures, line-within (at15 .args .text .now) (at11 .loop .at) (at9 .before .loop-test .taken) .1),
       omega (arith, l .inv .1, at9 .line-end .ensures, line-within (at15 .args .text .now) (at11 .loop .at) (at9 .before .loop-test .taken) .0),
       omega (arith, l .inv .2, at2 .take-line .kept .1 .1 .0),
-      subst Kept (sym f)
+      subst FormedSoFar (sym f)
           (taken-kept (readingOf (l .s) (l .rows)) _ (right-of (l .s) (l .rows) _ (at7 .read-line .result) (at7 .read-line .ensures) z) (l .inv .3)),
       read-on t (l .at) _ (l .n) (readingOf (l .s) (l .rows)) (at9 .before .loop-test .taken) (at9 .line-end .ensures) (l .inv .4) _
           (numbers-of (l .s) (l .rows) _ (at7 .read-line .result) (at7 .read-line .ensures) z) (sym e ∙ z)
