@@ -19,7 +19,7 @@ use Rattle.load.specs.Loaded.{Sized}
 use Rattle.load.specs.declared.loaded.LoadedJob.{LoadedJob}
 
 -- a list's front after filling: the steps, and nothing else
-front-flat : (L : List Step) (list : List ℕ) {after : List ℕ} {need : ℕ} → need ≡ length L * 4 → need ≤ length list → after ≡ sets list 0 (flat L)
+pub front-flat : (L : List Step) (list : List ℕ) {after : List ℕ} {need : ℕ} → need ≡ length L * 4 → need ≤ length list → after ≡ sets list 0 (flat L)
     → take need after ≡ flat L
 front-flat L list {need = need} e long f =
     let g : need ≡ length (flat L) = omega (arith, flat-length L) in rw (f, g) (sets-front (flat L) list (omega (arith, g)))

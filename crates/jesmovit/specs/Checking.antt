@@ -9,20 +9,15 @@ use Rattle.load.specs.Refusals.{Handed}
 use Rattle.load.specs.View.{View, viewSteps, finalOf, viewIn}
 use Rattle.load.specs.declared.request.Sort.{Sort}
 use Rattle.load.specs.declared.request.Sort.the-variants.{Moves, Steps}
-use Rattle.jesmovit.specs.Texts.{Texts}
+use Rattle.jesmovit.specs.Texts.{Texts, handed}
 use Rattle.jesmovit.specs.Outcomes.{checkOutcome}
 use Rattle.jesmovit.specs.Answers.{Answers}
 use Rattle.jesmovit.specs.Compiling.{listAfter}
 use Rattle.jesmovit.specs.declared.checking.CheckAnswer.{CheckAnswer}
 
--- what is handed in: a job text, a plan text, perhaps a costs text, and a list of so many places
+-- a job text, a plan text, perhaps a costs text, and a list of so many places
 abbrev pub checking : Sort → Texts → ℕ → Handed
-checking sort t places = record {
-  request = record { given = t .given; plan = true; sort = sort; places = places; table = false; cells = 0 };
-  job = t .job;
-  plan = t .plan;
-  costs = t .costs;
-}
+checking sort t places = handed (record { given = t .given; plan = true; sort = sort; places = places; table = false; cells = 0 }) t
 
 -- a verdict of "Verdicts": on moves by the runs of the program itself, on steps by the paths of the
 -- compiled job

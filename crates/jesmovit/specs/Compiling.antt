@@ -12,18 +12,14 @@ use Rattle.load.specs.Loaded.{Loads}
 use Rattle.load.specs.View.{View, viewSteps, positionsOf, viewIn}
 use Rattle.load.specs.declared.loaded.Loaded.{Loaded}
 use Rattle.load.specs.declared.request.Sort.the-variants.{Moves}
-use Rattle.jesmovit.specs.Texts.{noneGiven}
+use Rattle.jesmovit.specs.Texts.{handed, noneGiven, withoutCosts}
 use Rattle.jesmovit.specs.Outcomes.{compileOutcome}
 use Rattle.jesmovit.specs.declared.compiling.CompileAnswer.{CompileAnswer}
 
--- what is handed in: a job text, and a list of so many places
+-- a job text, and a list of so many places
 abbrev pub compiling : List ℕ → ℕ → Handed
-compiling text places = record {
-  request = record { given = noneGiven; plan = false; sort = Moves; places = places; table = false; cells = 0 };
-  job = text;
-  plan = [];
-  costs = [];
-}
+compiling text places =
+    handed (record { given = noneGiven; plan = false; sort = Moves; places = places; table = false; cells = 0 }) (withoutCosts text [])
 
 -- "it is filled whenever nothing is refused, and its later entries don't change"
 abbrev pub listAfter : View → List ℕ → List ℕ
@@ -38,7 +34,7 @@ abbrev pub listIn : Checked View → List ℕ → List ℕ
 listIn (passed v) list = listAfter v list
 listIn (refused number place) list = list
 
--- what every operation that is lent a list begins with: its texts are loaded, and the list is filled
+-- what operations begin with that refuse nothing later: texts are loaded, and the list is filled
 pub record Prepares (h : Handed) (answer : Loaded) (rows entries list after : List ℕ) : Type 0 where
   pub loads : Loads h answer rows entries
   pub holds : after ≡ listIn (viewIn h) list

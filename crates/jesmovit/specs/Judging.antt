@@ -12,7 +12,7 @@ use Rattle.semantics.specs.Judgement.{Judgement, Finds, least, dearer, other}
 use Rattle.load.specs.Refusals.{Handed}
 use Rattle.load.specs.View.{View, viewSteps, positionsOf, viewIn}
 use Rattle.load.specs.declared.request.Sort.the-variants.{Moves}
-use Rattle.jesmovit.specs.Texts.{Texts}
+use Rattle.jesmovit.specs.Texts.{Texts, handed}
 use Rattle.jesmovit.specs.Outcomes.{leastOutcome, SizedJudgement, judgeOutcome}
 use Rattle.jesmovit.specs.Answers.{Answers}
 use Rattle.jesmovit.specs.Compiling.{listAfter, viewSizes}
@@ -20,24 +20,16 @@ use Rattle.jesmovit.specs.declared.judging.Judgement as Said
 use Rattle.jesmovit.specs.declared.judging.LeastAnswer.{LeastAnswer}
 use Rattle.jesmovit.specs.declared.judging.JudgeAnswer.{JudgeAnswer}
 
--- what is handed in: a job text, perhaps a costs text, a list of so many places and a table of so
--- many cells; there is no plan text
+-- a job text, perhaps a costs text, a list of so many places and a table of so many cells; there is
+-- no plan text
 abbrev pub costing : Texts → ℕ → ℕ → Handed
-costing t places cells = record {
-  request = record { given = t .given; plan = false; sort = Moves; places = places; table = true; cells = cells };
-  job = t .job;
-  plan = [];
-  costs = t .costs;
-}
+costing t places cells =
+    handed (record { given = t .given; plan = false; sort = Moves; places = places; table = true; cells = cells })
+    (record { job = t .job; plan = []; costs = t .costs; given = t .given })
 
 -- and a list of moves
 abbrev pub judging : Texts → ℕ → ℕ → Handed
-judging t places cells = record {
-  request = record { given = t .given; plan = true; sort = Moves; places = places; table = true; cells = cells };
-  job = t .job;
-  plan = t .plan;
-  costs = t .costs;
-}
+judging t places cells = handed (record { given = t .given; plan = true; sort = Moves; places = places; table = true; cells = cells }) t
 
 -- what is lent: a list and a cost table
 pub record Lent : Type 0 where

@@ -1,4 +1,4 @@
-// What the operations that fill a list begin with.
+// What the operations begin with that refuse nothing later.
 ghost use mathlib.Core.Path.{_≡_};
 ghost use lib.ListN.{length};
 ghost use Rattle.job.specs.Store.{storeSize};

@@ -22,7 +22,7 @@ use Rattle.job.specs.declared.line.RowSort.the-variants.{Formula, Move, Effect,
 use Rattle.job.specs.declared.line.Line.{Line}
 use Rattle.job.specs.declared.line.Line.the-variants.{One, Of, End}
 use Rattle.reader.specs.Room.{Room, ahead}
-use Rattle.reader.proofs.RoomLaws.{Right, fault-right, rows-has}
+use Rattle.reader.proofs.RoomLaws.{LineRight, fault-right, rows-has}
 use Rattle.reader.proofs.KeptLaws.{Kept, taken-kept, begun-kept}
 use Rattle.reader.proofs.ReadLaws.{line-right, line-wrong}
 
@@ -80,7 +80,7 @@ module _ (s : Reading) where
   -- a line that comes next is among the bytes that may come, and after it, where it is right, they
   -- are fewer
   falls-at : (r : List ℕ) (k : Line) → Room k (s .due) (s .effects) c
-      → (most k ≤ bytesAhead k (s .due) (s .effects)) × (Right k c r → Falls k (takenAt k s r .due) (takenAt k s r .effects) (takenAt k s r .next))
+      → (most k ≤ bytesAhead k (s .due) (s .effects)) × (LineRight k c r → Falls k (takenAt k s r .due) (takenAt k s r .effects) (takenAt k s r .next))
   falls-at r (One Job) h = omega arith
   falls-at r (One Facts) h = omega arith
   falls-at r (One Init) h = omega arith

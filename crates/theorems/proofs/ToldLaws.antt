@@ -25,7 +25,7 @@ use Rattle.job.specs.declared.line.Line.{Line}
 use Rattle.job.specs.declared.line.Line.the-variants.{One, Of, End}
 use Rattle.job.proofs.RowLaws.{tiled-own}
 use Rattle.reader.specs.Room.{Room}
-use Rattle.reader.proofs.RoomLaws.{Right, rows-has}
+use Rattle.reader.proofs.RoomLaws.{LineRight, rows-has}
 use Rattle.reader.proofs.KeptLaws.{Fits, Kept, taken-kept, begun-kept}
 use Rattle.reader.proofs.ReadLaws.{read-has}
 
@@ -209,7 +209,7 @@ module _ (s : Reading) (r : List ℕ) where
       → toldAt k (s .due) j ++ (lineOf k (numbersFrom 0 (formOf k .width) r) ∷ []) ≡ toldAt k (s .due) j ++ (lineOf k r ∷ [])
   told-line k w = ap (λ q. toldAt k (s .due) j ++ (lineOf k q ∷ [])) (numbers-of (formOf k .width) r w)
 
-  told-one : (h : Heading) → length r ≡ 1 → Right (One h) c r → Room (One h) (s .due) (s .effects) c → Told (One h)
+  told-one : (h : Heading) → length r ≡ 1 → LineRight (One h) c r → Room (One h) (s .due) (s .effects) c → Told (One h)
   told-one Job w x h = let e : 1 ≡ getD r 0 0 = omega (arith, x) in ap (λ (q : ℕ). lineOf (One Job) (q ∷ []) ∷ []) e ∙ told-line (One Job) w
   told-one Facts w x h = told-line (One Facts) w
   told-one Init w x h = told-line (One Init) w
@@ -256,7 +256,7 @@ module _ (s : Reading) (r : List ℕ) where
       (omega (arith, l, h .owed .0))
       ∙ row-told j (length (j .program) + s .due) (rowOf r) ∙ told-line (Of Row) w
 
-  told-at : (k : Line) → length r ≡ formOf k .width → Right k c r → Room k (s .due) (s .effects) c → Fits (s .effects) j → Open (j .moves) (s .effects) → Told k
+  told-at : (k : Line) → length r ≡ formOf k .width → LineRight k c r → Room k (s .due) (s .effects) c → Fits (s .effects) j → Open (j .moves) (s .effects) → Told k
   told-at (One k) w x h f o = told-one k w x h
   told-at (Of k) w x h f o = told-row k w h f o
   told-at End w x h f o = absurd x
@@ -284,7 +284,7 @@ told-all j = simp append-assoc
 told-end : (s : Reading) (q : J.Job) → s .next ≡ End → s .job ≡ q → toldOf s ≡ jobLines q
 told-end s q e f = rw (e, f) (told-all q)
 
-told-taken : (s : Reading) (r : List ℕ) → length r ≡ formOf (s .next) .width → Right (s .next) (countsOf (s .job)) r → Kept s
+told-taken : (s : Reading) (r : List ℕ) → length r ≡ formOf (s .next) .width → LineRight (s .next) (countsOf (s .job)) r → Kept s
     → Open (s .job .moves) (s .effects)
     → toldOf (taken s r) ≡ toldOf s ++ (lineOf (s .next) r ∷ [])
 unfolding taken
