@@ -35,11 +35,11 @@ one-fewer x d = tests-equal _ _ (λ h. le-leb (x - 1) d (omega (arith, leb-true 
 pub scoped-needed : (σ : Program) (d : ℕ) → scoped d σ ≡ leb (picksNeeded σ) d
 unfolding scoped fold
 scoped-needed = by-shape (λ σ. (d : ℕ) → scoped d σ ≡ leb (picksNeeded σ) d)
-    (λ s d. rw (fold-leaf pickAlgebra s) (leaf-scoped d s))
+    (λ s d. rw (fold-leaf _ s) (leaf-scoped d s))
     (λ d. sym (leb·zero d))
     (λ a b u v d. ap₂ _&&_ (u d) (v d) ∙ both-at-most (picksNeeded a) (picksNeeded b) d)
-    (λ g a b u v d. rw (fold-branch pickAlgebra g a b) (branch-scoped d g a b ∙ ap₂ _&&_ (u d) (v d) ∙ both-at-most (picksNeeded a) (picksNeeded b) d))
-    (λ g a u d. rw (fold-loop pickAlgebra g a) (loop-scoped d g a ∙ u d))
+    (λ g a b u v d. rw (fold-branch _ g a b) (branch-scoped d g a b ∙ ap₂ _&&_ (u d) (v d) ∙ both-at-most (picksNeeded a) (picksNeeded b) d))
+    (λ g a u d. rw (fold-loop _ g a) (loop-scoped d g a ∙ u d))
     (λ a u d. u (suc d) ∙ one-fewer (picksNeeded a) d)
 
 -- outside every pick
@@ -57,6 +57,4 @@ module _ (program : List Row) where
   -- one row more
   pub picks-more : (i : ℕ) (l : List ℕ) (r : Construct) (v : ℕ) → PicksTabled i l → RowSays (rowProgram program) i r
       → v ≡ picksIn (λ k. getD l k 0) r → i < length l → PicksTabled (i + 1) (set l i v)
-  picks-more i l r v s e q h = tabled-more _ i l v s
-      (q ∙ same-fold pickAlgebra (λ k. getD l k 0) (λ k. picksNeeded (rowProgram program k)) i s r (e .refers)
-      ∙ sym (row-gives pickAlgebra e)) h
+  picks-more i l r v s e q h = tabled-more _ i l v s (q ∙ same-fold pickAlgebra s r (e .refers) ∙ sym (row-gives pickAlgebra e)) h

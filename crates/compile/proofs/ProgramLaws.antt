@@ -98,6 +98,6 @@ row-says {h} {l} s i within r row =
     (refers-back (beforeRow (jobOf h l) i) (s .job .moves) (s .job .formulas) (programRowAt (jobOf h l) i) (row-within s i within)) in
     record {
       is = row-built program i low ∙ ap (build ps) (sym row) ∙ build-says ps r
-          ∙ same-fold programAlgebra (λ k. getD ps k nil) (rowProgram program) i (row-earlier program i (omega (arith, low))) (constructOf r) refers;
+          ∙ same-fold programAlgebra (row-earlier program i (omega (arith, low))) (constructOf r) refers;
       refers = refers;
     }

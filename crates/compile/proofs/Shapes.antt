@@ -139,10 +139,10 @@ module _ {X : Type 0} (A : Algebra X) where
   row-gives {of} {i} {r} e = ap (fold A) (e .is) ∙ row-fold of r
 
   -- a row gives what it does by the rows before it
-  pub same-fold : (f g : ℕ → X) (i : ℕ) → ((k : ℕ) → k < i → f k ≡ g k) → (r : Construct) → Refers i r → foldIn A f r ≡ foldIn A g r
-  same-fold f g i e (C.Leaf s) h = refl
-  same-fold f g i e C.Any h = refl
-  same-fold f g i e (C.Seq a b) h = ap₂ (A .seq) (e a (h .0)) (e b (h .1))
-  same-fold f g i e (C.Branch x a b) h = ap₂ (A .branch x) (e a (h .0)) (e b (h .1))
-  same-fold f g i e (C.Loop x a) h = ap (A .loop x) (e a h)
-  same-fold f g i e (C.Pick a) h = ap (A .pick) (e a h)
+  pub same-fold : {f g : ℕ → X} {i : ℕ} → ((k : ℕ) → k < i → f k ≡ g k) → (r : Construct) → Refers i r → foldIn A f r ≡ foldIn A g r
+  same-fold e (C.Leaf s) h = refl
+  same-fold e C.Any h = refl
+  same-fold e (C.Seq a b) h = ap₂ (A .seq) (e a (h .0)) (e b (h .1))
+  same-fold e (C.Branch x a b) h = ap₂ (A .branch x) (e a (h .0)) (e b (h .1))
+  same-fold e (C.Loop x a) h = ap (A .loop x) (e a h)
+  same-fold e (C.Pick a) h = ap (A .pick) (e a h)

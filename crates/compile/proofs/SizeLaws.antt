@@ -132,10 +132,8 @@ module _ (c : Counts) where
 
   pub has-sizes : (σ : Program) → Sized σ (sizesOf c σ)
   unfolding fold
-  has-sizes =
-      let A = sizeAlgebra c in
-      by-shape (λ σ. Sized σ (sizesOf c σ)) (λ s. rw (fold-leaf A s) (leaf-sized s)) any-sized (λ a b u v. seq-sized u v)
-      (λ g a b u v. rw (fold-branch A g a b) (branch-sized u v g)) (λ g a u. rw (fold-loop A g a) (loop-sized u g)) (λ a u. pick-sized u)
+  has-sizes = by-shape (λ σ. Sized σ (sizesOf c σ)) (λ s. rw (fold-leaf _ s) (leaf-sized s)) any-sized (λ a b u v. seq-sized u v)
+      (λ g a b u v. rw (fold-branch _ g a b) (branch-sized u v g)) (λ g a u. rw (fold-loop _ g a) (loop-sized u g)) (λ a u. pick-sized u)
 
   -- sums of capped sizes, capped, are capped sums
   capped-parts : (x y x₁ y₁ : Sizes) (p q : ℕ) → x₁ ≡ cappedSizes x → y₁ ≡ cappedSizes y → cappedSizes (sizesSum x₁ y₁ p q) ≡ cappedSizes (sizesSum x y p q)
@@ -183,8 +181,7 @@ module _ (c : Counts) where
           → v ≡ cappedSizes (sizesIn c (listed positions steps) r) → i < length positions → i < length steps
           → Listed (i + 1) (set positions i (v .positions)) (set steps i (v .steps))
       listed-more r v e q h g =
-          let own : v ≡ cappedSizes (of i) = q ∙ row-capped r (e .refers)
-          ∙ ap cappedSizes (sym (row-gives (sizeAlgebra c) e)) in
+          let own : v ≡ cappedSizes (of i) = q ∙ row-capped r (e .refers) ∙ ap cappedSizes (sym (row-gives (sizeAlgebra c) e)) in
           record {
             positions-of = tabled-more _ i positions _ (s .positions-of) (ap (λ (z : Sizes). z .positions) own) h;
             steps-of = tabled-more _ i steps _ (s .steps-of) (ap (λ (z : Sizes). z .steps) own) g;
