@@ -19,7 +19,7 @@ use Rattle.semantics.specs.Scope.{scoped}
 use Rattle.compile.specs.Program.{rowProgram}
 use Rattle.compile.specs.Construct.{BaseRight, HasObject, programIn, RowSays}
 use Rattle.compile.specs.Env.{objectsFrom, EnvRight}
-use Rattle.compile.specs.Size.{sizesOf, sizesIn}
+use Rattle.compile.specs.Size.{sizeAlgebra, sizesOf, sizesIn}
 use Rattle.compile.specs.Laid.{StepsLaid, RowLaid, Enough}
 use Rattle.compile.specs.declared.rows.Simple.{Simple}
 use Rattle.compile.specs.declared.rows.Guard.{Guard}
@@ -27,8 +27,7 @@ use Rattle.compile.specs.declared.rows.Construct.{Construct}
 use Rattle.compile.specs.declared.rows.Construct.the-variants.{Leaf, Any, Seq, Branch, Loop, Pick}
 use Rattle.compile.specs.declared.sizes.Sizes.{Sizes}
 use Rattle.compile.specs.declared.steps.Cursor.{Cursor}
-use Rattle.compile.proofs.Shapes.{branch-scoped, loop-scoped, has-object}
-use Rattle.compile.proofs.SizeLaws.{row-sizes}
+use Rattle.compile.proofs.Shapes.{branch-scoped, loop-scoped, has-object, row-gives}
 use Rattle.compile.proofs.StepsLaidLaws.{next, wrote-end}
 use Rattle.compile.proofs.EnvLaws.{env-kept, env-behind}
 use Rattle.compile.proofs.PickLaws.{CopiesLaid, copied-none, copied-more, copy-room, copy-next}
@@ -72,7 +71,7 @@ module _ {h : Head} {l : List ℕ} {i t places start : ℕ} {from : Cursor} {env
   room : (r : Construct) → RowSays (of h l) i r
       → (from .position + sizesIn c (sizes h l) r .positions < mostPositions) × (from .at + sizesIn c (sizes h l) r .steps * 4 ≤ places)
   room r s =
-      let e : sizes h l i ≡ sizesIn c (sizes h l) r = ap (sizesOf c) (s .is) ∙ row-sizes c (of h l) r in
+      let e : sizes h l i ≡ sizesIn c (sizes h l) r = row-gives (sizeAlgebra c) s in
       (rw (← e) (p .1 .1 .positions), rw (← e) (p .1 .1 .room))
 
   variables : (r : Construct) → RowSays (of h l) i r → scoped d (programIn (of h l) r) ≡ true

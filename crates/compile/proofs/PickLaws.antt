@@ -14,6 +14,7 @@ use Rattle.semantics.specs.Program.{Program, pick}
 use Rattle.semantics.specs.CompilingTable.{Step, copyStart, end, copies, steps, flat, pickSteps}
 use Rattle.semantics.specs.Scope.{scoped}
 use Rattle.semantics.proofs.FlatLaws.{flat-append, flat-length}
+use Rattle.compile.specs.Construct.{fold}
 use Rattle.compile.specs.Size.{sizesOf}
 use Rattle.compile.specs.Laid.{LaidOver, StepsLaid, Enough}
 use Rattle.compile.specs.declared.steps.Cursor.{Cursor}
@@ -82,7 +83,7 @@ module _ {c : Counts} {env : List ℕ} {σ : Program} {from : Cursor} {places : 
   body-variables = r .variables
 
   whole : (n + (O * apart c σ + 1) < mostPositions) × (from .at + O * (sizesOf c σ .steps + 2) * 4 ≤ places)
-  unfolding sizesOf
+  unfolding fold
   whole = (r .positions, r .room)
 
   -- so many places are taken by k copies

@@ -20,10 +20,11 @@ use Rattle.job.proofs.RowLaws.{kind-listed}
 use Rattle.job.proofs.StoredLaws.{row-count, row-within}
 use Rattle.semantics.specs.Program.{Program, nil}
 use Rattle.compile.specs.Program.{kinds, build, programs, rowProgram}
-use Rattle.compile.specs.Construct.{Base, constructs, constructOf, programIn, Refers, RowSays}
+use Rattle.compile.specs.Construct.{Base, constructs, constructOf, programAlgebra, programIn, Refers, RowSays}
 use Rattle.compile.specs.declared.rows.Simple.the-variants.{Nil}
 use Rattle.compile.specs.declared.rows.Construct.{Construct}
-use Rattle.compile.specs.declared.rows.Construct.the-variants.{Leaf, Any, Seq, Branch, Loop, Pick}
+use Rattle.compile.specs.declared.rows.Construct.the-variants.{Leaf}
+use Rattle.compile.proofs.Shapes.{same-fold}
 
 row-built : (program : List Row) (i : ℕ) → i < length program → rowProgram program i ≡ build (programs (take i program)) (getD program i (rowOf []))
 unfolding programs
@@ -85,14 +86,6 @@ module _ (c : Counts) (few-moves : c .moves ≤ mostMoves) (few-formulas : c .fo
   refers-back w =
       pair-at FieldsRefer [] (Leaf Nil) rowFields (constructs r) kinds-refer (r .kind) (kind-listed c rowFields (r .kind) (r .a) (r .b ∷ r .c ∷ []) w) w
 
-same-program : (f g : ℕ → Program) (i : ℕ) → ((k : ℕ) → k < i → f k ≡ g k) → (r : Construct) → Refers i r → programIn f r ≡ programIn g r
-same-program f g i e (Leaf s) h = refl
-same-program f g i e Any h = refl
-same-program f g i e (Seq a b) h = rw (e a (h .0), e b (h .1))
-same-program f g i e (Branch x a b) h = rw (e a (h .0), e b (h .1))
-same-program f g i e (Loop x a) h = rw (e a h)
-same-program f g i e (Pick a) h = rw (e a h)
-
 -- row i of a job, as the code reads it
 pub row-says : {h : Head} {l : List ℕ} → Stored h l → (i : ℕ) → i < h .counts .program → (r : Row) → r ≡ programRowAt (jobOf h l) i
     → RowSays (rowProgram (jobOf h l .program)) i (constructOf r)
@@ -105,6 +98,6 @@ row-says {h} {l} s i within r row =
     (refers-back (beforeRow (jobOf h l) i) (s .job .moves) (s .job .formulas) (programRowAt (jobOf h l) i) (row-within s i within)) in
     record {
       is = row-built program i low ∙ ap (build ps) (sym row) ∙ build-says ps r
-          ∙ same-program (λ k. getD ps k nil) (rowProgram program) i (row-earlier program i (omega (arith, low))) (constructOf r) refers;
+          ∙ same-fold programAlgebra (row-earlier program i (omega (arith, low))) (constructOf r) refers;
       refers = refers;
     }

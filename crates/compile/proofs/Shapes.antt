@@ -1,24 +1,29 @@
 -- The rows of the compiling table by their shape: what the steps of a program and its end are made
--- of, and which variables it has.
+-- of, which variables it has, and what else it gives.
 -- Assumes nothing.
 use Prim.Native.Nat.{ℕ, zero, suc, _<_}
-use mathlib.Core.Path.{_≡_, refl}
+use mathlib.Core.Path.{_≡_, refl, sym, _∙_, ap, ap₂}
 use mathlib.Core.Bool.{true, _&&_}
 use mathlib.Core.Option.{some}
 use mathlib.Core.List.{List, [], _∷_, _++_}
 use native.Mathlib.Omega.{arith}
+use lib.Dec.{leb, leb·zero, ltb}
 use lib.ListN.{length, getElem?, getD}
-use borrow.Author.Tests.{ltb-true}
+use borrow.Author.Tests.{leb-true, le-leb, ltb-true, lt-ltb}
+use Rattle.laws.proofs.Tests.{tests-equal}
 use Rattle.job.specs.declared.head.Counts.{Counts}
 use Rattle.semantics.specs.Label.{Label}
-use Rattle.semantics.specs.Program.{Program, nil, move, any, test, seq, ifElse, choice, while, star, pick, objectMove, objectTest}
+use Rattle.semantics.specs.Program.{Program}
 use Rattle.semantics.specs.CompilingTable.{Step, arc, end, steps, branchSteps, objectSteps}
 use Rattle.semantics.specs.Scope.{scoped}
-use Rattle.compile.specs.Construct.{simple, leafLabel, HasObject, branch, firstLabel, secondLabel, loop, loopSteps}
+use Rattle.compile.specs.Construct.{simple, leafLabel, leafPicks, HasObject, branch, firstLabel, secondLabel, loop, loopSteps}
+use Rattle.compile.specs.Construct.{Algebra, foldIn, fold, programIn, Refers, RowSays}
 use Rattle.compile.specs.declared.rows.Simple.{Simple}
 use Rattle.compile.specs.declared.rows.Simple.the-variants.{Nil, Move, Test, ObjectMove, ObjectTest}
 use Rattle.compile.specs.declared.rows.Guard.{Guard}
 use Rattle.compile.specs.declared.rows.Guard.the-variants.{Free, On}
+use Rattle.compile.specs.declared.rows.Construct.{Construct}
+use Rattle.compile.specs.declared.rows.Construct.the-variants as C
 
 -- what a row makes inside picks of these objects, in a job of these counts
 module _ (c : Counts) (env : List ℕ) where
@@ -75,8 +80,19 @@ module _ (c : Counts) (env : List ℕ) where
   loop-made Free a = record { made = λ n. refl; ends = λ n. refl }
   loop-made (On f) a = record { made = λ n. refl; ends = λ n. refl }
 
+below-leb : (b d : ℕ) → ltb b d ≡ leb (suc b) d
+below-leb b d = tests-equal _ _ (λ h. le-leb (suc b) d (ltb-true b d h)) (λ h. lt-ltb b d (leb-true (suc b) d h))
+
 -- inside d picks
 module _ (d : ℕ) where
+  pub leaf-scoped : (s : Simple) → scoped d (simple s) ≡ leb (leafPicks s) d
+  unfolding scoped
+  leaf-scoped Nil = sym (leb·zero d)
+  leaf-scoped (Move a) = sym (leb·zero d)
+  leaf-scoped (Test a) = sym (leb·zero d)
+  leaf-scoped (ObjectMove a b) = below-leb b d
+  leaf-scoped (ObjectTest a b) = below-leb b d
+
   pub branch-scoped : (g : Guard) (a b : Program) → scoped d (branch g a b) ≡ scoped d a && scoped d b
   unfolding scoped
   branch-scoped Free a b = refl
@@ -88,27 +104,45 @@ module _ (d : ℕ) where
   loop-scoped (On f) a = refl
 
 pub has-object : (env : List ℕ) (s : Simple) → scoped (length env) (simple s) ≡ true → HasObject env s
-unfolding scoped
-has-object env Nil h = omega arith
-has-object env (Move a) h = omega arith
-has-object env (Test a) h = omega arith
-has-object env (ObjectMove a b) h = ltb-true b (length env) h
-has-object env (ObjectTest a b) h = ltb-true b (length env) h
+has-object env s h = leb-true (leafPicks s) (length env) (sym (leaf-scoped (length env) s) ∙ h)
 
--- what holds of each shape, if it does of the parts, holds of every program
-module _ (P : Program → Type 0) (leaf : (s : Simple) → P (simple s)) (one : P any) (two : (a b : Program) → P a → P b → P (seq a b))
-    (ways : (g : Guard) (a b : Program) → P a → P b → P (branch g a b)) (again : (g : Guard) (a : Program) → P a → P (loop g a))
-    (each : (a : Program) → P a → P (pick a)) where
-  pub by-shape : (σ : Program) → P σ
-  by-shape nil = leaf Nil
-  by-shape (move a) = leaf (Move a)
-  by-shape any = one
-  by-shape (test a) = leaf (Test a)
-  by-shape (seq a b) = two a b (by-shape a) (by-shape b)
-  by-shape (ifElse f a b) = ways (On f) a b (by-shape a) (by-shape b)
-  by-shape (choice a b) = ways Free a b (by-shape a) (by-shape b)
-  by-shape (while f a) = again (On f) a (by-shape a)
-  by-shape (star a) = again Free a (by-shape a)
-  by-shape (pick a) = each a (by-shape a)
-  by-shape (objectMove a b) = leaf (ObjectMove a b)
-  by-shape (objectTest a b) = leaf (ObjectTest a b)
+-- what a program gives, by its shape
+module _ {X : Type 0} (A : Algebra X) where
+  pub fold-leaf : (s : Simple) → fold A (simple s) ≡ A .leaf s
+  unfolding fold
+  fold-leaf Nil = refl
+  fold-leaf (Move a) = refl
+  fold-leaf (Test a) = refl
+  fold-leaf (ObjectMove a b) = refl
+  fold-leaf (ObjectTest a b) = refl
+
+  pub fold-branch : (g : Guard) (a b : Program) → fold A (branch g a b) ≡ A .branch g (fold A a) (fold A b)
+  unfolding fold
+  fold-branch Free a b = refl
+  fold-branch (On f) a b = refl
+
+  pub fold-loop : (g : Guard) (a : Program) → fold A (loop g a) ≡ A .loop g (fold A a)
+  unfolding fold
+  fold-loop Free a = refl
+  fold-loop (On f) a = refl
+
+  row-fold : (of : ℕ → Program) (r : Construct) → fold A (programIn of r) ≡ foldIn A (λ k. fold A (of k)) r
+  unfolding fold
+  row-fold of (C.Leaf s) = fold-leaf s
+  row-fold of C.Any = refl
+  row-fold of (C.Seq a b) = refl
+  row-fold of (C.Branch g a b) = fold-branch g (of a) (of b)
+  row-fold of (C.Loop g a) = fold-loop g (of a)
+  row-fold of (C.Pick a) = refl
+
+  pub row-gives : {of : ℕ → Program} {i : ℕ} {r : Construct} → RowSays of i r → fold A (of i) ≡ foldIn A (λ k. fold A (of k)) r
+  row-gives {of} {i} {r} e = ap (fold A) (e .is) ∙ row-fold of r
+
+  -- a row gives what it does by the rows before it
+  pub same-fold : {f g : ℕ → X} {i : ℕ} → ((k : ℕ) → k < i → f k ≡ g k) → (r : Construct) → Refers i r → foldIn A f r ≡ foldIn A g r
+  same-fold e (C.Leaf s) h = refl
+  same-fold e C.Any h = refl
+  same-fold e (C.Seq a b) h = ap₂ (A .seq) (e a (h .0)) (e b (h .1))
+  same-fold e (C.Branch x a b) h = ap₂ (A .branch x) (e a (h .0)) (e b (h .1))
+  same-fold e (C.Loop x a) h = ap (A .loop x) (e a h)
+  same-fold e (C.Pick a) h = ap (A .pick) (e a h)

@@ -17,16 +17,16 @@ use Rattle.semantics.specs.Program.{Program, any, seq, pick}
 use Rattle.semantics.specs.CompilingTable.{Step, arc, copyStart, end, copies, steps, moveSteps, branchSteps, whileSteps, starSteps, pickSteps}
 use Rattle.semantics.specs.Scope.{scoped}
 use Rattle.compile.specs.Program.{rowProgram}
-use Rattle.compile.specs.Construct.{simple, branch, loop, loopSteps, programIn, Refers, RowSays}
-use Rattle.compile.specs.Size.{sizesOf, sizesSum, nothing, copiesSize, sizesIn, sized, capped, cappedSizes, listed}
+use Rattle.compile.specs.Construct.{simple, branch, loop, loopSteps, by-shape, fold, Refers, RowSays}
+use Rattle.compile.specs.Size.{sizesSum, nothing, copiesSize, sizeAlgebra, sizesOf, sizesIn, sized, capped, cappedSizes, listed}
 use Rattle.compile.specs.declared.rows.Simple.{Simple}
-use Rattle.compile.specs.declared.rows.Simple.the-variants.{Nil, Move, Test, ObjectMove, ObjectTest}
 use Rattle.compile.specs.declared.rows.Guard.{Guard}
 use Rattle.compile.specs.declared.rows.Guard.the-variants.{Free, On}
 use Rattle.compile.specs.declared.rows.Construct.{Construct}
 use Rattle.compile.specs.declared.rows.Construct.the-variants as C
 use Rattle.compile.specs.declared.sizes.Sizes.{Sizes}
-use Rattle.compile.proofs.Shapes.{leaf-made, leaf-ends, branch-made, loop-made, branch-scoped, loop-scoped, has-object, by-shape}
+use Rattle.compile.proofs.Shapes.{leaf-made, leaf-ends, branch-made, loop-made, branch-scoped, loop-scoped, has-object}
+use Rattle.compile.proofs.Shapes.{fold-leaf, fold-branch, fold-loop, row-gives}
 use Rattle.compile.proofs.RowTable.{Tabled, tabled-more}
 
 pub moves-count : (count a n : ℕ) → length (moveSteps count a n) ≡ count
@@ -130,37 +130,10 @@ module _ (c : Counts) where
           (omega (arith, body-count env n (c .objects) h, pick-count (c .objects) n starts (λ o. end (c .objects) a (starts o))));
     }
 
-  leaf-size : (s : Simple) → sizesOf c (simple s) ≡ sizesSum nothing nothing 1 1
-  unfolding sizesOf
-  leaf-size Nil = refl
-  leaf-size (Move a) = refl
-  leaf-size (Test a) = refl
-  leaf-size (ObjectMove a b) = refl
-  leaf-size (ObjectTest a b) = refl
-
-  branch-size : (g : Guard) (a b : Program) → sizesOf c (branch g a b) ≡ sizesSum (sizesOf c a) (sizesOf c b) 3 4
-  unfolding sizesOf
-  branch-size Free a b = refl
-  branch-size (On f) a b = refl
-
-  loop-size : (g : Guard) (a : Program) → sizesOf c (loop g a) ≡ sizesSum (sizesOf c a) nothing 2 3
-  unfolding sizesOf
-  loop-size Free a = refl
-  loop-size (On f) a = refl
-
   pub has-sizes : (σ : Program) → Sized σ (sizesOf c σ)
-  unfolding sizesOf
-  has-sizes = by-shape (λ σ. Sized σ (sizesOf c σ)) (λ s. rw (leaf-size s) (leaf-sized s)) any-sized (λ a b u v. seq-sized u v)
-      (λ g a b u v. rw (branch-size g a b) (branch-sized u v g)) (λ g a u. rw (loop-size g a) (loop-sized u g)) (λ a u. pick-sized u)
-
-  pub row-sizes : (of : ℕ → Program) (r : Construct) → sizesOf c (programIn of r) ≡ sizesIn c (λ k. sizesOf c (of k)) r
-  unfolding sizesOf
-  row-sizes of (C.Leaf s) = leaf-size s
-  row-sizes of C.Any = refl
-  row-sizes of (C.Seq a b) = refl
-  row-sizes of (C.Branch g a b) = branch-size g (of a) (of b)
-  row-sizes of (C.Loop g a) = loop-size g (of a)
-  row-sizes of (C.Pick a) = refl
+  unfolding fold
+  has-sizes = by-shape (λ σ. Sized σ (sizesOf c σ)) (λ s. rw (fold-leaf _ s) (leaf-sized s)) any-sized (λ a b u v. seq-sized u v)
+      (λ g a b u v. rw (fold-branch _ g a b) (branch-sized u v g)) (λ g a u. rw (fold-loop _ g a) (loop-sized u g)) (λ a u. pick-sized u)
 
   -- sums of capped sizes, capped, are capped sums
   capped-parts : (x y x₁ y₁ : Sizes) (p q : ℕ) → x₁ ≡ cappedSizes x → y₁ ≡ cappedSizes y → cappedSizes (sizesSum x₁ y₁ p q) ≡ cappedSizes (sizesSum x y p q)
@@ -208,8 +181,7 @@ module _ (c : Counts) where
           → v ≡ cappedSizes (sizesIn c (listed positions steps) r) → i < length positions → i < length steps
           → Listed (i + 1) (set positions i (v .positions)) (set steps i (v .steps))
       listed-more r v e q h g =
-          let own : v ≡ cappedSizes (of i) = q ∙ row-capped r (e .refers)
-          ∙ ap cappedSizes (sym (row-sizes (rowProgram program) r) ∙ ap (sizesOf c) (sym (e .is))) in
+          let own : v ≡ cappedSizes (of i) = q ∙ row-capped r (e .refers) ∙ ap cappedSizes (sym (row-gives (sizeAlgebra c) e)) in
           record {
             positions-of = tabled-more _ i positions _ (s .positions-of) (ap (λ (z : Sizes). z .positions) own) h;
             steps-of = tabled-more _ i steps _ (s .steps-of) (ap (λ (z : Sizes). z .steps) own) g;

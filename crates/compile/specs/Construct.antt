@@ -78,23 +78,60 @@ abbrev pub loopSteps : Guard → ℕ → ℕ → List Step
 loopSteps Free = starSteps
 loopSteps (On f) = whileSteps f
 
--- the program of the row, where `of` gives the programs of the rows that it refers to
-abbrev pub programIn : (ℕ → Program) → Construct → Program
-programIn of (Leaf s) = simple s
-programIn of Any = any
-programIn of (Seq a b) = seq (of a) (of b)
-programIn of (Branch g a b) = branch g (of a) (of b)
-programIn of (Loop g a) = loop g (of a)
-programIn of (Pick a) = pick (of a)
+-- what each shape gives from what its parts give
+pub record Algebra (X : Type 0) : Type 0 where
+  pub leaf : Simple → X
+  pub any : X
+  pub seq : X → X → X
+  pub branch : Guard → X → X → X
+  pub loop : Guard → X → X
+  pub pick : X → X
 
--- how many enclosing picks the row asks for, where `of` gives those of the rows that it refers to
+-- what a row gives, where `of` has what the rows that it refers to give
+abbrev pub foldIn : {X : Type 0} → Algebra X → (ℕ → X) → Construct → X
+foldIn A of (Leaf s) = A .leaf s
+foldIn A of Any = A .any
+foldIn A of (Seq a b) = A .seq (of a) (of b)
+foldIn A of (Branch g a b) = A .branch g (of a) (of b)
+foldIn A of (Loop g a) = A .loop g (of a)
+foldIn A of (Pick a) = A .pick (of a)
+
+-- what holds of each shape, if it does of its parts, holds of every program
+module _ (P : Program → Type 0) (leaf : (s : Simple) → P (simple s)) (one : P any) (two : (a b : Program) → P a → P b → P (seq a b))
+    (ways : (g : Guard) (a b : Program) → P a → P b → P (branch g a b)) (again : (g : Guard) (a : Program) → P a → P (loop g a))
+    (each : (a : Program) → P a → P (pick a)) where
+  pub by-shape : (σ : Program) → P σ
+  by-shape nil = leaf Nil
+  by-shape (move a) = leaf (Move a)
+  by-shape any = one
+  by-shape (test a) = leaf (Test a)
+  by-shape (seq a b) = two a b (by-shape a) (by-shape b)
+  by-shape (ifElse f a b) = ways (On f) a b (by-shape a) (by-shape b)
+  by-shape (choice a b) = ways Free a b (by-shape a) (by-shape b)
+  by-shape (while f a) = again (On f) a (by-shape a)
+  by-shape (star a) = again Free a (by-shape a)
+  by-shape (pick a) = each a (by-shape a)
+  by-shape (objectMove a b) = leaf (ObjectMove a b)
+  by-shape (objectTest a b) = leaf (ObjectTest a b)
+
+-- what a program gives
+unfoldable pub fold : {X : Type 0} → Algebra X → Program → X
+unfolding by-shape
+fold {X} A = by-shape (λ σ. X) (A .leaf) (A .any) (λ a b. A .seq) (λ g a b. A .branch g) (λ g a. A .loop g) (λ a. A .pick)
+
+-- the program of a row, from those of the rows that it refers to
+abbrev pub programAlgebra : Algebra Program
+programAlgebra = record { leaf = simple; any = any; seq = seq; branch = branch; loop = loop; pick = pick }
+
+abbrev pub programIn : (ℕ → Program) → Construct → Program
+programIn = foldIn programAlgebra
+
+-- how many enclosing picks a row asks for, from what the rows that it refers to ask for
+abbrev pub pickAlgebra : Algebra ℕ
+pickAlgebra = record { leaf = leafPicks; any = 0; seq = max; branch = λ g. max; loop = λ g x. x; pick = λ x. x - 1 }
+
 abbrev pub picksIn : (ℕ → ℕ) → Construct → ℕ
-picksIn of (Leaf s) = leafPicks s
-picksIn of Any = 0
-picksIn of (Seq a b) = max (of a) (of b)
-picksIn of (Branch g a b) = max (of a) (of b)
-picksIn of (Loop g a) = of a
-picksIn of (Pick a) = of a - 1
+picksIn = foldIn pickAlgebra
 
 -- what it refers to is there: rows before row i, and what any object adds to a base
 abbrev pub Refers : ℕ → Construct → Type 0
