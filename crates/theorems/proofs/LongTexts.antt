@@ -23,7 +23,7 @@ use Rattle.job.specs.declared.line.Line.{Line}
 use Rattle.job.specs.declared.line.Line.the-variants.{One, Of, End}
 use Rattle.reader.specs.Room.{Room, ahead}
 use Rattle.reader.proofs.RoomLaws.{LineRight, fault-right, rows-has}
-use Rattle.reader.proofs.KeptLaws.{Kept, taken-kept, begun-kept}
+use Rattle.reader.proofs.KeptLaws.{FormedSoFar, taken-kept, begun-kept}
 use Rattle.reader.proofs.ReadLaws.{line-right, line-wrong}
 
 -- how many bytes a right line of this sort has at the most
@@ -67,7 +67,7 @@ aheadOf s = bytesAhead (s .next) (s .due) (s .effects)
 record Place : Type 0 where
   n : ℕ
   s : Reading
-  kept : Kept s
+  kept : FormedSoFar s
 
 module _ (s : Reading) where
   abbrev c : Counts
@@ -126,7 +126,7 @@ module _ (s : Reading) where
   abbrev reason : Option (List ℕ) → ℕ
   reason o = fault (s .next) c o
 
-  module _ (n : ℕ) (kept : Kept s) where
+  module _ (n : ℕ) (kept : FormedSoFar s) where
     long-by : (line : List ℕ) (o : Option (List ℕ)) → lineNumbers (s .next) line ≡ o → aheadOf s < length line → reason o ≡ 1
     unfolding fault
     long-by line none e h = refl

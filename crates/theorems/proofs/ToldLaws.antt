@@ -26,7 +26,7 @@ use Rattle.job.specs.declared.line.Line.the-variants.{One, Of, End}
 use Rattle.job.proofs.RowLaws.{tiled-own}
 use Rattle.reader.specs.Room.{Room}
 use Rattle.reader.proofs.RoomLaws.{LineRight, rows-has}
-use Rattle.reader.proofs.KeptLaws.{Fits, Kept, taken-kept, begun-kept}
+use Rattle.reader.proofs.KeptLaws.{Fits, FormedSoFar, taken-kept, begun-kept}
 use Rattle.reader.proofs.ReadLaws.{read-has}
 
 -- the effects that are due are the last move's
@@ -284,7 +284,7 @@ told-all j = simp append-assoc
 told-end : (s : Reading) (q : J.Job) → s .next ≡ End → s .job ≡ q → toldOf s ≡ jobLines q
 told-end s q e f = rw (e, f) (told-all q)
 
-told-taken : (s : Reading) (r : List ℕ) → length r ≡ formOf (s .next) .width → LineRight (s .next) (countsOf (s .job)) r → Kept s
+told-taken : (s : Reading) (r : List ℕ) → length r ≡ formOf (s .next) .width → LineRight (s .next) (countsOf (s .job)) r → FormedSoFar s
     → Open (s .job .moves) (s .effects)
     → toldOf (taken s r) ≡ toldOf s ++ (lineOf (s .next) r ∷ [])
 unfolding taken
@@ -299,7 +299,7 @@ pub read-text : (text : List ℕ) (n : ℕ) (j : J.Job) → readJob text ≡ rea
 unfolding readJob
 read-text text n j e =
     sym (flatten-lines text)
-    ∙ ap flatten (read-has n j (λ k s ls. Kept s → Open (s .job .moves) (s .effects) → toldOf s ++ ls ≡ jobLines j)
+    ∙ ap flatten (read-has n j (λ k s ls. FormedSoFar s → Open (s .job .moves) (s .effects) → toldOf s ++ ls ≡ jobLines j)
     (λ s g f k o. append-nil (toldOf s) ∙ told-end s j g f)
     (λ k s line r ls d x f h o.
     let v = numbers-text (s .next) line r d in
