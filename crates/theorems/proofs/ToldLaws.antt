@@ -256,7 +256,8 @@ module _ (s : Reading) (r : List ℕ) where
       (omega (arith, l, h .owed .0))
       ∙ row-told j (length (j .program) + s .due) (rowOf r) ∙ told-line (Of Row) w
 
-  told-at : (k : Line) → length r ≡ formOf k .width → LineRight k c r → Room k (s .due) (s .effects) c → Fits (s .effects) j → Open (j .moves) (s .effects) → Told k
+  told-at : (k : Line) → length r ≡ formOf k .width → LineRight k c r → Room k (s .due) (s .effects) c → Fits (s .effects) j
+      → Open (j .moves) (s .effects) → Told k
   told-at (One k) w x h f o = told-one k w x h
   told-at (Of k) w x h f o = told-row k w h f o
   told-at End w x h f o = absurd x

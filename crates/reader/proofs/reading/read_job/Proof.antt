@@ -15,7 +15,8 @@ use Rattle.reader.proofs.reading.read_job.Tie as tie
 
 abbrev Inv-loop : tie.InvT-loop
 Inv-loop text rows₀ s₀ at₀ n₀ rows s at n =
-    (at ≤ length text) × (n ≤ at) × (length rows ≡ storeSize) × FormedSoFar (readingOf s rows) × (readJob text ≡ readFrom n (readingOf s rows) (lines (drop at text)))
+    (at ≤ length text) × (n ≤ at) × (length rows ≡ storeSize) × FormedSoFar (readingOf s rows)
+    × (readJob text ≡ readFrom n (readingOf s rows) (lines (drop at text)))
 
 abbrev μ-loop : tie.MeasureT-loop
 μ-loop text rows₀ s₀ at₀ n₀ rows s at n = length text - at
