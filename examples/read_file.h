@@ -1,4 +1,4 @@
-/* A text from a file, for the examples in C. */
+/* A text from a file, for the examples and the test in C. */
 #ifndef READ_FILE_H
 #define READ_FILE_H
 

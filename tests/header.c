@@ -13,7 +13,7 @@ static uint64_t table[32], answer[5];
 /* A job of one formula, which is false and the goal, and of the program nil. */
 static const uint8_t no_plan[] = "job=1\nfacts=0\ninit=0\nformulas=1\nf=0,0,0\nmoves=0\ngoal=0\nobjects=0\nprogram=1\np=0,0,0,0\n";
 
-/* Demands this number from a call, and these five from its answer; then forgets what list and answer hold. */
+/* Demands this number from a call, and these five from its answer, and forgets them. */
 static void expect(int line, uint32_t number, uint32_t given_back, uint64_t a, uint64_t b, uint64_t c, uint64_t d, uint64_t e)
 {
     const uint64_t expected[5] = {a, b, c, d, e};
@@ -26,7 +26,7 @@ static void expect(int line, uint32_t number, uint32_t given_back, uint64_t a, u
 }
 #define EXPECT(...) expect(__LINE__, __VA_ARGS__)
 
-/* Demands these numbers at the front of the list, and forgets them. */
+/* Demands the sample's steps at the front of the list, and forgets them. */
 static void holds_sample_steps(void)
 {
     static const uint16_t steps[8] = {3, 0, 1, 0, 3, 1, 2, 1};

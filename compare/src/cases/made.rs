@@ -5,8 +5,8 @@ use crate::second::fault::Fault;
 use crate::second::runs::Runs;
 use crate::second::verdict::Verdict;
 
-/// A move of a plan: its number, what its class and its second class cost, and whether the condition of the second class
-/// holds before the move, and after it.
+/// A move of a plan: its number, what its class and its second class cost, and whether the condition of the second
+/// class holds before the move, and after it.
 pub struct Made {
     pub index: u16,
     costs: [u64; 2],

@@ -143,7 +143,7 @@ fn choices_above_32_bits() {
 
 #[test]
 fn a_way_above_32_bits_beside_a_cheaper_one() {
-    // 17 rounds, or two: 4,563,333,120, of which the lower 32 bits are 268,365,824, or 536,862,720. Row 3 is one round.
+    // 17 rounds at 4,563,333,120, whose lower 32 bits are 268,365,824, or two at 536,862,720. Row 3 is one round.
     let mut job = rounds(12, 17);
     let all = job.rows.len() as u16 - 1;
     job.rows.extend([[4, 3, 3, 0], [6, all, all + 1, 0]]);

@@ -23,7 +23,7 @@ fn steps_of_if(formula: u16, yes: [u16; 4], no: [u16; 4]) -> [[u16; 4]; 6] {
 #[test]
 #[rustfmt::skip]
 fn an_if() {
-    // If fact 0 is false move 0, otherwise move 1. Formula 3 is no row.
+    // If fact 0 is false move 0, otherwise move 1. No row has the number 3.
     let job = sample_over(0, &[[1, 0, 0, 0], [1, 1, 0, 0], [5, 3, 0, 1]]);
     let list = steps_of_if(3, [3, 1, 2, 0], [3, 3, 4, 1]).concat();
     let at_0 = Worked { job: job.clone(), costs: None, positions: 6, list: list.clone(), table: vec![

@@ -1,4 +1,4 @@
--- What compiling a job text promises.
+-- What compiling a job text promises, and what other operations begin with.
 use Prim.Native.Nat.{ℕ}
 use mathlib.Core.Path.{_≡_}
 use mathlib.Core.Bool.{false}

@@ -1,5 +1,5 @@
 -- "A row refers only to earlier rows of its own sort; one row may be used several times. Unused
--- fields are 0."
+-- fields are 0." "cost class 0 to 15, effect count 0 to 16"; a value is "0 or 1"
 use Prim.Native.Nat.{ℕ, _+_, _-_, _<_}
 use mathlib.Core.Bool.{Bool, true, false, _&&_}
 use mathlib.Core.List.{List, [], _∷_}

@@ -1,4 +1,4 @@
-// The limits of a job, of its class costs, of its compiled job and of a plan.
+// The limits of a job, of its class costs, of its compiled job and of a plan; the programs' cost table.
 // `specs/Limits.antt` has the same numbers, each under its sentence.
 
 // Numbers of a job text.
@@ -36,5 +36,5 @@ pub const LIST: usize = STEPS * 4;
 // Entries of a plan.
 pub const ENTRIES: usize = 4000;
 
-// Numbers of the judge program's cost table.
+// Numbers of the cost table of the programs judge and least_cost.
 pub const PROGRAM_TABLE: usize = 6144;

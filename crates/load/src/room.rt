@@ -1,4 +1,4 @@
-// Reason 6, and how long lists and tables have to be.
+// Reason 6, how long lists and tables have to be, and the front of a list.
 ghost use mathlib.Core.Path.{_≡_};
 ghost use mathlib.Core.Bool.{cond};
 ghost use Prim.Native.Nat.{_*_};

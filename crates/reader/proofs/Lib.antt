@@ -1,5 +1,5 @@
 pub mod LineLaws
 pub mod AddLaws
 pub mod RoomLaws
-pub mod KeptLaws
+pub mod FormedLaws
 pub mod ReadLaws

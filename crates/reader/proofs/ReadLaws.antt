@@ -28,7 +28,7 @@ use Rattle.reader.specs.Reading.{readingOf}
 use Rattle.reader.specs.Room.{Room}
 use Rattle.reader.specs.declared.taking.ReaderState.{ReaderState}
 use Rattle.reader.proofs.RoomLaws.{LineRight, fault-right}
-use Rattle.reader.proofs.KeptLaws.{FormedSoFar, taken-kept, begun-kept, end-well-formed}
+use Rattle.reader.proofs.FormedLaws.{FormedSoFar, taken-formed, begun-formed, end-well-formed}
 
 abbrev reason : Reading → List ℕ → ℕ
 reason s line = fault (s .next) (countsOf (s .job)) (lineNumbers (s .next) line)
@@ -115,8 +115,8 @@ unfolding readJob
 read-well-formed text n j e =
     read-has n j (λ k s ls. FormedSoFar s → WellFormed j)
     (λ s g f k. subst WellFormed f (end-well-formed s k g))
-    (λ k s line r ls d x f h. f (taken-kept s r x h))
-    0 begun (lines text) e begun-kept
+    (λ k s line r ls d x f h. f (taken-formed s r x h))
+    0 begun (lines text) e begun-formed
 
 -- a text that is read has the lines that its answer counts
 pub read-lines : (text : List ℕ) (n : ℕ) (j : J.Job) → readJob text ≡ read n j → n ≡ length (lines text)

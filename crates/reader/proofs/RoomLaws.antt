@@ -61,19 +61,19 @@ rows-has P k due effects f g h = cond-has P (eqb effects 0) (cond (eqb due 0) (p
     (λ z. cond-has P (eqb due 0) (past k) (Of (again k)) (λ y. f (eqb-true effects 0 z) (eqb-true due 0 y)) (λ y. g (eqb-true effects 0 z) (eqb-false due 0 y)))
     (λ z. h (eqb-false effects 0 z))
 
-room-for : {a : Ahead} {c : Counts} → c .formulas + a .formulas ≤ mostFormulas → c .moves + a .moves ≤ mostMoves → c .effects + a .effects ≤ mostEffects
+rows-fit : {a : Ahead} {c : Counts} → c .formulas + a .formulas ≤ mostFormulas → c .moves + a .moves ≤ mostMoves → c .effects + a .effects ≤ mostEffects
     → c .program + a .program ≤ mostProgram → RowsFit a c
-room-for f m e p = record { formulas = f; moves = m; effects = e; program = p }
+rows-fit f m e p = record { formulas = f; moves = m; effects = e; program = p }
 
 module _ (due effects : ℕ) (c : Counts) where
   moves-past : RowsFit (ahead (Of Move) due effects) c → RowsFit (ahead (One Goal) due effects) c
-  moves-past f = room-for (f .formulas) (omega (arith, f .moves)) (omega (arith, f .effects)) (f .program)
+  moves-past f = rows-fit (f .formulas) (omega (arith, f .moves)) (omega (arith, f .effects)) (f .program)
 
   past-fit : (k : RowSort) → RowsFit (ahead (Of (again k)) due effects) c → RowsFit (ahead (past k) due effects) c
-  past-fit Formula f = room-for (omega (arith, f .formulas)) (f .moves) (f .effects) (f .program)
+  past-fit Formula f = rows-fit (omega (arith, f .formulas)) (f .moves) (f .effects) (f .program)
   past-fit Move f = moves-past f
   past-fit Effect f = moves-past f
-  past-fit Row f = room-for (f .formulas) (f .moves) (f .effects) (omega (arith, f .program))
+  past-fit Row f = rows-fit (f .formulas) (f .moves) (f .effects) (omega (arith, f .program))
 
   past-due : (k : RowSort) → effects ≡ 0 → Due (past k) due effects
   past-due Formula e = e
@@ -107,49 +107,49 @@ module _ (s : Reading) (r : List ℕ) where
   one-room Facts x h = record {
     facts = omega (arith, x .1);
     objects = h .objects;
-    fit = room-for (h .fit .formulas) (h .fit .moves) (h .fit .effects) (h .fit .program);
+    fit = rows-fit (h .fit .formulas) (h .fit .moves) (h .fit .effects) (h .fit .program);
     owed = h .owed;
   }
   one-room Init x h = record { facts = h .facts; objects = h .objects; fit = h .fit; owed = h .owed }
   one-room Formulas x h =
-      let f : RowsFit (ahead (Of Formula) n 0) c = room-for (omega (arith, h .fit .formulas, x .1)) (h .fit .moves) (h .fit .effects) (h .fit .program) in
+      let f : RowsFit (ahead (Of Formula) n 0) c = rows-fit (omega (arith, h .fit .formulas, x .1)) (h .fit .moves) (h .fit .effects) (h .fit .program) in
       rw (h .owed) (rows-room n 0 c Formula (h .facts) (h .objects) f (λ z. absurd (z refl)))
   one-room Moves x h =
-      let f : RowsFit (ahead (Of Move) n 0) c = room-for (h .fit .formulas) (omega (arith, h .fit .moves, x .1)) (omega (arith, h .fit .effects, x .1))
+      let f : RowsFit (ahead (Of Move) n 0) c = rows-fit (h .fit .formulas) (omega (arith, h .fit .moves, x .1)) (omega (arith, h .fit .effects, x .1))
       (h .fit .program) in
       rw (h .owed) (rows-room n 0 c Move (h .facts) (h .objects) f (λ z. absurd (z refl)))
   one-room Goal x h = record { facts = h .facts; objects = h .objects; fit = h .fit; owed = h .owed }
   one-room Objects x h = record {
     facts = h .facts;
     objects = omega (arith, x .1);
-    fit = room-for (h .fit .formulas) (h .fit .moves) (h .fit .effects) (h .fit .program);
+    fit = rows-fit (h .fit .formulas) (h .fit .moves) (h .fit .effects) (h .fit .program);
     owed = h .owed;
   }
   one-room Program x h =
-      let f : RowsFit (ahead (Of Row) n 0) c = room-for (h .fit .formulas) (h .fit .moves) (h .fit .effects) (omega (arith, h .fit .program, x .1)) in
+      let f : RowsFit (ahead (Of Row) n 0) c = rows-fit (h .fit .formulas) (h .fit .moves) (h .fit .effects) (omega (arith, h .fit .program, x .1)) in
       rw (h .owed) (rows-room n 0 c Row (h .facts) (h .objects) f (λ z. absurd (z refl)))
 
   row-room : (k : RowSort) → LineRight (Of k) c r → Room (Of k) (s .due) (s .effects) c → RoomOf (takenAt (Of k) s r)
   row-room Formula x h =
       let l = length-append (s .job .formulas) (formulaOf r ∷ []) in
       rows-room (s .due - 1) (s .effects) (countsOf (jobAfter Formula (s .job) r)) Formula (h .facts) (h .objects)
-      (room-for (omega (arith, h .fit .formulas, h .owed .0, l)) (h .fit .moves) (h .fit .effects) (h .fit .program))
+      (rows-fit (omega (arith, h .fit .formulas, h .owed .0, l)) (h .fit .moves) (h .fit .effects) (h .fit .program))
       (λ z. absurd (z (h .owed .1)))
   row-room Move x h =
       let l = length-append (s .job .moves) (moveOf (length (s .job .effects)) r ∷ []) in
       let n = leb-true (getD r 2 0) mostMoveEffects (x .0) in
-      let f : RowsFit (ahead (Of Move) (s .due - 1) (getD r 2 0)) (countsOf (jobAfter Move (s .job) r)) = room-for (h .fit .formulas)
+      let f : RowsFit (ahead (Of Move) (s .due - 1) (getD r 2 0)) (countsOf (jobAfter Move (s .job) r)) = rows-fit (h .fit .formulas)
       (omega (arith, h .fit .moves, h .owed .0, l)) (omega (arith, h .fit .effects, h .owed .0, n)) (h .fit .program) in
       rows-room (s .due - 1) (getD r 2 0) (countsOf (jobAfter Move (s .job) r)) Move (h .facts) (h .objects) f (λ z. f)
   row-room Effect x h =
       let l = length-append (s .job .effects) (effectOf r ∷ []) in
-      let f : RowsFit (ahead (Of Effect) (s .due) (s .effects - 1)) (countsOf (jobAfter Effect (s .job) r)) = room-for (h .fit .formulas) (h .fit .moves)
+      let f : RowsFit (ahead (Of Effect) (s .due) (s .effects - 1)) (countsOf (jobAfter Effect (s .job) r)) = rows-fit (h .fit .formulas) (h .fit .moves)
       (omega (arith, h .fit .effects, h .owed, l)) (h .fit .program) in
       rows-room (s .due) (s .effects - 1) (countsOf (jobAfter Effect (s .job) r)) Effect (h .facts) (h .objects) f (λ z. f)
   row-room Row x h =
       let l = length-append (s .job .program) (rowOf r ∷ []) in
       rows-room (s .due - 1) (s .effects) (countsOf (jobAfter Row (s .job) r)) Row (h .facts) (h .objects)
-      (room-for (h .fit .formulas) (h .fit .moves) (h .fit .effects) (omega (arith, h .fit .program, h .owed .0, l)))
+      (rows-fit (h .fit .formulas) (h .fit .moves) (h .fit .effects) (omega (arith, h .fit .program, h .owed .0, l)))
       (λ z. absurd (z (h .owed .1)))
 
   room-at : (k : Line) → LineRight k c r → Room k (s .due) (s .effects) c → RoomOf (takenAt k s r)

@@ -31,7 +31,7 @@ module _ (M : Machine) (Settled : M .Config → Type 0) (E : M .Config → Entri
     stuck : ((u : ℕ) → E c .Made (x ∷ []) u → ⊥) → Takes c x none
     goes : {a : Arrival (M .Config)} → Settled (a .to) → GoesOn (E c) (E (a .to)) x (a .cost) → Takes c x (some a)
 
-  -- configurations that are ready stand for entries: E c is what lists of entries do from c
+  -- configurations that are settled stand for entries: E c is what lists of entries do from c
   pub record StandsFor : Type 0 where
     pub made : (c : M .Config) → Settled c → E c .Made [] (M .state c)
     pub completed : (c : M .Config) (u : ℕ) → Settled c → E c .Completed [] u ↔ ((u ≡ M .state c) × (M .complete c ≡ true))

@@ -23,7 +23,7 @@ use Rattle.job.specs.declared.line.Line.{Line}
 use Rattle.job.specs.declared.line.Line.the-variants.{One, Of, End}
 use Rattle.reader.specs.Room.{Room, ahead}
 use Rattle.reader.proofs.RoomLaws.{LineRight, fault-right, rows-has}
-use Rattle.reader.proofs.KeptLaws.{FormedSoFar, taken-kept, begun-kept}
+use Rattle.reader.proofs.FormedLaws.{FormedSoFar, taken-formed, begun-formed}
 use Rattle.reader.proofs.ReadLaws.{line-right, line-wrong}
 
 -- how many bytes a right line of this sort has at the most
@@ -67,7 +67,7 @@ aheadOf s = bytesAhead (s .next) (s .due) (s .effects)
 record Place : Type 0 where
   n : ℕ
   s : Reading
-  kept : FormedSoFar s
+  formed : FormedSoFar s
 
 module _ (s : Reading) where
   abbrev c : Counts
@@ -126,11 +126,11 @@ module _ (s : Reading) where
   abbrev reason : Option (List ℕ) → ℕ
   reason o = fault (s .next) c o
 
-  module _ (n : ℕ) (kept : FormedSoFar s) where
+  module _ (n : ℕ) (formed : FormedSoFar s) where
     long-by : (line : List ℕ) (o : Option (List ℕ)) → lineNumbers (s .next) line ≡ o → aheadOf s < length line → reason o ≡ 1
     unfolding fault
     long-by line none e h = refl
-    long-by line (some r) e h = absurd (omega (arith, numbers-short (s .next) line r e, falls-at r (s .next) (kept .room) .0))
+    long-by line (some r) e h = absurd (omega (arith, numbers-short (s .next) line r e, falls-at r (s .next) (formed .room) .0))
 
     -- a line that is longer than all that may come is of wrong form
     long-wrong : (line : List ℕ) (rest : List (List ℕ)) → aheadOf s < length line → readFrom n s (line ∷ rest) ≡ refused 1 (n + 1)
@@ -150,8 +150,8 @@ module _ (s : Reading) where
       both-right r e z =
           let x = fault-right (s .next) c r (ap reason (sym e) ∙ z) in
           line-right n s line rest r e z
-          ∙ after (record { n = n + 1; s = taken s r; kept = taken-kept s r x kept })
-          (omega (arith, numbers-short (s .next) line r e, falls-at r (s .next) (kept .room) .1 x))
+          ∙ after (record { n = n + 1; s = taken s r; formed = taken-formed s r x formed })
+          (omega (arith, numbers-short (s .next) line r e, falls-at r (s .next) (formed .room) .1 x))
           ∙ sym (line-right n s line more r e z)
 
       both-by : (o : Option (List ℕ)) → lineNumbers (s .next) line ≡ o → readFrom n s (line ∷ rest) ≡ readFrom n s (line ∷ more)
@@ -169,6 +169,6 @@ module _ (s : Reading) where
 pub long-text : (text : List ℕ) → 65536 ≤ length text → readJob text ≡ readJob (take 65536 text)
 unfolding readJob
 long-text text h = front-decides {S = Place} (λ p ls. readFrom (p .n) (p .s) ls) (λ p. aheadOf (p .s))
-    (λ p line other rest more g k. long-wrong (p .s) (p .n) (p .kept) line rest g ∙ sym (long-wrong (p .s) (p .n) (p .kept) other more k))
-    (λ p. both-lines (p .s) (p .n) (p .kept))
-    65536 (record { n = 0; s = begun; kept = begun-kept }) text (omega arith) h
+    (λ p line other rest more g k. long-wrong (p .s) (p .n) (p .formed) line rest g ∙ sym (long-wrong (p .s) (p .n) (p .formed) other more k))
+    (λ p. both-lines (p .s) (p .n) (p .formed))
+    65536 (record { n = 0; s = begun; formed = begun-formed }) text (omega arith) h

@@ -26,7 +26,7 @@ use Rattle.job.specs.declared.line.Line.the-variants.{One, Of, End}
 use Rattle.job.proofs.RowLaws.{tiled-own}
 use Rattle.reader.specs.Room.{Room}
 use Rattle.reader.proofs.RoomLaws.{LineRight, rows-has}
-use Rattle.reader.proofs.KeptLaws.{Fits, FormedSoFar, taken-kept, begun-kept}
+use Rattle.reader.proofs.FormedLaws.{Fits, FormedSoFar, taken-formed, begun-formed}
 use Rattle.reader.proofs.ReadLaws.{read-has}
 
 -- the effects that are due are the last move's
@@ -305,5 +305,5 @@ read-text text n j e =
     (λ k s line r ls d x f h o.
     let v = numbers-text (s .next) line r d in
     ap (λ q. toldOf s ++ (q ∷ ls)) (v .1) ∙ sym (append-assoc (toldOf s) (lineOf (s .next) r ∷ []) ls)
-    ∙ ap (λ q. q ++ ls) (sym (told-taken s r (v .0) x h o)) ∙ f (taken-kept s r x h) (open-taken s r o))
-    0 begun (lines text) e begun-kept refl)
+    ∙ ap (λ q. q ++ ls) (sym (told-taken s r (v .0) x h o)) ∙ f (taken-formed s r x h) (open-taken s r o))
+    0 begun (lines text) e begun-formed refl)

@@ -1,7 +1,7 @@
 -- Traces and complete runs are the same, and so are the plans that they allow.
 -- Assumes nothing.
 use Prim.Native.Nat.{ℕ}
-use mathlib.Core.Path.{_≡_, sym, subst}
+use mathlib.Core.Path.{sym, subst}
 use mathlib.Core.List.{List, _++_, append-assoc}
 use mathlib.Core.Logic.{_↔_}
 use Rattle.semantics.specs.Domain.{Domain}

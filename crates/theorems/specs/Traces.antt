@@ -8,8 +8,8 @@ use mathlib.Core.List.{List, [], _∷_, _++_}
 use Rattle.semantics.specs.Domain.{Domain}
 use Rattle.semantics.specs.Program.{Program, nil, move, any, test, seq, ifElse, choice, while, star, pick, put}
 
--- from one state to another, by these moves. 000's nil is the empty sequence; its star and any, which
--- it lacks, are said in the same way
+-- from one state to another, by these moves. Nil is 000's `null`, of its rule (23); star and any,
+-- which it lacks, are said in the same way. A variable without its pick has no trace
 pub data Trace (D : Domain) : ℕ → Program → List ℕ → ℕ → Type 0 where
   of-nil : {s : ℕ} → Trace D s nil [] s
   -- "n = 1 and a₀ = a"

@@ -1,7 +1,7 @@
 //! Random jobs: random facts, formulas and moves (`domains`) or a counter (`counters`), with a random program
 //! (`programs`), perhaps one of nested picks (`picks`) or at the limits (`limits`); a few jobs of the greatest size
-//! (`largest`), and jobs of long plans. Most of their moves cost more in some states (`second_classes`), which the least plans of
-//! some jobs avoid (`flips`).
+//! (`largest`), and jobs of long plans. Most of their moves cost more in some states (`second_classes`), which the least
+//! plans of some jobs avoid (`flips`).
 
 mod counters;
 mod domains;

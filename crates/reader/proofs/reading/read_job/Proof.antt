@@ -7,7 +7,7 @@ use Rattle.text.proofs.LineLaws.{line-within}
 use Rattle.job.specs.ReadJob.{refused, readFrom, readJob}
 use Rattle.job.specs.Store.{storeSize}
 use Rattle.reader.specs.Reading.{readingOf, outcomeOf}
-use Rattle.reader.proofs.KeptLaws.{FormedSoFar, taken-kept, begun-kept}
+use Rattle.reader.proofs.FormedLaws.{FormedSoFar, taken-formed, begun-formed}
 use Rattle.reader.proofs.ReadLaws.{read-on, read-refused, read-ended, reason-of, numbers-of, right-of, room-of}
 use borrow.Author.Needs.{needs}
 use Rattle.reader.proofs.reading.read_job.Statement.{statement}
@@ -26,7 +26,7 @@ unfolding readJob
 loop-holds c =
     let at3 = c .before .before .before in
     let e = c .start .ensures (at3 .args .rows .now) in
-    (search needs, search needs, at3 .pre, subst FormedSoFar (sym e) begun-kept, ap (λ q. readFrom 0 q (lines (at3 .args .text .now))) (sym e))
+    (search needs, search needs, at3 .pre, subst FormedSoFar (sym e) begun-formed, ap (λ q. readFrom 0 q (lines (at3 .args .text .now))) (sym e))
 
 sub-line : tie.Need-sub-line Inv-loop μ-loop
 sub-line c =
@@ -104,7 +104,7 @@ loop-again c =
       omega (arith, l .inv .1, at9 .line-end .ensures, line-within (at15 .args .text .now) (at11 .loop .at) (at9 .before .loop-test .taken) .0),
       omega (arith, l .inv .2, at2 .take-line .kept .1 .1 .0),
       subst FormedSoFar (sym f)
-          (taken-kept (readingOf (l .s) (l .rows)) _ (right-of (l .s) (l .rows) _ (at7 .read-line .result) (at7 .read-line .ensures) z) (l .inv .3)),
+          (taken-formed (readingOf (l .s) (l .rows)) _ (right-of (l .s) (l .rows) _ (at7 .read-line .result) (at7 .read-line .ensures) z) (l .inv .3)),
       read-on t (l .at) _ (l .n) (readingOf (l .s) (l .rows)) (at9 .before .loop-test .taken) (at9 .line-end .ensures) (l .inv .4) _
           (numbers-of (l .s) (l .rows) _ (at7 .read-line .result) (at7 .read-line .ensures) z) (sym e ∙ z)
           ∙ ap (λ q. readFrom (l .n + 1) q (lines (drop (at9 .line-end .result) t))) (sym f),

@@ -23,27 +23,27 @@ use Rattle.job.proofs.RowLaws.{within-true, formula-own}
 use Rattle.reader.specs.Room.{Room}
 use Rattle.reader.proofs.RoomLaws.{LineRight, RoomOf, rows-has, taken-room}
 
--- what is settled once a line has been read
+-- what is right once a line has been read
 abbrev InitRight : J.Job → Type 0
 InitRight j = j .scalars .init < stateCount (j .scalars .facts)
 
 abbrev GoalRight : J.Job → Type 0
 GoalRight j = j .scalars .goal < length (j .formulas)
 
-abbrev Settled : Line → J.Job → Type 0
-Settled (One Job) j = Unit {0}
-Settled (One Facts) j = Unit {0}
-Settled (One Init) j = Unit {0}
-Settled (One Formulas) j = InitRight j
-Settled (Of Formula) j = InitRight j
-Settled (One Moves) j = InitRight j
-Settled (Of Move) j = InitRight j
-Settled (Of Effect) j = InitRight j
-Settled (One Goal) j = InitRight j
-Settled (One Objects) j = InitRight j × GoalRight j
-Settled (One Program) j = InitRight j × GoalRight j
-Settled (Of Row) j = InitRight j × GoalRight j
-Settled End j = InitRight j × GoalRight j × (0 < length (j .program))
+abbrev HeadRight : Line → J.Job → Type 0
+HeadRight (One Job) j = Unit {0}
+HeadRight (One Facts) j = Unit {0}
+HeadRight (One Init) j = Unit {0}
+HeadRight (One Formulas) j = InitRight j
+HeadRight (Of Formula) j = InitRight j
+HeadRight (One Moves) j = InitRight j
+HeadRight (Of Move) j = InitRight j
+HeadRight (Of Effect) j = InitRight j
+HeadRight (One Goal) j = InitRight j
+HeadRight (One Objects) j = InitRight j × GoalRight j
+HeadRight (One Program) j = InitRight j × GoalRight j
+HeadRight (Of Row) j = InitRight j × GoalRight j
+HeadRight End j = InitRight j × GoalRight j × (0 < length (j .program))
 
 -- the rows so far are right, with so many effects of the last move still due
 pub record Fits (effects : ℕ) (j : J.Job) : Type 0 where
@@ -149,44 +149,44 @@ module _ (s : Reading) (r : List ℕ) where
   fits-at (Of k) x h f = row-fits k x h f
   fits-at End x h f = f
 
-  -- what was settled stays so while rows come
-  settled-rows : (k : RowSort) (due effects : ℕ) (q : J.Job) → (due ≡ 0 → Settled (past k) q) → Settled (Of (again k)) q → InitRight q
-      → Settled (afterRow k due effects) q
-  settled-rows k due effects q f g h = rows-has (λ l. Settled l q) k due effects (λ y z. f z) (λ y z. g) (λ z. h)
+  -- what was right stays so while rows come
+  head-right-rows : (k : RowSort) (due effects : ℕ) (q : J.Job) → (due ≡ 0 → HeadRight (past k) q) → HeadRight (Of (again k)) q → InitRight q
+      → HeadRight (afterRow k due effects) q
+  head-right-rows k due effects q f g h = rows-has (λ l. HeadRight l q) k due effects (λ y z. f z) (λ y z. g) (λ z. h)
 
-  settled-at : (k : Line) → LineRight k c r → Settled k j → Settled (takenAt k s r .next) (takenAt k s r .job)
-  settled-at (One Job) x f = tt
-  settled-at (One Facts) x f = tt
-  settled-at (One Init) x f = x .1
-  settled-at (One Formulas) x f = settled-rows Formula (getD r 0 0) 0 (takenAt (One Formulas) s r .job) (λ z. f) f f
-  settled-at (Of Formula) x f = settled-rows Formula (s .due - 1) (s .effects) (takenAt (Of Formula) s r .job) (λ z. f) f f
-  settled-at (One Moves) x f = settled-rows Move (getD r 0 0) 0 (takenAt (One Moves) s r .job) (λ z. f) f f
-  settled-at (Of Move) x f = settled-rows Move (s .due - 1) (getD r 2 0) (takenAt (Of Move) s r .job) (λ z. f) f f
-  settled-at (Of Effect) x f = settled-rows Effect (s .due) (s .effects - 1) (takenAt (Of Effect) s r .job) (λ z. f) f f
-  settled-at (One Goal) x f = (f, x .1)
-  settled-at (One Objects) x f = f
-  settled-at (One Program) x f = settled-rows Row (getD r 0 0) 0 (takenAt (One Program) s r .job) (λ z. absurd (omega (arith, x .0))) f (f .0)
-  settled-at (Of Row) x f =
+  head-right-at : (k : Line) → LineRight k c r → HeadRight k j → HeadRight (takenAt k s r .next) (takenAt k s r .job)
+  head-right-at (One Job) x f = tt
+  head-right-at (One Facts) x f = tt
+  head-right-at (One Init) x f = x .1
+  head-right-at (One Formulas) x f = head-right-rows Formula (getD r 0 0) 0 (takenAt (One Formulas) s r .job) (λ z. f) f f
+  head-right-at (Of Formula) x f = head-right-rows Formula (s .due - 1) (s .effects) (takenAt (Of Formula) s r .job) (λ z. f) f f
+  head-right-at (One Moves) x f = head-right-rows Move (getD r 0 0) 0 (takenAt (One Moves) s r .job) (λ z. f) f f
+  head-right-at (Of Move) x f = head-right-rows Move (s .due - 1) (getD r 2 0) (takenAt (Of Move) s r .job) (λ z. f) f f
+  head-right-at (Of Effect) x f = head-right-rows Effect (s .due) (s .effects - 1) (takenAt (Of Effect) s r .job) (λ z. f) f f
+  head-right-at (One Goal) x f = (f, x .1)
+  head-right-at (One Objects) x f = f
+  head-right-at (One Program) x f = head-right-rows Row (getD r 0 0) 0 (takenAt (One Program) s r .job) (λ z. absurd (omega (arith, x .0))) f (f .0)
+  head-right-at (Of Row) x f =
       let l = length-append (j .program) (rowOf r ∷ []) in
-      settled-rows Row (s .due - 1) (s .effects) (takenAt (Of Row) s r .job) (λ z. (f .0, f .1, omega (arith, l))) f (f .0)
-  settled-at End x f = absurd x
+      head-right-rows Row (s .due - 1) (s .effects) (takenAt (Of Row) s r .job) (λ z. (f .0, f .1, omega (arith, l))) f (f .0)
+  head-right-at End x f = absurd x
 
 -- a state of reading whose rows are right
 pub record FormedSoFar (s : Reading) : Type 0 where
   pub room : RoomOf s
   pub fit : Fits (s .effects) (s .job)
-  pub settled : Settled (s .next) (s .job)
+  pub head : HeadRight (s .next) (s .job)
 
-pub taken-kept : (s : Reading) (r : List ℕ) → LineRight (s .next) (countsOf (s .job)) r → FormedSoFar s → FormedSoFar (taken s r)
+pub taken-formed : (s : Reading) (r : List ℕ) → LineRight (s .next) (countsOf (s .job)) r → FormedSoFar s → FormedSoFar (taken s r)
 unfolding taken
-taken-kept s r x k = record {
+taken-formed s r x k = record {
   room = unfold taken in taken-room s r x (k .room);
   fit = fits-at s r (s .next) x (k .room) (k .fit);
-  settled = settled-at s r (s .next) x (k .settled);
+  head = head-right-at s r (s .next) x (k .head);
 }
 
-pub begun-kept : FormedSoFar begun
-begun-kept = record {
+pub begun-formed : FormedSoFar begun
+begun-formed = record {
   room = record {
     facts = omega arith;
     objects = omega arith;
@@ -200,14 +200,14 @@ begun-kept = record {
     effect = λ i h. absurd (omega arith);
     row = λ i h. absurd (omega arith);
   };
-  settled = tt;
+  head = tt;
 }
 
--- at the end all is settled
+-- at the end all is right
 pub end-well-formed : (s : Reading) → FormedSoFar s → s .next ≡ End → WellFormed (s .job)
 end-well-formed s k e =
     let h : Room End (s .due) (s .effects) (countsOf (s .job)) = rw e at (k .room) in
-    let t : Settled End (s .job) = rw e at (k .settled) in
+    let t : HeadRight End (s .job) = rw e at (k .head) in
     let d : length (s .job .effects) + s .effects ≡ length (s .job .effects) = omega (arith, h .owed) in
     record {
       facts = h .facts;
