@@ -9,7 +9,7 @@ use load::request::Request;
 
 // Loads the texts and, unless they, the list or the table are refused, writes the steps of the
 // compiled job over the front of the list, four numbers each.
-pub fn prepare(
+pub(crate) fn prepare(
     request: Request,
     text: &[u8],
     plan: &[u8],
