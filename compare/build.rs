@@ -1,4 +1,4 @@
-//! Links the library under test, `libcapi.a`, from the project's target directory.
+//! Links the library under test, `libcapi.a`, from the project's target directory, where `./library` puts it.
 
 use std::path::Path;
 

@@ -1,4 +1,4 @@
-/* Jesmovit's operations for C, and for every language that calls C. The library is target/staticlib/libcapi.a, which `rt staticlib capi` builds.
+/* Jesmovit's operations for C, and for every language that calls C. The library is target/staticlib/libcapi.a, which ./library builds.
  *
  * Texts are bytes, with no zero at their end; a length counts bytes, numbers of a list or numbers of a table. No pointer is null, not even beside a length
  * of 0; each points to as many numbers as its length says, aligned as C aligns them; and what a call may write (list, table, output, answer) overlaps
