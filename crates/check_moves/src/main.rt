@@ -8,20 +8,17 @@ use limits::LIST;
 use load::request::Given;
 
 fn main(rt: HostRuntime) {
-    let mut text = [0u8; TEXT];
+    let mut job = [0u8; TEXT];
     let mut plan = [0u8; TEXT];
     let mut costs = [0u8; TEXT];
     let mut list = [0u16; LIST];
     let mut out = [0u8; TEXT];
-    let got = console::texts::read_texts(&rt, &mut text, &mut plan, &mut costs);
-    let n = got.job;
-    let m = got.plan;
-    let k = got.costs;
-    if got.read {
+    if let Some(texts) = console::texts::read_texts(&rt, &mut job, &mut plan, &mut costs) {
         let given = Given {
-            costs: got.costs_given,
+            costs: texts.costs.is_some(),
         };
-        let answer = jesmovit::check_moves(&text[..n], &plan[..m], &costs[..k], given, &mut list);
+        let costs = texts.costs.unwrap_or(&[]);
+        let answer = jesmovit::check_moves(texts.job, texts.plan, costs, given, &mut list);
         let end = report::check(answer, &mut out);
         console::print::text(&rt, &out[..end]);
     }

@@ -9,10 +9,8 @@ fn main(rt: HostRuntime) {
     let mut text = [0u8; TEXT];
     let mut list = [0u16; LIST];
     let mut out = [0u8; TEXT];
-    let got = console::arguments::read_argument(&rt, 1, "job.txt", &mut text);
-    let n = got.count;
-    if got.read {
-        let answer = jesmovit::compile(&text[..n], &mut list);
+    if let Some(job) = console::arguments::read_argument(&rt, 1, "job.txt", &mut text) {
+        let answer = jesmovit::compile(job, &mut list);
         let end = report::compile(answer, &list, &mut out);
         console::print::text(&rt, &out[..end]);
     }

@@ -23,15 +23,13 @@ fn print_cost_of(rt: &HostRuntime, text: &[u8], costs: &[u8], given: Given) {
 }
 
 fn main(rt: HostRuntime) {
-    let mut text = [0u8; TEXT];
+    let mut job = [0u8; TEXT];
     let mut costs = [0u8; TEXT];
-    let got = console::texts::read_job_texts(&rt, &mut text, &mut costs);
-    let n = got.job;
-    let k = got.costs;
-    if got.read {
+    if let Some(texts) = console::texts::read_job_texts(&rt, &mut job, &mut costs) {
         let given = Given {
-            costs: got.costs_given,
+            costs: texts.costs.is_some(),
         };
-        print_cost_of(&rt, &text[..n], &costs[..k], given);
+        let costs = texts.costs.unwrap_or(&[]);
+        print_cost_of(&rt, texts.job, costs, given);
     }
 }

@@ -7,10 +7,8 @@ use console::files::TEXT;
 fn main(rt: HostRuntime) {
     let mut text = [0u8; TEXT];
     let mut out = [0u8; TEXT];
-    let got = console::arguments::read_argument(&rt, 1, "job.txt", &mut text);
-    let n = got.count;
-    if got.read {
-        let answer = jesmovit::read_job(&text[..n]);
+    if let Some(job) = console::arguments::read_argument(&rt, 1, "job.txt", &mut text) {
+        let answer = jesmovit::read_job(job);
         let end = report::read(answer, &mut out);
         console::print::text(&rt, &out[..end]);
     }
