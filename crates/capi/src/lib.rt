@@ -1,5 +1,7 @@
 // The public operations for C, and for every language that calls C: numbers and slices alone, and
 // no `requires`. include/jesmovit.h says the same in C's words.
+#![tactic(auto)]
+
 ghost use Rattle.std.specs.Prelude.{[]};
 ghost use Rattle.load.specs.declared.request.Sort.{Sort};
 ghost use Rattle.jesmovit.specs.JobText.{Reads};

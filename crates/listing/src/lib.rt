@@ -1,2 +1,4 @@
 // The plans of a short job, one after the other.
+#![tactic(auto)]
+
 pub mod listing;

@@ -14,7 +14,7 @@ ghost use Rattle.listing.specs.Answer.{listed_of};
 use job::head::Head;
 
 // How many moves the plan has that was written, or that there is none.
-#[derive(Drop)]
+#[derive(Clone, Copy)]
 pub enum Listed {
     Plan(usize),
     NoPlan,
