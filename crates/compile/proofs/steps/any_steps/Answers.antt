@@ -1,7 +1,6 @@
 use mathlib.Core.Path.{◌∙◌}
 use native.Mathlib.Omega.{arith}
 use mathlib.Core.Path.{◌≡◌, refl}
-use Prim.Native.Nat.{◌-◌}
 use Rattle.semantics.specs.CompilingTable.{flat, move_steps}
 use Rattle.compile.proofs.LaidLaws.{laid_none, laid_append, moves_length, moves_more}
 use Rattle.compile.proofs.steps.any_steps.Goals as goal

@@ -1,6 +1,5 @@
 use mathlib.Core.Path.{refl}
 use Rattle.semantics.specs.CompilingTable.{flat}
-use Prim.Native.Nat.{◌-◌}
 use native.Mathlib.Omega.{arith}
 use Rattle.compile.proofs.LaidLaws.{copies_none, copies_more, steps_room, steps_all, position_low}
 use Rattle.compile.proofs.steps.links.Goals as goal
