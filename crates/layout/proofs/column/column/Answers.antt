@@ -11,7 +11,7 @@ leading-requires c =
     (omega (arith, c.requires.0), tenth_within c.args.width c.args.n c.requires.1)
 
 pub bounds-out-at : goal.bounds-out-at
-bounds-out-at c = omega (arith, c.leading.auto.0, decimal_some c.args.n)
+bounds-out-at c = omega (arith, c.leading.auto.out, decimal_some c.args.n)
 
 pub returns : goal.returns
 returns c =

@@ -5,7 +5,7 @@ use Rattle.layout.proofs.line.put_line.Goals as goal
 
 pub shape_of-out : goal.shape_of-out
 shape_of-out c =
-    simp length-set (c.column-4.auto.0 ∙ c.column-3.auto.0 ∙ c.column-2.auto.0 ∙ c.column.auto.0)
+    simp length-set (c.column-4.auto.out ∙ c.column-3.auto.out ∙ c.column-2.auto.out ∙ c.column.auto.out)
 
 pub returns : goal.returns
 returns c =

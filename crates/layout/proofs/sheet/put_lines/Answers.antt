@@ -1,4 +1,3 @@
-use Prim.Native.Nat.{◌-◌}
 use mathlib.Core.Path.{◌∙◌}
 use native.Mathlib.Omega.{arith}
 use Rattle.layout.proofs.LayingLaws.{lining_start, lining_fits, lining_stop, lining_more, lining_end}
@@ -38,7 +37,7 @@ put_line-requires c = (
 
 pub shape_of-out-in_default : goal.shape_of-out-in_default
 shape_of-out-in_default c =
-    c.put_line.auto.0 ∙ c.loop-i.invariant.laying.size
+    c.put_line.auto.out ∙ c.loop-i.invariant.laying.size
 
 pub returns-in_default : goal.returns-in_default
 returns-in_default c =
