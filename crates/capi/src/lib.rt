@@ -1,5 +1,5 @@
 // The public operations for C, and for every language that calls C: numbers and slices alone, and
-// no `requires`. include/jesmovit.h says the same in C's words.
+// no `requires`. The crate capi_c exports them, and include/jesmovit.h says the same in C's words.
 #![tactic(auto)]
 
 ghost use Rattle.std.specs.Prelude.{[]};
@@ -17,8 +17,7 @@ mod given;
 mod numbers;
 
 // Reads a job text: its counts.
-#[unsafe(no_mangle)]
-pub extern "C" fn jesmovit_read_job(text: &[u8], answer: &mut [u64; 5]) -> u32
+pub fn jesmovit_read_job(text: &[u8], answer: &mut [u64; 5]) -> u32
     ensures { Gives read_numbers (λ a. Reads text.now a) result answer.new }
 {
     let a = jesmovit::read_job(text);
@@ -27,8 +26,7 @@ pub extern "C" fn jesmovit_read_job(text: &[u8], answer: &mut [u64; 5]) -> u32
 }
 
 // Compiles a job's program into the list: positions and steps.
-#[unsafe(no_mangle)]
-pub extern "C" fn jesmovit_compile(text: &[u8], list: &mut [u16], answer: &mut [u64; 5]) -> u32
+pub fn jesmovit_compile(text: &[u8], list: &mut [u16], answer: &mut [u64; 5]) -> u32
     ensures { Gives compile_numbers (λ a. Compiles text.now list.old a list.new) result answer.new }
 {
     let a = jesmovit::compile(text, list);
@@ -37,8 +35,7 @@ pub extern "C" fn jesmovit_compile(text: &[u8], list: &mut [u16], answer: &mut [
 }
 
 // Checks a list of moves against a job's program: the verdict.
-#[unsafe(no_mangle)]
-pub extern "C" fn jesmovit_check_moves(
+pub fn jesmovit_check_moves(
     text: &[u8],
     plan: &[u8],
     costs: &[u8],
@@ -57,8 +54,7 @@ pub extern "C" fn jesmovit_check_moves(
 }
 
 // Checks a list of steps against the compiled job: the verdict.
-#[unsafe(no_mangle)]
-pub extern "C" fn jesmovit_check_steps(
+pub fn jesmovit_check_steps(
     text: &[u8],
     plan: &[u8],
     costs: &[u8],
@@ -77,8 +73,7 @@ pub extern "C" fn jesmovit_check_steps(
 }
 
 // Fills the cost table: the least cost, or that there is no plan.
-#[unsafe(no_mangle)]
-pub extern "C" fn jesmovit_least_cost(
+pub fn jesmovit_least_cost(
     text: &[u8],
     costs: &[u8],
     given: u32,
@@ -97,8 +92,7 @@ pub extern "C" fn jesmovit_least_cost(
 }
 
 // Judges a list of moves: positions, steps, and what it is among the plans that the program allows.
-#[unsafe(no_mangle)]
-pub extern "C" fn jesmovit_judge(
+pub fn jesmovit_judge(
     text: &[u8],
     plan: &[u8],
     costs: &[u8],
@@ -120,8 +114,7 @@ pub extern "C" fn jesmovit_judge(
 
 // Lays out a list of moves: the bytes of the sheet that the output's front then holds, or the
 // verdict on what is no plan.
-#[unsafe(no_mangle)]
-pub extern "C" fn jesmovit_sheet(
+pub fn jesmovit_sheet(
     text: &[u8],
     plan: &[u8],
     costs: &[u8],

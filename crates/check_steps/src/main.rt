@@ -1,16 +1,19 @@
 // check_steps JOB PLAN [COSTS]: the verdict on a list of steps against the compiled job, each text
 // in the file that its argument names (job.txt and plan.txt without one), or the refusal. Without
 // COSTS, or with `-`, the house's class costs hold.
+#![tactic(auto)]
+
+use console::files::TEXT;
 use limits::LIST;
 use load::request::Given;
 
-fn main() {
-    let mut text = io::large_buffer();
-    let mut plan = io::large_buffer();
-    let mut costs = io::large_buffer();
+fn main(rt: HostRuntime) {
+    let mut text = [0u8; TEXT];
+    let mut plan = [0u8; TEXT];
+    let mut costs = [0u8; TEXT];
     let mut list = [0u16; LIST];
-    let mut out = io::large_buffer();
-    let got = console::texts::read_texts(&mut text, &mut plan, &mut costs);
+    let mut out = [0u8; TEXT];
+    let got = console::texts::read_texts(&rt, &mut text, &mut plan, &mut costs);
     let n = got.job;
     let m = got.plan;
     let k = got.costs;
@@ -20,6 +23,6 @@ fn main() {
         };
         let answer = jesmovit::check_steps(&text[..n], &plan[..m], &costs[..k], given, &mut list);
         let end = report::check(answer, &mut out);
-        console::print::text(&out[..end]);
+        console::print::text(&rt, &out[..end]);
     }
 }

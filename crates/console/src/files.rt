@@ -1,5 +1,13 @@
 // Files, read into buffers.
-ghost use Rattle.io.specs.Counts.{IsPrefixLen};
+ghost use Rattle.console.specs.Counts.{IsPrefixLen};
+
+use crate::failure::fail;
+use std::fs::File;
+use std::io::Read;
+use std::rt::Files;
+
+// How many bytes a text's buffer holds. What a file has beyond them is not read.
+pub const TEXT: usize = 65536;
 
 // Whether a file or an argument was read, and how many bytes it filled. Where it was not, standard
 // error has said why.
@@ -10,30 +18,28 @@ pub struct Filled {
 }
 
 // What one call reads; no bytes at the file's end.
-fn read_once(fd: i32, path: &[u8], part: &mut [u8]) -> Filled
+fn read_once(rt: &impl Eprint, file: &mut impl Read, path: &str, part: &mut [u8]) -> Filled
     ensures { IsPrefixLen result.count part.new }
 {
-    let got = libc::read(fd, part);
-    if got < 0 {
-        os::fail(path);
-        return Filled {
-            read: false,
-            count: 0,
-        };
-    }
-    Filled {
-        read: true,
-        count: io::count(got, part),
+    match file.read(part) {
+        Ok(count) => Filled { read: true, count },
+        Err(error) => {
+            fail(rt, path, error);
+            Filled {
+                read: false,
+                count: 0,
+            }
+        }
     }
 }
 
 // Fills the buffer from an open file, to its end or until the buffer is full.
-fn fill(fd: i32, path: &[u8], buf: &mut [u8]) -> Filled
+fn fill(rt: &impl Eprint, file: &mut impl Read, path: &str, buf: &mut [u8]) -> Filled
     ensures { IsPrefixLen result.count buf.new }
 {
     let mut n: usize = 0;
     while n < buf.len() {
-        let got = read_once(fd, path, &mut buf[n..]);
+        let got = read_once(rt, file, path, &mut buf[n..]);
         let more = got.count;
         if more == 0 {
             return Filled {
@@ -50,18 +56,17 @@ fn fill(fd: i32, path: &[u8], buf: &mut [u8]) -> Filled
 }
 
 // Fills the buffer from the file at a path.
-pub fn read_file(path: &[u8], buf: &mut [u8]) -> Filled
+pub fn read_file<R: Files + Eprint>(rt: &R, path: &str, buf: &mut [u8]) -> Filled
     ensures { IsPrefixLen result.count buf.new }
 {
-    let fd = os::open_read(path);
-    if fd < 0 {
-        os::fail(path);
-        return Filled {
-            read: false,
-            count: 0,
-        };
+    match File::open(rt, path) {
+        Ok(mut file) => fill(rt, &mut file, path, buf),
+        Err(error) => {
+            fail(rt, path, error);
+            Filled {
+                read: false,
+                count: 0,
+            }
+        }
     }
-    let got = fill(fd, path, buf);
-    libc::close(fd);
-    got
 }

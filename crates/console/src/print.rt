@@ -1,9 +1,9 @@
 // Printing to standard output.
-use libc::STDOUT_FILENO;
+use crate::failure::fail;
 
 // Where not all of the text could be written, standard error says why.
-pub fn text(t: &[u8]) {
-    if !io::write_all(STDOUT_FILENO, t) {
-        os::fail(b"standard output");
+pub fn text(rt: &(impl Print + Eprint), t: &[u8]) {
+    if let Err(error) = rt.write_all(t) {
+        fail(rt, "standard output", error);
     }
 }

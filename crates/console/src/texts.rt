@@ -1,5 +1,9 @@
 // The texts of a program.
-ghost use Rattle.io.specs.Counts.{IsPrefixLen};
+ghost use Rattle.console.specs.Counts.{IsPrefixLen};
+
+use crate::arguments::{read_argument, read_given};
+use std::env::Env;
+use std::rt::Files;
 
 // Whether all files were read, how many bytes each filled, and whether a costs text is given.
 #[derive(Drop)]
@@ -13,12 +17,16 @@ pub struct FileTexts {
 
 // Fills a buffer from the file that argument 1 names, or from job.txt, and one from that of
 // argument 2, which may be left out. There is no plan.
-pub fn read_job_texts(job: &mut [u8], costs: &mut [u8]) -> FileTexts
+pub fn read_job_texts<R: Files + Env + Eprint>(
+    rt: &R,
+    job: &mut [u8],
+    costs: &mut [u8],
+) -> FileTexts
     ensures { IsPrefixLen result.job job.new × IsPrefixLen result.costs costs.new }
 {
-    let first = crate::arguments::read_argument(1, b"job.txt", job);
+    let first = read_argument(rt, 1, "job.txt", job);
     if first.read {
-        let second = crate::arguments::read_given(2, costs);
+        let second = read_given(rt, 2, costs);
         return FileTexts {
             read: second.read,
             job: first.count,
@@ -38,14 +46,19 @@ pub fn read_job_texts(job: &mut [u8], costs: &mut [u8]) -> FileTexts
 
 // Fills a buffer from the file that argument 1 names, or from job.txt; one from that of argument 2,
 // or from plan.txt; and one from that of argument 3, which may be left out.
-pub fn read_texts(job: &mut [u8], plan: &mut [u8], costs: &mut [u8]) -> FileTexts
+pub fn read_texts<R: Files + Env + Eprint>(
+    rt: &R,
+    job: &mut [u8],
+    plan: &mut [u8],
+    costs: &mut [u8],
+) -> FileTexts
     ensures { IsPrefixLen result.job job.new × (IsPrefixLen result.plan plan.new × IsPrefixLen result.costs costs.new) }
 {
-    let first = crate::arguments::read_argument(1, b"job.txt", job);
+    let first = read_argument(rt, 1, "job.txt", job);
     if first.read {
-        let second = crate::arguments::read_argument(2, b"plan.txt", plan);
+        let second = read_argument(rt, 2, "plan.txt", plan);
         if second.read {
-            let third = crate::arguments::read_given(3, costs);
+            let third = read_given(rt, 3, costs);
             return FileTexts {
                 read: third.read,
                 job: first.count,

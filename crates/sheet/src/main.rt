@@ -1,17 +1,20 @@
 // sheet JOB PLAN [COSTS]: the pages of a plan, the verdict on a list of moves that is none, or the
 // refusal; each text in the file that its argument names (job.txt and plan.txt without one). Without
 // COSTS, or with `-`, the house's class costs hold.
+#![tactic(auto)]
+
+use console::files::TEXT;
 use layout::sheet::SHEET;
 use limits::LIST;
 use load::request::Given;
 
-fn main() {
-    let mut text = io::large_buffer();
-    let mut plan = io::large_buffer();
-    let mut costs = io::large_buffer();
+fn main(rt: HostRuntime) {
+    let mut text = [0u8; TEXT];
+    let mut plan = [0u8; TEXT];
+    let mut costs = [0u8; TEXT];
     let mut list = [0u16; LIST];
     let mut out = [0u8; SHEET];
-    let got = console::texts::read_texts(&mut text, &mut plan, &mut costs);
+    let got = console::texts::read_texts(&rt, &mut text, &mut plan, &mut costs);
     let n = got.job;
     let m = got.plan;
     let k = got.costs;
@@ -28,6 +31,6 @@ fn main() {
             &mut out,
         );
         let end = report::sheet(answer, &mut out);
-        console::print::text(&out[..end]);
+        console::print::text(&rt, &out[..end]);
     }
 }

@@ -1,0 +1,120 @@
+// The static library: each function of capi under its name in C. include/jesmovit.h says the same in
+// C's words.
+#![tactic(auto)]
+
+ghost use Rattle.std.specs.Prelude.{[]};
+ghost use Rattle.load.specs.declared.request.Sort.{Sort};
+ghost use Rattle.jesmovit.specs.JobText.{Reads};
+ghost use Rattle.jesmovit.specs.Compiling.{Compiles};
+ghost use Rattle.jesmovit.specs.Checking.{Checks};
+ghost use Rattle.jesmovit.specs.Judging.{CostsLeast, Judges};
+ghost use Rattle.jesmovit.specs.Writing.{Sheets};
+ghost use Rattle.capi.specs.Numbers.{read_numbers, compile_numbers, check_numbers, least_numbers, judge_numbers, sheet_numbers};
+ghost use Rattle.capi.specs.Given.{given_of};
+ghost use Rattle.capi.specs.Calls.{Gives};
+
+// Reads a job text: its counts.
+#[unsafe(no_mangle)]
+pub extern "C" fn jesmovit_read_job(text: &[u8], answer: &mut [u64; 5]) -> u32
+    ensures { Gives read_numbers (λ a. Reads text.now a) result answer.new }
+{
+    capi::jesmovit_read_job(text, answer)
+}
+
+// Compiles a job's program into the list: positions and steps.
+#[unsafe(no_mangle)]
+pub extern "C" fn jesmovit_compile(text: &[u8], list: &mut [u16], answer: &mut [u64; 5]) -> u32
+    ensures { Gives compile_numbers (λ a. Compiles text.now list.old a list.new) result answer.new }
+{
+    capi::jesmovit_compile(text, list, answer)
+}
+
+// Checks a list of moves against a job's program: the verdict.
+#[unsafe(no_mangle)]
+pub extern "C" fn jesmovit_check_moves(
+    text: &[u8],
+    plan: &[u8],
+    costs: &[u8],
+    given: u32,
+    list: &mut [u16],
+    answer: &mut [u64; 5],
+) -> u32
+    ensures { Gives check_numbers (λ a. Checks Sort.Moves
+        (record { job = text.now; plan = plan.now; costs = costs.now; given = given_of given })
+        list.old a list.new) result answer.new }
+{
+    capi::jesmovit_check_moves(text, plan, costs, given, list, answer)
+}
+
+// Checks a list of steps against the compiled job: the verdict.
+#[unsafe(no_mangle)]
+pub extern "C" fn jesmovit_check_steps(
+    text: &[u8],
+    plan: &[u8],
+    costs: &[u8],
+    given: u32,
+    list: &mut [u16],
+    answer: &mut [u64; 5],
+) -> u32
+    ensures { Gives check_numbers (λ a. Checks Sort.Steps
+        (record { job = text.now; plan = plan.now; costs = costs.now; given = given_of given })
+        list.old a list.new) result answer.new }
+{
+    capi::jesmovit_check_steps(text, plan, costs, given, list, answer)
+}
+
+// Fills the cost table: the least cost, or that there is no plan.
+#[unsafe(no_mangle)]
+pub extern "C" fn jesmovit_least_cost(
+    text: &[u8],
+    costs: &[u8],
+    given: u32,
+    list: &mut [u16],
+    table: &mut [u64],
+    answer: &mut [u64; 5],
+) -> u32
+    ensures { Gives least_numbers (λ a. CostsLeast (record { job = text.now; plan = []; costs = costs.now; given = given_of given })
+        (record { list = list.entry.now; table = table.old }) a (record { list = list.exit.now; table = table.new }))
+        result answer.new }
+{
+    capi::jesmovit_least_cost(text, costs, given, list, table, answer)
+}
+
+// Judges a list of moves: positions, steps, and what it is among the plans that the program allows.
+#[unsafe(no_mangle)]
+pub extern "C" fn jesmovit_judge(
+    text: &[u8],
+    plan: &[u8],
+    costs: &[u8],
+    given: u32,
+    list: &mut [u16],
+    table: &mut [u64],
+    answer: &mut [u64; 5],
+) -> u32
+    ensures { Gives judge_numbers (λ a. Judges
+        (record { job = text.now; plan = plan.now; costs = costs.now; given = given_of given })
+        (record { list = list.entry.now; table = table.old }) a (record { list = list.exit.now; table = table.new }))
+        result answer.new }
+{
+    capi::jesmovit_judge(text, plan, costs, given, list, table, answer)
+}
+
+// Lays out a list of moves: the bytes of the sheet that the output's front then holds, or the
+// verdict on what is no plan.
+#[unsafe(no_mangle)]
+pub extern "C" fn jesmovit_sheet(
+    text: &[u8],
+    plan: &[u8],
+    costs: &[u8],
+    given: u32,
+    list: &mut [u16],
+    out: &mut [u8],
+    answer: &mut [u64; 5],
+) -> u32
+    ensures { Gives sheet_numbers (λ a. Sheets
+        (record { job = text.now; plan = plan.now; costs = costs.now; given = given_of given })
+        (record { list = list.entry.now; output = out.old }) a (record { list = list.exit.now; output = out.new }))
+        result answer.new }
+{
+    capi::jesmovit_sheet(text, plan, costs, given, list, out, answer)
+}
