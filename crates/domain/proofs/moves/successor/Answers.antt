@@ -1,7 +1,6 @@
 use Prim.Native.Nat.{◌+◌}
 use mathlib.Core.Path.{◌∙◌, sym, ap}
 use native.Mathlib.Omega.{arith}
-use borrow.Author.Tests.{not-true, not-false}
 use Rattle.job.specs.Job.{Move}
 use Rattle.job.specs.Store.{task_of}
 use Rattle.job.proofs.StoredLaws.{move_count, move_effects}
