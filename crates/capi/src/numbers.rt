@@ -12,14 +12,14 @@ use job::refusal::Refusal;
 use validate::verdict::Verdict;
 
 // The number of a refusal, or 0, and five numbers beside it.
-#[derive(Drop)]
+#[derive(Clone, Copy)]
 pub struct Numbers {
     pub number: u32,
     pub values: [u64; 5],
 }
 
 // What is said of a plan: its number, and two numbers beside it.
-#[derive(Drop)]
+#[derive(Clone, Copy)]
 pub struct Coded {
     pub number: u64,
     pub first: u64,

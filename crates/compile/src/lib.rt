@@ -1,4 +1,6 @@
 // The compiler: from a job's program rows to the steps of the compiling table.
+#![tactic(auto)]
+
 pub mod env;
 pub mod program;
 pub mod rows;

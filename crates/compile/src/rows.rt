@@ -13,7 +13,7 @@ pub const PROGRAM_ROWS: usize = limits::PROGRAM as usize;
 
 // A row of one step. Of a move and a test of a variable: the number to which the object is added,
 // and the variable.
-#[derive(Drop)]
+#[derive(Clone, Copy)]
 pub enum Simple {
     Nil,
     Move(u16),
@@ -24,14 +24,14 @@ pub enum Simple {
 
 // Which of two ways is taken: either, or the first where a formula holds and the second where it
 // fails.
-#[derive(Drop)]
+#[derive(Clone, Copy)]
 pub enum Guard {
     Free,
     On(u16),
 }
 
 // The shape of a row, with the rows that it refers to.
-#[derive(Drop)]
+#[derive(Clone, Copy)]
 pub enum Construct {
     Leaf(Simple),
     Any,

@@ -14,7 +14,7 @@ use limits::STEPS;
 const CAP: usize = STEPS + 1;
 
 // How many positions and steps a job's program has, or one of its rows adds.
-#[derive(Drop)]
+#[derive(Clone, Copy)]
 pub struct Sizes {
     pub positions: u16,
     pub steps: u16,

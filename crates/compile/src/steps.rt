@@ -8,7 +8,7 @@ ghost use Rattle.compile.specs.Laid.{label_numbers, guard_numbers, LaidOver, pos
 use crate::rows::{Guard, Simple};
 
 // From which position the next part is compiled, and where in the list its steps begin.
-#[derive(Drop)]
+#[derive(Clone, Copy)]
 pub struct Cursor {
     pub position: u16,
     pub at: usize,
@@ -26,7 +26,7 @@ fn put_step(list: &mut [u16], at: usize, kind: u16, from: u16, to: u16, arg: u16
 }
 
 // What a step is taken under: its kind and argument.
-#[derive(Drop)]
+#[derive(Clone, Copy)]
 pub struct StepLabel {
     pub kind: u16,
     pub arg: u16,
@@ -52,7 +52,7 @@ fn leaf_label(simple: Simple, env: &[u16], start: usize) -> StepLabel
 }
 
 // The labels of the two ways: their kinds, and the argument of both.
-#[derive(Drop)]
+#[derive(Clone, Copy)]
 pub struct Labels {
     pub first: u16,
     pub second: u16,
@@ -174,7 +174,7 @@ pub fn loop_steps(list: &mut [u16], at: usize, n: u16, p: u16, guard: Guard) -> 
 }
 
 // Positions so far apart, from the first on.
-#[derive(Drop)]
+#[derive(Clone, Copy)]
 pub struct Spaced {
     pub first: u16,
     pub apart: u16,

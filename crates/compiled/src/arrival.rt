@@ -13,7 +13,7 @@ use domain::Successor;
 use job::head::Head;
 
 // Where a step leads: the state, the position, and what it costs. Nowhere, where it can't be made.
-#[derive(Drop)]
+#[derive(Clone, Copy)]
 pub enum Arrival {
     At(u16, u16, u64),
     Nowhere,

@@ -4,7 +4,7 @@ ghost use Rattle.compiled.specs.Adjacency.{start_in};
 ghost use Rattle.compiled.specs.Steps.{label_of, IsStep, silent_by};
 
 // A step of the list, but for where it starts.
-#[derive(Drop)]
+#[derive(Clone, Copy)]
 pub struct OutStep {
     pub kind: u16,
     pub to: u16,

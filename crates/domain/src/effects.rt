@@ -10,7 +10,7 @@ use job::head::Head;
 use job::stored::Move;
 
 // The facts that effects clear, and those that they set, each a set of bits as a state is.
-#[derive(Drop)]
+#[derive(Clone, Copy)]
 pub struct Changes {
     pub cleared: u16,
     pub set: u16,

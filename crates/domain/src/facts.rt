@@ -1,12 +1,12 @@
 // Facts of a state, the bits of a number.
 ghost use Rattle.std.specs.Prelude.{◌≡◌, cond, ◌^◌, ◌<◌};
 ghost use Rattle.limits.specs.Limits.{most_facts};
-ghost use Rattle.domain.specs.State.{fact as factIn};
+ghost use Rattle.domain.specs.State.{fact as fact_in};
 
 // Whether fact i is true in state w.
 pub fn fact(w: u16, i: u16) -> bool
     requires { i < most_facts }
-    ensures { result ≡ factIn w i }
+    ensures { result ≡ fact_in w i }
 {
     (w >> i) % 2 == 1
 }

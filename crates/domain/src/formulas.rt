@@ -3,7 +3,7 @@ ghost use Rattle.std.specs.Prelude.{◌≡◌, false, ◌<◌, get_or};
 ghost use Rattle.limits.specs.Limits.{most_facts};
 ghost use Rattle.job.specs.Store.{formula_in};
 ghost use Rattle.job.specs.Stored.{Stored};
-ghost use Rattle.domain.specs.State.{value as valueIn};
+ghost use Rattle.domain.specs.State.{value as value_in};
 ghost use Rattle.domain.specs.Domain.{domain_in, Tells};
 
 use job::head::Head;
@@ -26,7 +26,7 @@ pub fn value_at(values: &[bool], a: u16) -> bool
 // The value of a formula in a state, from those of the formulas before it.
 fn value(state: u16, values: &[bool], formula: Formula) -> bool
     requires { formula.kind ≡ 2 → formula.a < most_facts }
-    ensures { result ≡ valueIn state values.now (formula_in formula) }
+    ensures { result ≡ value_in state values.now (formula_in formula) }
 {
     let kind = formula.kind;
     match kind {

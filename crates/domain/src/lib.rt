@@ -1,5 +1,7 @@
 // A stored job's domain in code: states, start and goal, formulas' values in a state, a move's
 // successor and cost. Here alone a state is a set of bits, one a fact.
+#![tactic(auto)]
+
 pub mod effects;
 pub mod facts;
 pub mod formulas;
@@ -7,7 +9,7 @@ pub mod moves;
 pub mod states;
 
 // The state after a move, where it is applicable.
-#[derive(Drop)]
+#[derive(Clone, Copy)]
 pub enum Successor {
     To(u16),
     Inapplicable,

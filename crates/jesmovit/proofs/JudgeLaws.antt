@@ -3,13 +3,10 @@
 use Prim.Native.Nat.{ℕ}
 use mathlib.Core.Path.{◌≡◌, refl, sym, subst}
 use mathlib.Core.Bool.{Bool, true, false, cond}
-use mathlib.Core.List.{List, [], ◌∷◌}
-use mathlib.Core.Logic.{inl, inr}
+use mathlib.Core.List.{List}
 use native.Mathlib.Omega.{arith}
 use lib.Dec.{leb}
 use borrow.Author.Tests.{leb-true, leb-false}
-use types.Run.{OneOf}
-use denote.Enum.Declared.{tag_of}
 use Rattle.laws.proofs.Tests.{never}
 use Rattle.semantics.specs.Program.{Program}
 use Rattle.semantics.specs.Domain.{Domain}
@@ -21,7 +18,6 @@ use Rattle.semantics.specs.Judgement.{is_least, is_dearer, is_other}
 use Rattle.semantics.proofs.JudgementLaws.{plan_at_least}
 use Rattle.validate.specs.Verdict.{verdict_of}
 use Rattle.validate.specs.declared.verdict.Verdict.{Verdict}
-use Rattle.validate.specs.contracts.verdict.Verdict.{the_type}
 use Rattle.load.specs.View.{View, view_steps, positions_of}
 use Rattle.load.specs.declared.request.Sort.TheVariants.{Moves}
 use Rattle.jesmovit.specs.Outcomes.{judgement_of}
@@ -40,14 +36,12 @@ module _ (D : Domain) (σ : Program) where
   unfolding by_runs
   judged_allowed (is_plan {u} x g) = record { last = u; run = x; reached = g }
 
--- a verdict of another tag is no plan
-pub other_tag : (v : Verdict) → OneOf (1 ∷ 2 ∷ 3 ∷ []) (tag_of the_type v) → (c : ℕ) → verdict_of v ≡ S.plan c → ⊥
-other_tag (Verdict.Plan k) (inl e) c f = omega (arith, e)
-other_tag (Verdict.Plan k) (inr (inl e)) c f = omega (arith, e)
-other_tag (Verdict.Plan k) (inr (inr e)) c f = omega (arith, e)
-other_tag (Verdict.Blocked i) o c f = never (cc)
-other_tag Verdict.Unfinished o c f = never (cc)
-other_tag Verdict.Missed o c f = never (cc)
+-- a verdict of another variant is no plan
+pub other_variant : (v : Verdict) → ((x : ℕ) → v ≡ Verdict.Plan x → ⊥) → (c : ℕ) → verdict_of v ≡ S.plan c → ⊥
+other_variant (Verdict.Plan k) o c f = o k refl
+other_variant (Verdict.Blocked i) o c f = never (cc)
+other_variant Verdict.Unfinished o c f = never (cc)
+other_variant Verdict.Missed o c f = never (cc)
 
 module _ (v : View) (table : List ℕ) (w : Verdict) (said : Says Moves v (verdict_of w)) where
   abbrev D : Domain
@@ -56,8 +50,8 @@ module _ (v : View) (table : List ℕ) (w : Verdict) (said : Says Moves v (verdi
   abbrev σ : Program
   σ = v.program
 
-  pub judged_other : OneOf (1 ∷ 2 ∷ 3 ∷ []) (tag_of the_type w) → Found v (judgement_of (Judgement.Other w)) table table
-  judged_other o = record { finds = is_other said (other_tag w o); table = refl }
+  pub judged_other : ((x : ℕ) → w ≡ Verdict.Plan x → ⊥) → Found v (judgement_of (Judgement.Other w)) table table
+  judged_other o = record { finds = is_other said (other_variant w o); table = refl }
 
   module _ {cost low positions : ℕ} {after : List ℕ} (e : w ≡ Verdict.Plan cost) (p : positions ≡ positions_of v)
       (x : Filled v.domain (view_steps v) positions table after × LeastOr v.domain v.program low) where

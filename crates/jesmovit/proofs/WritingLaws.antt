@@ -2,13 +2,11 @@
 -- Assumes nothing.
 use Prim.Native.Nat.{ℕ, ◌≤◌, ◌<◌}
 use mathlib.Core.Path.{◌≡◌, refl, sym, ◌∙◌, ap}
-use mathlib.Core.List.{List, [], ◌∷◌}
+use mathlib.Core.List.{List}
 use mathlib.Core.Logic.{◌⊎◌, inl, inr}
 use native.Mathlib.Omega.{arith}
 use lib.ListN.{length}
 use lib.Seq.{sets}
-use types.Run.{OneOf}
-use denote.Enum.Declared.{tag_of}
 use Rattle.job.specs.Store.{task_of}
 use Rattle.job.specs.declared.refusal.Refusal.{Refusal}
 use Rattle.semantics.specs.Verdict as S
@@ -18,7 +16,6 @@ use Rattle.domain.specs.Entries.{EntriesBelow}
 use Rattle.domain.proofs.DomainLaws.{stored_bounded}
 use Rattle.validate.specs.Verdict.{verdict_of}
 use Rattle.validate.specs.declared.verdict.Verdict.{Verdict}
-use Rattle.validate.specs.contracts.verdict.Verdict.{the_type}
 use Rattle.layout.specs.Sheet.{sheet_of, sheet_size}
 use Rattle.layout.proofs.PlanLines.{sheet_length}
 use Rattle.load.specs.Refusals.{Handed, Checked, passed, refused, Offer, loading}
@@ -31,7 +28,7 @@ use Rattle.jesmovit.specs.Compiling.{list_after}
 use Rattle.jesmovit.specs.Checking.{Says}
 use Rattle.jesmovit.specs.Writing.{LentOutput, Writes, refuses, not_plan, too_short, writes, bytes_for, SheetIs}
 use Rattle.jesmovit.proofs.AnswerLaws.{of_loaded}
-use Rattle.jesmovit.proofs.JudgeLaws.{other_tag}
+use Rattle.jesmovit.proofs.JudgeLaws.{other_variant}
 
 module _ {Content : View → List ℕ → Type 0} {old : LentOutput} (h : Handed) where
   pub write_refused : {number place : ℕ} → refused number place ≡ loading h → Writes Content old (view_in h) (refused number place) old
@@ -48,8 +45,8 @@ plan_or_none (Verdict.Blocked i) count = inr refl
 plan_or_none Verdict.Unfinished count = inr refl
 plan_or_none Verdict.Missed count = inr refl
 
-pub other_asks : (v : Verdict) → OneOf (1 ∷ 2 ∷ 3 ∷ []) (tag_of the_type v) → (count : ℕ) → 0 ≡ bytes_for (verdict_of v) count
-other_asks v o count = elim (plan_or_none v count) [ inl x ↦ absurd (other_tag v o x.0 (ap verdict_of x.1)) | inr e ↦ e ]
+pub other_asks : (v : Verdict) → ((x : ℕ) → v ≡ Verdict.Plan x → ⊥) → (count : ℕ) → 0 ≡ bytes_for (verdict_of v) count
+other_asks v o count = elim (plan_or_none v count) [ inl x ↦ absurd (other_variant v o x.0 (ap verdict_of x.1)) | inr e ↦ e ]
 
 -- of a job that is stored and measured, and moves that it has
 module _ {l : LoadedJob} {rows plan : List ℕ} (sized : Sized l rows) (entries : EntriesBelow plan (domain_in l.head rows).moves) (list out : List ℕ)
@@ -57,10 +54,10 @@ module _ {l : LoadedJob} {rows plan : List ℕ} (sized : Sized l rows) (entries 
   abbrev view : View
   view = view_of (record { task = task_of l.head rows; entries = plan })
 
-  -- a verdict of another tag: nothing is laid out
-  pub lay_none : OneOf (1 ∷ 2 ∷ 3 ∷ []) (tag_of the_type v) → {after : List ℕ} → after ≡ list_after view list
+  -- a verdict of another variant: nothing is laid out
+  pub lay_none : ((x : ℕ) → v ≡ Verdict.Plan x → ⊥) → {after : List ℕ} → after ≡ list_after view list
       → Writes SheetIs (record { list = list; output = out }) (passed view) (passed (said (verdict_of v))) (record { list = after; output = out })
-  lay_none o e = rw e (not_plan s (other_tag v o))
+  lay_none o e = rw e (not_plan s (other_variant v o))
 
   module _ {need : ℕ} (n : need ≡ bytes_for (verdict_of v) (length plan)) where
     module _ {cost : ℕ} (e : v ≡ Verdict.Plan cost) where

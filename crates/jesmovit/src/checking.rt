@@ -17,7 +17,7 @@ use load::room::front;
 use validate::verdict::Verdict;
 
 // The verdict on a plan; or why the texts or the list are refused.
-#[derive(Drop)]
+#[derive(Clone, Copy)]
 pub enum CheckAnswer {
     Said(Verdict),
     Refused(Refusal),

@@ -8,7 +8,7 @@ use load::loaded::Loaded;
 use load::request::{Given, Request, Sort};
 
 // How many positions and steps the compiled job has; or why it is refused.
-#[derive(Drop)]
+#[derive(Clone, Copy)]
 pub enum CompileAnswer {
     Compiled(u16, u16),
     Refused(Refusal),

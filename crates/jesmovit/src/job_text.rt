@@ -7,7 +7,7 @@ use job::rows::STORE;
 use reader::reading::Answer;
 
 // How many facts, objects and rows of each sort the job has; or why the text is refused.
-#[derive(Drop)]
+#[derive(Clone, Copy)]
 pub enum ReadAnswer {
     Read(Counts),
     Refused(Refusal),

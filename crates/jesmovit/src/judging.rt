@@ -23,7 +23,7 @@ use validate::verdict::Verdict;
 
 // The least cost of all plans that the job's program allows, or none where it allows no plan of any
 // length; or why the texts, the list or the table are refused.
-#[derive(Drop)]
+#[derive(Clone, Copy)]
 pub enum LeastAnswer {
     Costs(u64),
     NoPlan,
@@ -32,7 +32,7 @@ pub enum LeastAnswer {
 
 // What an offered plan is: one of least cost; one of a cost above the least, with both; or no plan,
 // with the check's verdict.
-#[derive(Drop)]
+#[derive(Clone, Copy)]
 pub enum Judgement {
     Least(u64),
     Dearer(u64, u64),
@@ -41,7 +41,7 @@ pub enum Judgement {
 
 // How many positions and steps the compiled job has, and what the plan is; or why the texts, the
 // list or the table are refused.
-#[derive(Drop)]
+#[derive(Clone, Copy)]
 pub enum JudgeAnswer {
     Judged(u16, u16, Judgement),
     Refused(Refusal),

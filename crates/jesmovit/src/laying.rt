@@ -23,7 +23,7 @@ use validate::verdict::Verdict;
 
 // How many bytes the sheet of a plan has; the verdict on what is no plan; or why the texts, the
 // list or the output are refused.
-#[derive(Drop)]
+#[derive(Clone, Copy)]
 pub enum SheetAnswer {
     Laid(usize),
     Said(Verdict),

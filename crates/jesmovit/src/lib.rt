@@ -1,4 +1,6 @@
 // The public operations, on any texts, lists, tables and outputs. None has a `requires`.
+#![tactic(auto)]
+
 mod checking;
 mod compiling;
 mod job_text;

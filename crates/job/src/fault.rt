@@ -17,7 +17,7 @@ fn unless(right: bool, reason: u8) -> u8
 }
 
 // The numbers that a line of one number may have, and the reason that refuses it else.
-#[derive(Drop)]
+#[derive(Clone, Copy)]
 pub struct Range {
     pub from: u16,
     pub below: u16,

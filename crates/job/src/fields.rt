@@ -2,14 +2,14 @@
 ghost use Rattle.std.specs.Prelude.{◌≡◌, [], ◌∷◌, ◌+◌, ◌-◌, ◌<◌, get_or};
 ghost use Rattle.job.specs.Job.{move_of, effect_of, move_numbers, effect_numbers};
 ghost use Rattle.job.specs.Fields.{formula_fields, move_fields, effect_fields, row_fields, within};
-ghost use Rattle.job.specs.Fields.{bound as fieldBound};
+ghost use Rattle.job.specs.Fields.{bound as field_bound};
 
 use crate::head::Counts;
 use crate::rows::WIDTH;
 use limits::{LAST_CLASS, MOVE_EFFECTS};
 
 // What a number refers to, or says. A base is one to which the object of a variable is added.
-#[derive(Drop)]
+#[derive(Clone, Copy)]
 pub enum Field {
     Unused,
     Fact,
@@ -70,7 +70,7 @@ fn base_bound(count: u16, objects: u16) -> u32
 
 // A field is below this number.
 fn bound(f: Field, counts: Counts) -> u32
-    ensures { result ≡ fieldBound counts f }
+    ensures { result ≡ field_bound counts f }
 {
     match f {
         Field::Unused => 1,

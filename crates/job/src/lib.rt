@@ -1,4 +1,6 @@
 // A job: its head of numbers, its rows, which reason refuses a line of its text, and class costs.
+#![tactic(auto)]
+
 pub mod costs;
 pub mod fault;
 pub mod fields;

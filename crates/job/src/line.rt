@@ -2,7 +2,7 @@
 use crate::rows::WIDTH;
 
 // The lines of one number, in the order in which they come. Rows follow those that count them.
-#[derive(Drop)]
+#[derive(Clone, Copy)]
 pub enum Heading {
     Job,
     Facts,
@@ -15,7 +15,7 @@ pub enum Heading {
 }
 
 // The sorts of rows.
-#[derive(Drop)]
+#[derive(Clone, Copy)]
 pub enum RowSort {
     Formula,
     Move,
@@ -24,7 +24,7 @@ pub enum RowSort {
 }
 
 // A line of one number, or of a row; the end is where no line may come.
-#[derive(Drop)]
+#[derive(Clone, Copy)]
 pub enum Line {
     One(Heading),
     Of(RowSort),
@@ -32,7 +32,7 @@ pub enum Line {
 }
 
 // The numbers of a line, as many as its sort has, where it is well formed; the others are 0.
-#[derive(Drop)]
+#[derive(Clone, Copy)]
 pub struct LineNumbers {
     pub formed: bool,
     pub numbers: [u16; WIDTH],

@@ -8,7 +8,7 @@ use crate::head::Head;
 use crate::rows::{EFFECT_COUNT, EFFECTS_FROM, FIRST_EFFECT, MOVES_FROM, PROGRAM_FROM, row_at};
 
 // A formula: its kind, and what it refers to.
-#[derive(Drop)]
+#[derive(Clone, Copy)]
 pub struct Formula {
     pub kind: u16,
     pub a: u16,
@@ -17,7 +17,7 @@ pub struct Formula {
 
 // A move: its precondition and cost class, how many effects it has, the formula that says when it
 // costs a second class too, that class, and the number of its first effect.
-#[derive(Drop)]
+#[derive(Clone, Copy)]
 pub struct Move {
     pub pre: u16,
     pub class: u16,
@@ -28,7 +28,7 @@ pub struct Move {
 }
 
 // An effect: its condition, the fact that it changes, and the value that it gives it.
-#[derive(Drop)]
+#[derive(Clone, Copy)]
 pub struct Effect {
     pub cond: u16,
     pub fact: u16,
@@ -36,7 +36,7 @@ pub struct Effect {
 }
 
 // A row of the program: its kind, and what it refers to.
-#[derive(Drop)]
+#[derive(Clone, Copy)]
 pub struct ProgramRow {
     pub kind: u16,
     pub a: u16,

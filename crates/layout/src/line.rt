@@ -11,7 +11,7 @@ const WIDTH: usize = 30;
 pub const LINE: usize = WIDTH + 1;
 
 // A move's line: its row, counted from 1, the move, its cost, and the costs up to it.
-#[derive(Drop)]
+#[derive(Clone, Copy)]
 pub struct SheetLine {
     pub row: u64,
     pub action: u64,

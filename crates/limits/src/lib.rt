@@ -1,5 +1,6 @@
 // The limits of a job, of its class costs, of its compiled job and of a plan; the programs' cost table.
 // `specs/Limits.antt` has the same numbers, each under its sentence.
+#![tactic(auto)]
 
 // Numbers of a job text.
 pub const FACTS: u16 = 12;

@@ -5,14 +5,14 @@ ghost use Rattle.lists.specs.CountedList.{bound_at, entry_in, read_entries, read
 ghost use Rattle.lists.specs.Listed.{entry_of, listed_as, entry_count};
 
 // How many numbers a list has; or the line at which its text is refused.
-#[derive(Drop)]
+#[derive(Clone, Copy)]
 pub enum ListAnswer {
     Read(usize),
     Refused(usize),
 }
 
 // The number of a line, where it is right.
-#[derive(Drop)]
+#[derive(Clone, Copy)]
 pub enum Entry {
     Number(u16),
     Wrong,
@@ -20,7 +20,7 @@ pub enum Entry {
 
 // How many numbers a list may have, from the least to the most; and what they may be: the first is
 // below one bound, the others below another.
-#[derive(Drop)]
+#[derive(Clone, Copy)]
 pub struct Ranges {
     pub least: u16,
     pub most: u16,

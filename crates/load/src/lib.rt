@@ -1,4 +1,6 @@
 // Texts loaded: every reason to refuse what is handed in before a verdict, in its order.
+#![tactic(auto)]
+
 pub mod loaded;
 pub mod loading;
 mod offer;

@@ -10,7 +10,7 @@ use lists::counted::ListAnswer;
 // A job that nothing refuses so far: its head, whose rows and class costs are then stored, the
 // sizes of its compiled job, how many states it has, and how many entries of its plan are then
 // stored.
-#[derive(Drop)]
+#[derive(Clone, Copy)]
 pub struct LoadedJob {
     pub head: Head,
     pub sizes: Sizes,
@@ -18,7 +18,7 @@ pub struct LoadedJob {
     pub entries: usize,
 }
 
-#[derive(Drop)]
+#[derive(Clone, Copy)]
 pub enum Loaded {
     Ready(LoadedJob),
     Refused(Refusal),

@@ -1,4 +1,6 @@
 // A queue of states: their keys, and an order that names a state of least key.
+#![tactic(auto)]
+
 pub mod keys;
 pub mod order;
 

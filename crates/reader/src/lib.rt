@@ -1,4 +1,6 @@
 // A job text, read line by line into a head of numbers and rows.
+#![tactic(auto)]
+
 pub mod line;
 pub mod reading;
 pub mod taking;

@@ -1,7 +1,7 @@
 // Reading a job text, line by line.
 ghost use Rattle.std.specs.Prelude.{◌≡◌, List, ℕ, ◌^◌, ◌<◌, length};
 ghost use Rattle.job.specs.ReadJob.{begun, ended, read_job};
-ghost use Rattle.job.specs.ReadJob.{is_end as atEnd};
+ghost use Rattle.job.specs.ReadJob.{is_end as at_end};
 ghost use Rattle.job.specs.Store.{store_size};
 ghost use Rattle.reader.specs.Reading.{reading_of, outcome_of, read_refusal};
 
@@ -11,7 +11,7 @@ use job::line::{Heading, Line};
 use job::refusal::Refusal;
 
 // The number of lines and the head of the job, whose rows are then stored; or the refusal.
-#[derive(Drop)]
+#[derive(Clone, Copy)]
 pub enum Answer {
     Read(usize, Head),
     Refused(Refusal),
@@ -65,7 +65,7 @@ fn start() -> ReaderState
 }
 
 fn is_end(next: Line) -> bool
-    ensures { result ≡ atEnd next }
+    ensures { result ≡ at_end next }
 {
     match next {
         Line::One(_) => false,

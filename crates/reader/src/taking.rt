@@ -1,7 +1,7 @@
 // The numbers of a right line taken in.
 ghost use Rattle.std.specs.Prelude.{◌≡◌, List, ℕ, ◌-◌, length};
 ghost use Rattle.job.specs.Stored.{Limited};
-ghost use Rattle.job.specs.ReadJob.{past as past_of, again as againOf, after_row, after_one, due_after, effects_after};
+ghost use Rattle.job.specs.ReadJob.{past as past_of, again as again_of, after_row, after_one, due_after, effects_after};
 ghost use Rattle.job.specs.ReadJob.{taken_one, taken_row, taken};
 ghost use Rattle.job.specs.Store.{store_size, list_of};
 ghost use Rattle.reader.specs.Reading.{reading_of, head_after, place_of, one_more};
@@ -13,7 +13,7 @@ use job::rows::{EFFECTS_FROM, MOVES_FROM, PROGRAM_FROM, WIDTH};
 
 // A text that is being read: the line that comes next, how many rows are due by the number of the
 // last line of one number, how many effects of the last move are due, and the head so far.
-#[derive(Drop)]
+#[derive(Clone, Copy)]
 pub struct ReaderState {
     pub next: Line,
     pub due: u16,
@@ -33,7 +33,7 @@ fn past(sort: RowSort) -> Line
 }
 
 fn again(sort: RowSort) -> RowSort
-    ensures { result ≡ againOf sort }
+    ensures { result ≡ again_of sort }
 {
     match sort {
         RowSort::Formula => RowSort::Formula,

@@ -1,4 +1,6 @@
 // What the programs print, written as bytes into a lent buffer.
+#![tactic(auto)]
+
 mod lines;
 mod printouts;
 mod put;

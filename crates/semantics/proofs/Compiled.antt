@@ -23,12 +23,14 @@ unfolding while_steps
 while_step i p q l here = into refl
 while_step i p q l (there here) = out refl
 while_step i p q l (there (there here)) = again refl
+while_step i p q l (there (there (there h))) = elim h [ ]
 
 star_step : {n n₁ : ℕ} (i p q : ℕ) (l : Label) → StepAt (star_steps n n₁) i p l q → LoopStep noop noop n n₁ p l q
 unfolding star_steps
 star_step i p q l here = into refl
 star_step i p q l (there here) = again refl
 star_step i p q l (there (there here)) = out refl
+star_step i p q l (there (there (there h))) = elim h [ ]
 
 module _ (D : Domain) where
   abbrev M : ℕ

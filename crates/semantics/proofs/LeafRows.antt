@@ -20,6 +20,7 @@ use Rattle.semantics.proofs.Leaf.{LeafStep, leaf_step, LeafNext, leaf_next, leaf
 -- the step of a move among those of all moves
 any_at : (count a n m i : ℕ) → i < count → m ≡ a + i → StepAt (move_steps count a n) i n (make m) (suc n)
 unfolding move_steps
+any_at zero a n m i h e = elim h [ ]
 any_at (suc count) a n m zero h e = let f : m ≡ a = omega arith in rw f here
 any_at (suc count) a n m (suc i) h e = there (any_at count (suc a) n m i (omega arith) (omega arith))
 
@@ -27,6 +28,7 @@ module _ {D : Domain} where
   single : {σ : Program} {x : Label} {n : ℕ} → ((s t : ℕ) (ks : List ℕ) → Does D x s ks t → Chain (Transition D) s σ ks t nil)
       → (i p q : ℕ) (l : Label) → StepAt (arc x n (suc n) ∷ []) i p l q → LeafStep D σ n p l q
   single f i p q l here = leaf_step refl f
+  single f i p q l (there h) = elim h [ ]
 
   nil_does : (s t : ℕ) (ks : List ℕ) → Does D noop s ks t → Chain (Transition D) s nil ks t nil
   nil_does s t ks idles = halt
@@ -57,6 +59,7 @@ module _ {D : Domain} where
 
   any_step : (count a n : ℕ) → a + count ≤ D.moves → (i p q : ℕ) (l : Label) → StepAt (move_steps count a n) i p l q → LeafStep D any n p l q
   unfolding move_steps
+  any_step zero a n h i p q l k = elim k [ ]
   any_step (suc count) a n h i p q l here = leaf_step refl (any_does {a = a} (omega arith))
   any_step (suc count) a n h i p q l (there k) = any_step count (suc a) n (omega arith) _ p q l k
 

@@ -1,6 +1,6 @@
 -- The order of lists of moves is a total one, and so there is at most one earliest list.
 -- Assumes nothing.
-use Prim.Native.Nat.{ℕ, zero, suc, ◌+◌, ◌≤◌, ◌<◌}
+use Prim.Native.Nat.{ℕ}
 use mathlib.Core.Path.{◌≡◌, refl, sym, ◌∙◌, ap}
 use mathlib.Core.List.{List, [], ◌∷◌}
 use native.Mathlib.Omega.{arith}
@@ -19,11 +19,14 @@ pub smaller_not_same : {ms ns : List ℕ} → Smaller ms ns → ms ≡ ns → �
 smaller_not_same (here {m} {n} h) e = let z : m ≡ n = cc in omega arith
 smaller_not_same (later {ms} {ns} h) e = smaller_not_same h (cc)
 
+smaller_round : {ms ns ks : List ℕ} → Smaller ms ns → Smaller ns ks → ms ≡ ks → ⊥
+smaller_round (here {m} h) (here {n = o} k) e = let z : m ≡ o = cc in omega arith
+smaller_round (here {m} h) (later {m = o} k) e = let z : m ≡ o = cc in omega arith
+smaller_round (later {m} h) (here {n = o} k) e = let z : m ≡ o = cc in omega arith
+smaller_round (later h) (later k) e = smaller_round h k (cc)
+
 pub smaller_not_back : {ms ns : List ℕ} → Smaller ms ns → Smaller ns ms → ⊥
-smaller_not_back (here h) (here k) = omega arith
-smaller_not_back (here h) (later k) = omega arith
-smaller_not_back (later h) (here k) = omega arith
-smaller_not_back (later h) (later k) = smaller_not_back h k
+smaller_not_back h k = smaller_round h k refl
 
 pub smaller_on : {ks ms ns : List ℕ} → Smaller ks ms → Smaller ms ns → Smaller ks ns
 smaller_on (here {m} h) (here {n} k) = here {m = m} {n = n} (omega arith)

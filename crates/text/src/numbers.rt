@@ -5,7 +5,7 @@ ghost use Rattle.text.specs.Progress.{partial_of, complete_count, answered, Goes
 
 // How far a value was read: before the first digit of number k; within number k, which is n so far;
 // past the line feed; of wrong form.
-#[derive(Drop)]
+#[derive(Clone, Copy)]
 pub enum Progress {
     Start(usize),
     Digits(usize, u16),

@@ -56,6 +56,7 @@ module _ (P : ℕ → Type 0) (positive : (number : ℕ) → P number → 1 ≤ 
 answer_number : {B C : Type 0} {Does : View → B → C → C → Type 0} {old new : C} (say : B → Numbers) → ((b : B) → (say b).number ≡ 0)
     → (c : Checked Offer) (d : Checked B) → Answers Does old (viewed c) d new → (outcome_numbers say d).number ≡ number_of c
 answer_number say zero (passed o) (passed b) x = zero b
+answer_number say zero (passed o) (refused _ _) x = elim x [ ]
 answer_number say zero (refused number place) d x = ap (λ (e : Checked _). (outcome_numbers say e).number) (refusal_kept x refl).0
 
 up_to_positive : (last number : ℕ) → UpTo last number → 1 ≤ number

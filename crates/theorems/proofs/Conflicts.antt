@@ -25,6 +25,7 @@ module _ {A : Type 0} (p : A → Bool) where
 
   member_any : {a : A} (l : List A) → Memᴰ a l → p a ≡ true → any_of p l ≡ true
   unfolding any_of
+  member_any [] m e = elim m [ ]
   member_any (b ∷ l) (Memᴰ.head h) e = rw (← h, e) refl
   member_any (b ∷ l) (Memᴰ.tail m) e = rw (member_any l m e) (or-true (p b))
 

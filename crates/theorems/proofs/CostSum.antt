@@ -61,8 +61,10 @@ module _ (t : Task) where
   front_along : {w c : ℕ} {ms : List ℕ} → CostsAlong t w ms c → (i : ℕ) → (d : ℕ) × CostsAlong t w (take i ms) d
   front_along x zero = (0, no_move)
   front_along no_move (suc i) = (0, no_move)
-  front_along (first_alone off made rest) (suc i) = let x = front_along rest i in (_, first_alone off made x.1)
-  front_along (with_second on made rest) (suc i) = let x = front_along rest i in (_, with_second on made x.1)
+  front_along {w = w} (first_alone {u = u} off made rest) (suc i) =
+      let x = front_along {w = u} rest i in (_, first_alone off made x.1)
+  front_along {w = w} (with_second {u = u} on made rest) (suc i) =
+      let x = front_along {w = u} rest i in (_, with_second on made x.1)
 
   -- "A plan's cost is summed along its worlds"
   pub cost_is_sum : (ms : List ℕ) → Allowed D (program_of t.job) ms → PlanCosts t ms (cost D D.start ms)

@@ -88,11 +88,13 @@ judged_right c e = by (loading (handed_by_program c.texts)) refl e
     by (refused number place) f g = never (cc)
 
 each_right : (cs : List Case) → map judged cs ≡ map said cs → (c : Case) → Memᴰ c cs → Right c
+each_right [] e c m = elim m [ ]
 each_right (d ∷ cs) e c (Memᴰ.head h) = rw h (judged_right d (cc))
 each_right (d ∷ cs) e c (Memᴰ.tail m) = each_right cs (cc) c m
 
 -- a case of one table is one of both
 in_first : {c : Case} (xs ys : List Case) → Memᴰ c xs → Memᴰ c (xs ++ ys)
+in_first [] ys m = elim m [ ]
 in_first (d ∷ xs) ys (Memᴰ.head h) = Memᴰ.head h
 in_first (d ∷ xs) ys (Memᴰ.tail m) = Memᴰ.tail (in_first xs ys m)
 

@@ -19,10 +19,13 @@ module _ (D : Domain) (L : List Step) (n : ℕ) {old new : List ℕ} (filled : F
   entry_kept a (unreachable f) l = absurd (omega arith)
 
   -- and one that said that nothing is reached says so
-  pub none_kept : EntryBelow far D L s q far → get_or new (s * n + q) 0 ≡ unreached
-  none_kept (fitted h x) = absurd (omega arith)
-  none_kept (unreachable f) = by _ (filled.entries s q state position)
+  none_kept_at : {a : ℕ} → EntryBelow far D L s q a → a ≡ far → get_or new (s * n + q) 0 ≡ unreached
+  none_kept_at (fitted h x) e = absurd (omega arith)
+  none_kept_at (unreachable f) e = by _ (filled.entries s q state position)
     where
       by : (d : ℕ) → Entry D L s q d → d ≡ unreached
       by d (reached h x) = absurd (f _ _ x.path)
       by d (not_reached g) = refl
+
+  pub none_kept : EntryBelow far D L s q far → get_or new (s * n + q) 0 ≡ unreached
+  none_kept x = none_kept_at x refl

@@ -209,7 +209,7 @@ module _ (j : J.Job) (w : WellFormed j) where
       let e : i ≡ 0 + i = omega arith in
       subst (λ k. FormulaAt k (get_or j.formulas i (J.formula_of []))) e
       (kind_text (beside facts i) formula_fields (omega arith)
-      (bound_small _ w.facts (omega (arith, w.formulas)) (omega arith) (omega arith)) _ _ _ (w.formula i h))
+      (bound_small (beside facts i) w.facts (omega (arith, w.formulas)) (omega arith) (omega arith)) _ _ _ (w.formula i h))
 
   abbrev RowAt : ℕ → J.Row → Type 0
   RowAt i r = KindText (before_row j i) row_fields r.kind (r.a ∷ r.b ∷ r.c ∷ [])
@@ -218,7 +218,7 @@ module _ (j : J.Job) (w : WellFormed j) where
   row_texts i h =
       let e : i ≡ 0 + i = omega arith in
       subst (λ k. RowAt k (get_or j.program i (J.row_of []))) e
-      (kind_text (before_row j i) row_fields (omega arith) (bound_small _ w.facts w.formulas w.moves (omega (arith, w.program))) _ _ _ (w.row i h))
+      (kind_text (before_row j i) row_fields (omega arith) (bound_small (before_row j i) w.facts w.formulas w.moves (omega (arith, w.program))) _ _ _ (w.row i h))
 
   init_small : j.scalars.init ≤ 65535
   init_small = let p : 2 ^ facts ≤ 2 ^ most_facts = pow-le-pow_right (omega arith) w.facts in omega (arith, w.init)

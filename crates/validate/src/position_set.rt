@@ -11,7 +11,7 @@ use limits::POSITIONS;
 
 // One mark a position, how many are set, and the marked positions in the order in which they were
 // marked.
-#[derive(Drop)]
+#[derive(Clone, Copy)]
 pub struct PositionSet {
     pub marks: [bool; POSITIONS],
     pub members: [u16; POSITIONS],
@@ -19,7 +19,7 @@ pub struct PositionSet {
 }
 
 // Which steps are followed: silent ones that can be made, or those that make a move.
-#[derive(Drop)]
+#[derive(Clone, Copy)]
 pub enum Wanted {
     Silent,
     Move(u16),

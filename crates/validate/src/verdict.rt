@@ -5,7 +5,7 @@ ghost use Rattle.validate.specs.Verdict.{verdict_of};
 
 // What a list of moves, or of steps, is: a plan with its cost, blocked at an index, unfinished, or
 // one that misses the goal.
-#[derive(Drop)]
+#[derive(Clone, Copy)]
 pub enum Verdict {
     Plan(u64),
     Blocked(usize),

@@ -1,0 +1,16 @@
+use Prim.Native.Nat.{◌+◌, ◌-◌, ◌*◌}
+use Rattle.compile.proofs.CallLaws.{of, Copied}
+use Rattle.compile.proofs.program.+compile_pick_compile_row.Given as goal
+
+abbrev pub decreases-compile_pick : goal.decreases-compile_pick
+decreases-compile_pick l = 2 * l.a + 1
+
+abbrev pub decreases-compile_row : goal.decreases-compile_row
+decreases-compile_row l = 2 * l.i
+
+abbrev pub invariant-compile_pick-loop-o : goal.invariant-compile_pick-loop-o
+invariant-compile_pick-loop-o l =
+    Copied l.head.counts (of l.head l.rows l.a) l.start l.initial.env l.initial.list (record { position = l.n; at = l.first.at }) l.o l.list l.next l.env
+
+abbrev pub decreases-compile_pick-loop-o : goal.decreases-compile_pick-loop-o
+decreases-compile_pick-loop-o l = l.objects - l.o

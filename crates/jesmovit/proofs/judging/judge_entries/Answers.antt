@@ -1,0 +1,15 @@
+use mathlib.Core.Path.{refl}
+use Rattle.jesmovit.proofs.SaysLaws.{says_moves}
+use Rattle.jesmovit.proofs.JudgeLaws.{judged_other, judged_plan}
+use Rattle.jesmovit.proofs.judging.judge_entries.Goals as goal
+
+pub returns-in_default : goal.returns-in_default
+returns-in_default c =
+    judged_other _ c.args.table.now c.check_moves-verdict.result
+    (says_moves c.args.head c.args.rows.now c.args.plan.now refl c.requires.ready.0 c.check_moves-verdict.ensures) c.in_default.not-Plan
+
+pub returns : goal.returns
+returns c =
+    judged_plan _ c.args.table.now c.check_moves-verdict.result
+    (says_moves c.args.head c.args.rows.now c.args.plan.now refl c.requires.ready.0 c.check_moves-verdict.ensures)
+    c.in-Plan.is c.requires.ready.0.positions c.least_cost-least.ensures c.compare.ensures

@@ -1,2 +1,0 @@
-// The plans of a short job, one after the other.
-pub mod listing;

@@ -1,0 +1,12 @@
+use Rattle.text.specs.Bytes.{bytes}
+use Rattle.load.proofs.offer.read_plan.Goals as goal
+
+pub returns-in-Moves : goal.returns-in-Moves
+unfolding bytes
+returns-in-Moves c =
+    rw c.in-Moves.is c.read_plan.ensures
+
+pub returns-in-Steps : goal.returns-in-Steps
+unfolding bytes
+returns-in-Steps c =
+    rw c.in-Steps.is c.read_plan-in-Steps.ensures
