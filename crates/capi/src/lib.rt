@@ -82,7 +82,7 @@ pub fn jesmovit_least_cost(
     answer: &mut [u64; 5],
 ) -> u32
     ensures { Gives least_numbers (λ a. CostsLeast (record { job = text.now; plan = []; costs = costs.now; given = given_of given })
-        (record { list = list.entry.now; table = table.old }) a (record { list = list.exit.now; table = table.new }))
+        (record { list = list.old; table = table.old }) a (record { list = list.new; table = table.new }))
         result answer.new }
 {
     let g = given::given_in(given);
@@ -103,7 +103,7 @@ pub fn jesmovit_judge(
 ) -> u32
     ensures { Gives judge_numbers (λ a. Judges
         (record { job = text.now; plan = plan.now; costs = costs.now; given = given_of given })
-        (record { list = list.entry.now; table = table.old }) a (record { list = list.exit.now; table = table.new }))
+        (record { list = list.old; table = table.old }) a (record { list = list.new; table = table.new }))
         result answer.new }
 {
     let g = given::given_in(given);
@@ -125,7 +125,7 @@ pub fn jesmovit_sheet(
 ) -> u32
     ensures { Gives sheet_numbers (λ a. Sheets
         (record { job = text.now; plan = plan.now; costs = costs.now; given = given_of given })
-        (record { list = list.entry.now; output = out.old }) a (record { list = list.exit.now; output = out.new }))
+        (record { list = list.old; output = out.old }) a (record { list = list.new; output = out.new }))
         result answer.new }
 {
     let g = given::given_in(given);

@@ -68,7 +68,7 @@ pub fn least_cost(
     table: &mut [u64],
 ) -> LeastAnswer
     ensures { CostsLeast (record { job = text.now; plan = []; costs = costs.now; given = given })
-        (record { list = list.entry.now; table = table.old }) result (record { list = list.exit.now; table = table.new }) }
+        (record { list = list.old; table = table.old }) result (record { list = list.new; table = table.new }) }
 {
     let mut rows = [0u16; STORE];
     let mut entries = [0u16; 1];
@@ -142,7 +142,7 @@ pub fn judge(
     table: &mut [u64],
 ) -> JudgeAnswer
     ensures { Judges (record { job = text.now; plan = plan.now; costs = costs.now; given = given })
-        (record { list = list.entry.now; table = table.old }) result (record { list = list.exit.now; table = table.new }) }
+        (record { list = list.old; table = table.old }) result (record { list = list.new; table = table.new }) }
 {
     let mut rows = [0u16; STORE];
     let mut entries = [0u16; ENTRIES];

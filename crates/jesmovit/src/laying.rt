@@ -68,9 +68,9 @@ fn lay_out(
 ) -> SheetAnswer
     requires sized { Sized job rows.now × (step_count (job_of job.head rows.now) * 4 ≤ length list.old) }
     requires entries_below { EntriesBelow plan.now (domain_in job.head rows.now).moves }
-    ensures { Writes SheetIs (record { list = list.entry.now; output = out.old })
+    ensures { Writes SheetIs (record { list = list.old; output = out.old })
         (passed (view_of (record { task = task_of job.head rows.now; entries = plan.now })))
-        (sheet_outcome result) (record { list = list.exit.now; output = out.new }) }
+        (sheet_outcome result) (record { list = list.new; output = out.new }) }
 {
     let head = job.head;
     let verdict = move_verdict(job, rows, plan);
@@ -99,7 +99,7 @@ pub fn sheet(
     out: &mut [u8],
 ) -> SheetAnswer
     ensures { Sheets (record { job = text.now; plan = plan.now; costs = costs.now; given = given })
-        (record { list = list.entry.now; output = out.old }) result (record { list = list.exit.now; output = out.new }) }
+        (record { list = list.old; output = out.old }) result (record { list = list.new; output = out.new }) }
 {
     let mut rows = [0u16; STORE];
     let mut entries = [0u16; ENTRIES];

@@ -161,7 +161,9 @@ compile_row-shape_of-env-in-Seq t c =
 pub compile_row-returns-in-Seq : goal.compile_row-returns-in-Seq
 compile_row-returns-in-Seq t c =
     let s = told c.in-Seq.is c.construct_at-construct.ensures in
-    record { steps = wrote_seq s c.compile_row-x.ensures.steps (in_env c.compile_row-x.ensures.kept c.compile_row.ensures.steps); kept = c.compile_row.ensures.kept ∙ c.compile_row-x.ensures.kept }
+    let x = c.compile_row-x.ensures in
+    let y = c.compile_row.ensures in
+    record { steps = wrote_seq s x.steps (in_env x.kept y.steps); kept = y.kept ∙ x.kept }
 
 pub compile_row-shape_of-list-in-Branch : goal.compile_row-shape_of-list-in-Branch
 compile_row-shape_of-list-in-Branch t c =
@@ -174,7 +176,9 @@ compile_row-shape_of-env-in-Branch t c =
 pub compile_row-returns-in-Branch : goal.compile_row-returns-in-Branch
 compile_row-returns-in-Branch t c =
     let s = told c.in-Branch.is c.construct_at-construct.ensures in
-    record { steps = wrote_branch c.args.from s c.compile_row-x-in-Branch.ensures.steps (in_env c.compile_row-x-in-Branch.ensures.kept c.compile_row-y.ensures.steps) c.branch_steps.ensures; kept = c.compile_row-y.ensures.kept ∙ c.compile_row-x-in-Branch.ensures.kept }
+    let x = c.compile_row-x-in-Branch.ensures in
+    let y = c.compile_row-y.ensures in
+    record { steps = wrote_branch c.args.from s x.steps (in_env x.kept y.steps) c.branch_steps.ensures; kept = y.kept ∙ x.kept }
 
 pub compile_row-shape_of-list-in-Loop : goal.compile_row-shape_of-list-in-Loop
 compile_row-shape_of-list-in-Loop t c =

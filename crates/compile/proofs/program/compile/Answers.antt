@@ -10,7 +10,17 @@ overflow_sub-last c =
 
 pub compile_row-requires : goal.compile_row-requires
 compile_row-requires c =
-    let g = some_row c.requires.stored.0 in record { stored = (c.requires.stored.0, omega (arith, g), record { size = refl; within = omega arith; objects = λ k. omega arith }, omega (arith, g, (limited c.requires.stored.0).program)); enough = all_fit c.args.head c.args.rows.now c.requires.stored.1 refl c.requires.rows_value.0 c.requires.rows_value.1 }
+    let h = c.requires.stored.0 in
+    let g = some_row h in
+    record {
+      stored = (
+        h,
+        omega (arith, g),
+        record { size = refl; within = omega arith; objects = λ k. omega arith },
+        omega (arith, g, (limited h).program),
+      );
+      enough = all_fit c.args.head c.args.rows.now c.requires.stored.1 refl c.requires.rows_value.0 c.requires.rows_value.1;
+    }
 
 pub returns : goal.returns
 returns c =

@@ -1,14 +1,16 @@
+use Prim.Native.Nat.{◌≤◌}
 use mathlib.Core.Path.{sym}
+use native.Mathlib.Omega.{arith}
 use lib.ListN.{get_or-eq_default}
 use Rattle.compile.specs.Construct.{constructs}
-use Rattle.laws.proofs.Tests.{none_below}
 use Rattle.job.specs.Store.{row_in}
 use Rattle.compile.proofs.rows.construct_of.Goals as goal
 
 pub returns-in_default : goal.returns-in_default
 returns-in_default c =
     let r = row_in c.args.row in
-    sym (get_or-eq_default (constructs r) _ {n = r.kind} (none_below 12 r.kind c.in_default.in_default-own.rest))
+    let past : 12 ≤ r.kind = omega arith in
+    sym (get_or-eq_default (constructs r) _ {n = r.kind} past)
 
 pub returns-in-0 : goal.returns-in-0
 returns-in-0 c = rw c.in-0.is

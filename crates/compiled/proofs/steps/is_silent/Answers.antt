@@ -1,3 +1,4 @@
+use native.Mathlib.Omega.{arith}
 use Rattle.compiled.proofs.SilentLaws.{silent_noop, silent_holds, silent_fails, silent_move}
 use Rattle.compiled.proofs.steps.is_silent.Goals as goal
 
@@ -11,4 +12,5 @@ pub returns-in-2 : goal.returns-in-2
 returns-in-2 c = silent_fails _ _ _ c.value_at-in-2.ensures c.in-2.is
 
 pub returns-in_default : goal.returns-in_default
-returns-in_default c = silent_move _ _ _ c.in_default.in_default-own.rest.0.0.1 c.in_default.in_default-own.rest.0.1 c.in_default.in_default-own.rest.1
+returns-in_default c =
+    silent_move c.args.values.now c.args.step.kind c.args.step.arg (λ e. omega arith) (λ e. omega arith) (λ e. omega arith)

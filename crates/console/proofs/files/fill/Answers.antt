@@ -25,4 +25,5 @@ loop-n-preserved g c =
     let within = c.loop-n.invariant.1 in
     let part = slice_range-put_mid from room more c.loop-n.buf c.read.new.buf within c.in_ok-more.ensures.bound.0 in
     let joined = take_split from (from + more) c.loop-n.buf (put_mid from room c.loop-n.buf c.read.new.buf) (omega arith) (take-put_mid_below _ _ _ _ _ (le_refl _) within) in
-    (search rules, search rules, subst (Consumes _ _) (ap (λ l. take from c.loop-n.buf ++ l) (sym part) ∙ joined) (Consumes-trans _ _ _ _ _ c.loop-n.invariant.2 c.in_ok-more.ensures.bytes.0))
+    let bytes = Consumes-trans _ _ _ _ _ c.loop-n.invariant.2 c.in_ok-more.ensures.bytes.0 in
+    (search rules, search rules, subst (Consumes _ _) (ap (λ l. take from c.loop-n.buf ++ l) (sym part) ∙ joined) bytes)

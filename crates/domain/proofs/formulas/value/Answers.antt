@@ -1,3 +1,4 @@
+use native.Mathlib.Omega.{arith}
 use mathlib.Core.Path.{◌∙◌, sym, ap}
 use mathlib.Core.Bool.{not}
 use borrow.Author.Tests.{ne_eqb}
@@ -34,25 +35,25 @@ returns-else-value_at c = rw (c.in-4.is, sym c.value_at-in-4.ensures ∙ c.if-va
 pub returns-then-value_at-2 : goal.returns-then-value_at-2
 unfolding value
 returns-then-value_at-2 c =
-    let q = c.in_default.in_default-own.rest in
+    let k = c.args.formula.kind in
     rw (
-      ne_eqb _ _ q.0.0.0.0.1,
-      ne_eqb _ _ q.0.0.0.1,
-      ne_eqb _ _ q.0.0.1,
-      ne_eqb _ _ q.0.1,
-      ne_eqb _ _ q.1,
+      ne_eqb k 0 (λ e. omega arith),
+      ne_eqb k 1 (λ e. omega arith),
+      ne_eqb k 2 (λ e. omega arith),
+      ne_eqb k 3 (λ e. omega arith),
+      ne_eqb k 4 (λ e. omega arith),
       sym c.value_at-in_default.ensures ∙ c.if-value_at-2.true,
     ) c.if-value_at-2.true
 
 pub returns-else-value_at-2 : goal.returns-else-value_at-2
 unfolding value
 returns-else-value_at-2 c =
-    let q = c.in_default.in_default-own.rest in
+    let k = c.args.formula.kind in
     rw (
-      ne_eqb _ _ q.0.0.0.0.1,
-      ne_eqb _ _ q.0.0.0.1,
-      ne_eqb _ _ q.0.0.1,
-      ne_eqb _ _ q.0.1,
-      ne_eqb _ _ q.1,
+      ne_eqb k 0 (λ e. omega arith),
+      ne_eqb k 1 (λ e. omega arith),
+      ne_eqb k 2 (λ e. omega arith),
+      ne_eqb k 3 (λ e. omega arith),
+      ne_eqb k 4 (λ e. omega arith),
       sym c.value_at-in_default.ensures ∙ c.if-value_at-2.false,
     ) c.value_at-else-value_at-2.ensures

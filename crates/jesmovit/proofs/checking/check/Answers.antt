@@ -10,9 +10,14 @@ returns-in_default c =
 pub verdict-v-requires : goal.verdict-v-requires
 verdict-v-requires c =
     let g = c.in-Ready.is in
-    record { ready = prepared_ready c.prepare-loaded.ensures g refl c.list_need-need.ensures c.front-steps.ensures; entries_below = load_entries c.prepare-loaded.ensures.loads g refl c.front-offered.ensures }
+    let p = c.prepare-loaded.ensures in
+    record {
+      ready = prepared_ready p g refl c.list_need-need.ensures c.front-steps.ensures;
+      entries_below = load_entries p.loads g refl c.front-offered.ensures;
+    }
 
 pub returns : goal.returns
 returns c =
     let g = c.in-Ready.is in
-    answer_done _ (load_passed c.prepare-loaded.ensures.loads g c.front-offered.ensures) (record { says = c.verdict-v.ensures; list = prepared_list c.prepare-loaded.ensures g })
+    let p = c.prepare-loaded.ensures in
+    answer_done _ (load_passed p.loads g c.front-offered.ensures) (record { says = c.verdict-v.ensures; list = prepared_list p g })

@@ -11,7 +11,13 @@ returns-in_default c =
 
 pub judge_entries-found-requires : goal.judge_entries-found-requires
 judge_entries-found-requires c =
-    let g = c.in-Ready.is in record { ready = (prepared_ready c.prepare-loaded.ensures g refl c.list_need-need.ensures c.front-steps.ensures, (load_sized c.prepare-loaded.ensures.loads g).states); entries_below = load_entries c.prepare-loaded.ensures.loads g refl c.front-offered.ensures; positions_in_bounds = load_cells c.prepare-loaded.ensures.loads g refl }
+    let g = c.in-Ready.is in
+    let p = c.prepare-loaded.ensures in
+    record {
+      ready = (prepared_ready p g refl c.list_need-need.ensures c.front-steps.ensures, (load_sized p.loads g).states);
+      entries_below = load_entries p.loads g refl c.front-offered.ensures;
+      positions_in_bounds = load_cells p.loads g refl;
+    }
 
 pub returns : goal.returns
 returns c =

@@ -17,7 +17,11 @@ returns-in_default c =
 pub least_cost-least-requires : goal.least_cost-least-requires
 least_cost-least-requires c =
     let g = c.in-Ready.is in
-    record { ready = (prepared_ready c.prepare-loaded.ensures g refl c.list_need-need.ensures c.front-steps.ensures, (load_sized c.prepare-loaded.ensures.loads g).states); positions_in_bounds = load_cells c.prepare-loaded.ensures.loads g refl }
+    let p = c.prepare-loaded.ensures in
+    record {
+      ready = (prepared_ready p g refl c.list_need-need.ensures c.front-steps.ensures, (load_sized p.loads g).states);
+      positions_in_bounds = load_cells p.loads g refl;
+    }
 
 pub returns : goal.returns
 returns c =

@@ -10,7 +10,8 @@ returns-in_default c =
 pub lay_out-requires : goal.lay_out-requires
 lay_out-requires c =
     let g = c.in-Ready.is in
-    record { sized = (load_sized c.load-loaded.ensures g, (load_listed c.load-loaded.ensures g).1.1); entries_below = load_entries c.load-loaded.ensures g refl c.front-offered.ensures }
+    let l = c.load-loaded.ensures in
+    record { sized = (load_sized l g, (load_listed l g).1.1); entries_below = load_entries l g refl c.front-offered.ensures }
 
 pub returns : goal.returns
 returns c =
