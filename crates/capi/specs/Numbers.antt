@@ -1,6 +1,6 @@
 -- The numbers of each answer for C, from its outcome.
 use Rattle.std.specs.Prelude.{ℕ, [], ◌∷◌}
-use Rattle.std.proofs.Math.Option.{Option, none, some}
+use Rattle.std.specs.Prelude.{Option, None, Some}
 use Rattle.job.specs.declared.head.Counts.{Counts}
 use Rattle.semantics.specs.Verdict.{Verdict, plan, blocked, unfinished, missed}
 use Rattle.semantics.specs.Judgement.{Judgement, least, dearer, other}
@@ -57,8 +57,8 @@ code_numbers o = done o.number o.first 0 0 0
 
 -- and on: "answers the cost, or none"
 abbrev pub cost_numbers : Option ℕ → Numbers
-cost_numbers (some cost) = done 6 cost 0 0 0
-cost_numbers none = done 7 0 0 0 0
+cost_numbers (Some cost) = done 6 cost 0 0 0
+cost_numbers None = done 7 0 0 0 0
 
 -- and on: the bytes of a sheet; "A list that isn't a plan gives its verdict"
 abbrev pub laid_numbers : WriteOutcome → Numbers

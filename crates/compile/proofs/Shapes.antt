@@ -4,11 +4,12 @@
 use Prim.Native.Nat.{ℕ, zero, suc, ◌<◌}
 use mathlib.Core.Path.{◌≡◌, refl, sym, ◌∙◌, ap, ap₂}
 use mathlib.Core.Bool.{true, ◌&&◌}
-use mathlib.Core.Option.{some}
+use Rattle.std.specs.Prelude.{Some}
 use mathlib.Core.List.{List, [], ◌∷◌, ◌++◌}
 use native.Mathlib.Omega.{arith}
 use lib.Dec.{leb, leb-zero, ltb}
-use lib.ListN.{length, get_elem?, get_or}
+use Rattle.std.specs.Prelude.{slice_get}
+use lib.ListN.{length, get_or}
 use borrow.Author.Tests.{leb-true, le-leb, ltb-true, lt-ltb}
 use Rattle.laws.proofs.Tests.{tests_equal}
 use Rattle.job.specs.declared.head.Counts.{Counts}
@@ -49,7 +50,7 @@ module _ (c : Counts) (env : List ℕ) where
     pub made : (n : ℕ) → row_steps σ n ≡ row_steps a (suc n) ++ glue n (row_end a (suc n))
     pub ends : (n : ℕ) → row_end σ n ≡ suc (row_end a (suc n))
 
-  object_at : (env : List ℕ) (b : ℕ) → b < length env → get_elem? env b ≡ some (get_or env b 0)
+  object_at : (env : List ℕ) (b : ℕ) → b < length env → slice_get env b ≡ Some (get_or env b 0)
   object_at [] b h = absurd (omega arith)
   object_at (o ∷ env) zero h = refl
   object_at (o ∷ env) (suc b) h = object_at env b (omega arith)

@@ -3,7 +3,7 @@
 use Prim.Native.Nat.{ℕ, zero, suc, ◌<◌}
 use mathlib.Core.Path.{◌≡◌, refl, sym, ◌∙◌, ap}
 use mathlib.Core.Bool.{Bool, false, cond}
-use mathlib.Core.Option.{Option, none, some}
+use Rattle.std.specs.Prelude.{Option, None, Some}
 use mathlib.Core.List.{List}
 use native.Mathlib.Omega.{arith}
 use lib.ListN.{get_or}
@@ -21,17 +21,17 @@ use Rattle.compiled.specs.Steps.{silent_by}
 module _ (D : Domain) (s q : ℕ) where
   -- a move
   module _ (m : ℕ) where
-    pub arrives_after : {t c : ℕ} → some t ≡ D.successor m s → c ≡ D.cost m s → some (arrival t q c) ≡ arrives D (make m) s q
+    pub arrives_after : {t c : ℕ} → Some t ≡ D.successor m s → c ≡ D.cost m s → Some (arrival t q c) ≡ arrives D (make m) s q
     unfolding arrives
     arrives_after e f = rw (← e, ← f, arrives)
 
-    pub arrives_nowhere : none ≡ D.successor m s → none ≡ arrives D (make m) s q
+    pub arrives_nowhere : None ≡ D.successor m s → None ≡ arrives D (make m) s q
     unfolding arrives
     arrives_nowhere e = rw (← e, arrives)
 
   -- a step of another kind, by the formulas' values
   module _ (values : List Bool) (told : (a : ℕ) → get_or values a false ≡ D.holds a s) (arg : ℕ) where
-    silently : (kind : ℕ) → kind < 3 → cond (silent_by values (label_in kind arg)) (stays s q) none ≡ arrives D (label_in kind arg) s q
+    silently : (kind : ℕ) → kind < 3 → cond (silent_by values (label_in kind arg)) (stays s q) None ≡ arrives D (label_in kind arg) s q
     unfolding silent_by arrives
     silently zero h = refl
     silently (suc zero) h = rw (told arg)
@@ -39,22 +39,22 @@ module _ (D : Domain) (s q : ℕ) where
     silently (suc (suc (suc k))) h = absurd (omega arith)
 
     pub arrives_silently : {kind : ℕ} {on : Bool} {o : Option (Arrival Configuration)} → kind < 3 → on ≡ silent_by values (label_in kind arg)
-        → o ≡ cond on (stays s q) none
+        → o ≡ cond on (stays s q) None
         → o ≡ arrives D (label_in kind arg) s q
     arrives_silently {kind} h e f = f ∙ rw e (silently kind h)
 
 module _ (D : Domain) (l : Label) (s q : ℕ) where
-  pub arrives_led : {a : Arrival Configuration} → some a ≡ arrives D l s q → Led D l s q a
+  pub arrives_led : {a : Arrival Configuration} → Some a ≡ arrives D l s q → Led D l s q a
   arrives_led e = arrives_does D (sym e)
 
   -- it leads nowhere else
-  pub arrives_alone : {a : Arrival Configuration} → some a ≡ arrives D l s q → (u : ℕ) (ks : List ℕ) → Does D l s ks u
+  pub arrives_alone : {a : Arrival Configuration} → Some a ≡ arrives D l s q → (u : ℕ) (ks : List ℕ) → Does D l s ks u
       → (u ≡ a.to.state) × (cost D s ks ≡ a.cost)
   arrives_alone {a} e u ks d =
-      let f : ◌≡◌ {A = Option (Arrival Configuration)} (some (arrival u q (cost D s ks))) (some a) = sym (does_arrives D q d) ∙ sym e in
+      let f : ◌≡◌ {A = Option (Arrival Configuration)} (Some (arrival u q (cost D s ks))) (Some a) = sym (does_arrives D q d) ∙ sym e in
       let g : ◌≡◌ {A = Arrival Configuration} (arrival u q (cost D s ks)) a = cc in
       (ap (λ (b : Arrival Configuration). b.to.state) g, ap (λ (b : Arrival Configuration). b.cost) g)
 
-  pub arrives_never : none ≡ arrives D l s q → (u : ℕ) (ks : List ℕ) → Does D l s ks u → ⊥
+  pub arrives_never : None ≡ arrives D l s q → (u : ℕ) (ks : List ℕ) → Does D l s ks u → ⊥
   arrives_never e u ks d =
-      let f : ◌≡◌ {A = Option (Arrival Configuration)} none (some (arrival u q (cost D s ks))) = e ∙ does_arrives D q d in never (cc)
+      let f : ◌≡◌ {A = Option (Arrival Configuration)} None (Some (arrival u q (cost D s ks))) = e ∙ does_arrives D q d in never (cc)

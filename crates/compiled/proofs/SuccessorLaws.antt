@@ -4,7 +4,7 @@ use Prim.Native.Nat.{ℕ, ◌+◌, ◌-◌, ◌<◌}
 use native.Mathlib.Omega.{arith}
 use native.Mathlib.Decide.{ℕ_discrete}
 use mathlib.Core.Path.{◌≡◌, sym, ◌∙◌, ap, subst}
-use mathlib.Core.Option.{none, some}
+use Rattle.std.specs.Prelude.{None, Some}
 use mathlib.Core.List.{List}
 use lib.ListN.{set, replicate, length-set, length-replicate}
 use lib.Seq.{get_or-set_same, get_or-set_other}
@@ -28,12 +28,12 @@ cached_none D s = record {
 }
 
 module _ {D : Domain} {s : ℕ} where
-  pub kept_some : {m x : ℕ} → Kept D s m x → 1 < x → D.successor m s ≡ some (x - 2)
+  pub kept_some : {m x : ℕ} → Kept D s m x → 1 < x → D.successor m s ≡ Some (x - 2)
   kept_some nothing h = absurd (omega arith)
   kept_some (inapplicable e) h = absurd (omega arith)
-  kept_some (successor {t} e) h = let z : t ≡ t + 2 - 2 = omega arith in e ∙ ap some z
+  kept_some (successor {t} e) h = let z : t ≡ t + 2 - 2 = omega arith in e ∙ ap Some z
 
-  pub kept_none : {m x : ℕ} → Kept D s m x → x ≡ 1 → D.successor m s ≡ none
+  pub kept_none : {m x : ℕ} → Kept D s m x → x ≡ 1 → D.successor m s ≡ None
   kept_none nothing h = absurd (omega arith)
   kept_none (inapplicable e) h = e
   kept_none (successor {t} e) h = absurd (omega arith)

@@ -1,7 +1,7 @@
 -- What is kept of the moves' successors in a state: 0 nothing, 1 that the move is not applicable,
 -- and otherwise the successor and 2.
 use Rattle.std.specs.Prelude.{ℕ, ◌+◌, ◌<◌, ◌≡◌, List, length, get_or, Bool}
-use Rattle.std.proofs.Math.Option.{none, some}
+use Rattle.std.specs.Prelude.{None, Some}
 use Rattle.limits.specs.Limits.{most_moves}
 use Rattle.job.specs.Stored.{Stored}
 use Rattle.job.specs.declared.head.Head.{Head}
@@ -12,8 +12,8 @@ use Rattle.domain.specs.declared.Successor.TheVariants.{To, Inapplicable}
 
 pub data Kept (D : Domain) (s m : ℕ) : ℕ → Type 0 where
   nothing : Kept D s m 0
-  inapplicable : D.successor m s ≡ none → Kept D s m 1
-  successor : {t : ℕ} → D.successor m s ≡ some t → Kept D s m (t + 2)
+  inapplicable : D.successor m s ≡ None → Kept D s m 1
+  successor : {t : ℕ} → D.successor m s ≡ Some t → Kept D s m (t + 2)
 
 pub record Cached (D : Domain) (s : ℕ) (cache : List ℕ) : Type 0 where
   pub size : length cache ≡ most_moves

@@ -1,6 +1,6 @@
 // Where a step leads.
 ghost use Rattle.std.specs.Prelude.{◌≡◌, cond};
-ghost use Rattle.std.proofs.Math.Option.{none};
+ghost use Rattle.std.specs.Prelude.{None};
 ghost use Rattle.semantics.specs.Label.{make};
 ghost use Rattle.semantics.specs.StepVerdict.{stays};
 ghost use Rattle.domain.specs.Domain.{domain_in};
@@ -21,7 +21,7 @@ pub enum Arrival {
 
 // A silent step, where it can be made.
 fn silently(on: bool, state: u16, to: u16) -> Arrival
-    ensures { arrival_of result ≡ cond on (stays state to) none }
+    ensures { arrival_of result ≡ cond on (stays state to) None }
 {
     if on {
         return Arrival::At(state, to, 0);

@@ -3,7 +3,7 @@
 use Prim.Native.Nat.{ℕ, ◌≤◌, ◌<◌}
 use mathlib.Core.List.{List}
 use mathlib.Core.Path.{◌≡◌}
-use mathlib.Core.Option.{some}
+use Rattle.std.specs.Prelude.{Some}
 use Rattle.limits.specs.Limits.{most_states, most_cost}
 use Rattle.job.specs.StateCount.{state_count}
 use Rattle.job.specs.Job.{Job, move_at}
@@ -27,7 +27,7 @@ domain_bounded t k c = record { start = k.init; successors = stays; costs = λ m
     j : Job
     j = t.job
 
-    stays : (m w t : ℕ) → w < state_count j.scalars.facts → successor_of j m w ≡ some t → t < state_count j.scalars.facts
+    stays : (m w t : ℕ) → w < state_count j.scalars.facts → successor_of j m w ≡ Some t → t < state_count j.scalars.facts
     stays m w t h e = rw (successor_is j m w t e) at (state_below j.scalars.facts (fact_after (values w j.formulas) (effects_of j (move_at j m)) w))
 
 -- the same of a stored task

@@ -3,7 +3,7 @@
 use Prim.Native.Nat.{ℕ, ◌≤◌, ◌<◌}
 use mathlib.Core.Path.{◌≡◌, sym, ◌∙◌, ap}
 use mathlib.Core.Bool.{Bool, true, false, not, ◌&&◌}
-use mathlib.Core.Option.{none, some}
+use Rattle.std.specs.Prelude.{None, Some}
 use mathlib.Core.List.{List}
 use lib.Dec.{ltb}
 use lib.ListN.{length, get_or}
@@ -24,7 +24,7 @@ module _ (a : Task) (m w : ℕ) (vs : List Bool) (t : Tells (domain_of a) w vs) 
   is_move_lem : ltb m (length j.moves) ≡ true
   is_move_lem = lt-ltb m (length j.moves) g
 
-  pub successor_none : get_or vs x.pre false ≡ false → none ≡ successor_of j m w
+  pub successor_none : get_or vs x.pre false ≡ false → None ≡ successor_of j m w
   unfolding successor_of holds_in
   successor_none p = rw (is_move_lem, ← e, sym (t x.pre) ∙ p)
 
@@ -40,18 +40,18 @@ module _ (a : Task) (m w : ℕ) (vs : List Bool) (t : Tells (domain_of a) w vs) 
     changed : ChangesAre j.scalars.facts us (effects_of j x) c s
     changed = record { cleared = has_by_state 0 h.cleared; set = has_by_state 1 h.set }
 
-    pub successor_conflict : (bit_and c s ≡ 0 → ⊥) → none ≡ successor_of j m w
+    pub successor_conflict : (bit_and c s ≡ 0 → ⊥) → None ≡ successor_of j m w
     unfolding successor_of holds_in
     successor_conflict common =
         rw (is_move_lem, ← e, sym (t x.pre) ∙ p, some_conflict us (effects_of j x) j.scalars.facts changed common)
 
-    pub successor_some : bit_and c s ≡ 0 → w < (domain_of a).states → some (bit_or (bit_xor (bit_or w c) c) s) ≡ successor_of j m w
+    pub successor_some : bit_and c s ≡ 0 → w < (domain_of a).states → Some (bit_or (bit_xor (bit_or w c) c) s) ≡ successor_of j m w
     unfolding successor_of holds_in
     successor_some z below = rw (is_move_lem, ← e, sym (t x.pre) ∙ p, no_conflict us (effects_of j x) j.scalars.facts changed z)
-        (ap some (affected_by us (effects_of j x) j.scalars.facts changed w below))
+        (ap Some (affected_by us (effects_of j x) j.scalars.facts changed w below))
 
 -- where there is one, it is the state after the effects
-pub successor_is : (j : Job) (m w t : ℕ) → successor_of j m w ≡ some t → affected j.scalars.facts (values w j.formulas) (effects_of j (move_at j m)) w ≡ t
+pub successor_is : (j : Job) (m w t : ℕ) → successor_of j m w ≡ Some t → affected j.scalars.facts (values w j.formulas) (effects_of j (move_at j m)) w ≡ t
 unfolding successor_of
 successor_is j m w t e =
     let x = move_at j m in
@@ -60,6 +60,6 @@ successor_is j m w t e =
     cc
 
 -- past the last move there is none
-pub successor_past : (a : Task) (m w : ℕ) → (domain_of a).moves ≤ m → none ≡ (domain_of a).successor m w
+pub successor_past : (a : Task) (m w : ℕ) → (domain_of a).moves ≤ m → None ≡ (domain_of a).successor m w
 unfolding successor_of
 successor_past a m w g = rw (le-ltb m (length a.job.moves) g)

@@ -1,6 +1,6 @@
 -- The domain of a task: a state is a set of facts, as a number (document 01: world).
 use Rattle.std.specs.Prelude.{ℕ, ◌+◌, ◌≡◌, Bool, false, not, ◌&&◌, cond, List, ltb, length, get_or, take, drop}
-use Rattle.std.proofs.Math.Option.{Option, none, some}
+use Rattle.std.specs.Prelude.{Option, None, Some}
 use Rattle.job.specs.StateCount.{state_count}
 use Rattle.job.specs.Job.{Job, Move, Effect, move_at}
 use Rattle.job.specs.Task.{Task, class_cost}
@@ -24,7 +24,7 @@ successor_of j m w =
     let x = move_at j m in
     let es = effects_of j x in
     let vs = values w j.formulas in
-    cond (ltb m (length j.moves) && get_or vs x.pre false && not (conflicts vs es)) (some (affected j.scalars.facts vs es w)) none
+    cond (ltb m (length j.moves) && get_or vs x.pre false && not (conflicts vs es)) (Some (affected j.scalars.facts vs es w)) None
 
 -- "The move's cost in a world is its first class, plus the second where the formula holds in the world
 -- before the move", by the class costs that were loaded

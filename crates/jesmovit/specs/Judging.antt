@@ -1,6 +1,6 @@
 -- What the least cost of a job text, and judging a plan text, promise.
 use Rattle.std.specs.Prelude.{ℕ, ◌≡◌, true, false, cond, List, [], ltb, leb, length}
-use Rattle.std.proofs.Math.Option.{Option, none, some}
+use Rattle.std.specs.Prelude.{Option, None, Some}
 use Rattle.semantics.specs.Plan.{Allowed, Least}
 use Rattle.semantics.specs.CostTable.{unreached, Filled}
 use Rattle.semantics.specs.Judgement.{Judgement, Finds, least, dearer, other}
@@ -37,12 +37,12 @@ TableOf v = Filled v.domain (view_steps v) (positions_of v)
 
 -- "the cost, or none exactly when no plan of any length exists"
 pub data LeastIs (v : View) : Option ℕ → Type 0 where
-  costs : {c : ℕ} → Least v.domain v.program c → LeastIs v (some c)
-  no_plan : ((ms : List ℕ) → Allowed v.domain v.program ms → ⊥) → LeastIs v none
+  costs : {c : ℕ} → Least v.domain v.program c → LeastIs v (Some c)
+  no_plan : ((ms : List ℕ) → Allowed v.domain v.program ms → ⊥) → LeastIs v None
 
 -- as one number, which is `unreached` for none
 abbrev pub lowest_of : ℕ → Option ℕ
-lowest_of n = cond (ltb n unreached) (some n) none
+lowest_of n = cond (ltb n unreached) (Some n) None
 
 -- "Least cost fills it and answers the cost, or none"
 pub record CostDone (v : View) (lowest : Option ℕ) (old new : Lent) : Type 0 where

@@ -1,7 +1,7 @@
 -- Document 01's number and values for each case of each answer: "A refusal returns its number and
 -- place".
 use Rattle.std.specs.Prelude.{ℕ}
-use Rattle.std.proofs.Math.Option.{Option, none, some}
+use Rattle.std.specs.Prelude.{Option, None, Some}
 use Rattle.job.specs.declared.head.Counts.{Counts}
 use Rattle.semantics.specs.Verdict as S
 use Rattle.semantics.specs.Judgement as J
@@ -33,8 +33,8 @@ check_outcome (Check.TheVariants.Refused r) = refused r.number r.place
 
 -- the least cost: "the cost, or none"
 abbrev pub least_outcome : Least.LeastAnswer → Checked (Option ℕ)
-least_outcome (Least.TheVariants.Costs cost) = passed (some cost)
-least_outcome Least.TheVariants.NoPlan = passed none
+least_outcome (Least.TheVariants.Costs cost) = passed (Some cost)
+least_outcome Least.TheVariants.NoPlan = passed None
 least_outcome (Least.TheVariants.Refused r) = refused r.number r.place
 
 -- "least or dearer with both costs; for others … the check's verdict"

@@ -2,7 +2,7 @@
 -- Assumes nothing.
 use mathlib.Core.Path.{◌≡◌, refl, sym, ◌∙◌}
 use mathlib.Core.Bool.{Bool, true, false}
-use mathlib.Core.Option.{some}
+use Rattle.std.specs.Prelude.{Some}
 use mathlib.Core.List.{List}
 use native.Mathlib.Omega.{arith}
 use Prim.Native.Nat.{ℕ, ◌≤◌, ◌<◌}
@@ -36,7 +36,7 @@ by_sort c n k e h = rw e h
 
 -- the reason that refuses a well-formed line, and one of wrong form
 module _ (next : Line) (c : Counts) (r : LineNumbers) where
-  pub fault_of : (k : Line) → next ≡ k → r.formed ≡ true → length r.numbers ≡ width → fault next c (numbers_of next r) ≡ fault k c (some r.numbers)
+  pub fault_of : (k : Line) → next ≡ k → r.formed ≡ true → length r.numbers ≡ width → fault next c (numbers_of next r) ≡ fault k c (Some r.numbers)
   unfolding fault
   fault_of k e h l = rw (e, h) (line_front c begun k r.numbers l).0
 

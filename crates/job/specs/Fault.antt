@@ -1,6 +1,6 @@
 -- Which reason refuses a line: "The first bad line decides; on it, form before 2 before 3."
 use Rattle.std.specs.Prelude.{ℕ, ◌+◌, Bool, true, cond, ◌&&◌, List, [], ◌∷◌, ltb, leb, get_or}
-use Rattle.std.proofs.Math.Option.{Option, none, some}
+use Rattle.std.specs.Prelude.{Option, None, Some}
 use Rattle.limits.specs.Limits.{most_facts, most_formulas, most_moves, most_move_effects, most_objects, most_program}
 use Rattle.job.specs.StateCount.{state_count}
 use Rattle.job.specs.Job.{move_of, effect_of, move_numbers, effect_numbers}
@@ -61,5 +61,5 @@ reason_of End c r = 1
 
 -- which reason refuses a line, by its numbers if it has the form; 0 where none does
 unfoldable pub fault : Line → Counts → Option (List ℕ) → ℕ
-fault next c none = 1
-fault next c (some r) = reason_of next c r
+fault next c None = 1
+fault next c (Some r) = reason_of next c r

@@ -1,7 +1,7 @@
 -- The lines of a job text: "Lines are key=value, in this order".
 use Rattle.std.specs.Prelude.{ℕ, List, length}
 use Prim.Native.String.{String}
-use Rattle.std.proofs.Math.Option.{Option}
+use Rattle.std.specs.Prelude.{Option}
 use Rattle.text.specs.Bytes.{codes}
 use Rattle.text.specs.Lines.{value_of}
 use Rattle.text.specs.Numbers.{numbers}

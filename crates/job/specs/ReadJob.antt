@@ -1,6 +1,6 @@
 -- What reading a text as a job answers.
 use Rattle.std.specs.Prelude.{ℕ, ◌+◌, ◌-◌, Bool, true, false, cond, List, [], ◌∷◌, eqb, length, get_or}
-use Rattle.std.proofs.Math.Option
+use Rattle.std.specs.Prelude.{unwrap_or}
 use Rattle.text.specs.Lines.{lines}
 use Rattle.job.specs.Job as J
 use Rattle.job.specs.Job.{add_formula, add_move, add_effect, add_row, scalars, with_scalars, formula_of, move_of, effect_of, row_of, counts_of}
@@ -121,7 +121,7 @@ read_from n s [] = ended n s
 read_from n s (line ∷ rest) =
     let numbers = line_numbers s.next line in
     let reason = fault s.next (counts_of s.job) numbers in
-    cond (eqb reason 0) (read_from (n + 1) (taken s (Option.get_or numbers [])) rest) (refused reason (n + 1))
+    cond (eqb reason 0) (read_from (n + 1) (taken s (unwrap_or numbers [])) rest) (refused reason (n + 1))
 
 abbrev pub begun : Reading
 begun = on (One Job) 0 0 (record { scalars = scalars 0 0 0 0; formulas = []; moves = []; effects = []; program = [] })

@@ -1,7 +1,7 @@
 -- What the store of a task stands for: a head of numbers, and in one list the job's rows of eight
 -- numbers each, every sort from a row of its own on, and the class costs behind them.
 use Rattle.std.specs.Prelude.{ℕ, zero, suc, ◌+◌, ◌*◌, cond, List, [], ◌∷◌, ◌++◌, get_or, take, drop}
-use Rattle.std.proofs.Math.Option.{Option, none, some}
+use Rattle.std.specs.Prelude.{Option, None, Some}
 use Rattle.limits.specs.Limits.{most_formulas, most_moves, most_effects, most_program, class_count}
 use Rattle.job.specs.Job as J
 use Rattle.job.specs.Job.{Job, formula_of, move_of, effect_of, row_of}
@@ -104,4 +104,4 @@ abbrev pub list_of : Line → LineNumbers → List ℕ
 list_of next r = take (form_of next).width r.numbers
 
 abbrev pub numbers_of : Line → LineNumbers → Option (List ℕ)
-numbers_of next r = cond r.formed (some (list_of next r)) none
+numbers_of next r = cond r.formed (Some (list_of next r)) None

@@ -2,7 +2,7 @@
 -- Assumes nothing.
 use Prim.Native.Nat.{ℕ, suc, ◌+◌, ◌-◌, ◌*◌, ◌≤◌, ◌<◌}
 use mathlib.Core.Path.{◌≡◌, refl, sym, ◌∙◌, ap, subst}
-use mathlib.Core.Option.{none, some}
+use Rattle.std.specs.Prelude.{None, Some}
 use mathlib.Core.List.{List, [], ◌∷◌, ◌++◌, map, flatten}
 use native.Mathlib.Omega.{arith}
 use native.Mathlib.Numerals.{add-one}
@@ -133,13 +133,13 @@ module _ (head : Head) (rows plan : List ℕ) where
           pub lining_stop : {a : Successor} → a ≡ Inapplicable → successor_in a ≡ E.successor m state
               → (new ≡ sets old 0 (flatten (map line_bytes (plan_lines E plan)))) × (i + 1 ≡ length (plan_lines E plan)) × (i + 1 ≤ length plan)
           lining_stop f g =
-              let none_left : E.successor m state ≡ none = sym g ∙ ap successor_in f in
+              let none_left : E.successor m state ≡ None = sym g ∙ ap successor_in f in
               let z = laying_end (rw none_left at put) in
               (z.0, omega (arith, z.1, length-map (plan_lines E plan) line_bytes), omega arith)
 
           pub lining_more : {a : Successor} {next : ℕ} → a ≡ To next → successor_in a ≡ E.successor m state → Lining old new next (total + spent) (i + 1)
           lining_more {next = next} f g =
-              let goes : E.successor m state ≡ some next = sym g ∙ ap successor_in f in
+              let goes : E.successor m state ≡ Some next = sym g ∙ ap successor_in f in
               record {
                 laying = rw (c, add-one i) (rw (goes, add-one i) at put);
                 state_below = b.successors m state next x.state_below goes;

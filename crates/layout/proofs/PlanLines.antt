@@ -2,7 +2,7 @@
 -- Assumes nothing.
 use Prim.Native.Nat.{ℕ, suc, ◌+◌, ◌-◌, ◌*◌, ◌≤◌, ◌<◌}
 use mathlib.Core.Path.{◌≡◌, refl, ◌∙◌, ap}
-use mathlib.Core.Option.{Option, none, some}
+use Rattle.std.specs.Prelude.{Option, None, Some}
 use mathlib.Core.List.{List, [], ◌∷◌, map, flatten}
 use native.Mathlib.Omega.{arith}
 use lib.ListN.{length, get_or, replicate, length-append, length-map, length-replicate}
@@ -19,22 +19,22 @@ use Rattle.layout.proofs.LineLaws.{WholeLine, within_fits, line_length_lem, blan
 
 -- the lines of the moves behind one, from the state after it, where there is one
 abbrev pub lines_after : Domain → ℕ → ℕ → List ℕ → Option ℕ → List SheetLine
-lines_after D n total ms o = elim o [ none ↦ [] | some t ↦ plan_lines_from D t n total ms ]
+lines_after D n total ms o = elim o [ None ↦ [] | Some t ↦ plan_lines_from D t n total ms ]
 
 -- a list of moves that leads somewhere has a line for each
-pub lines_count : (D : Domain) (ms : List ℕ) (s n total u : ℕ) → state_after D s ms ≡ some u → length (plan_lines_from D s n total ms) ≡ length ms
+pub lines_count : (D : Domain) (ms : List ℕ) (s n total u : ℕ) → state_after D s ms ≡ Some u → length (plan_lines_from D s n total ms) ≡ length ms
 unfolding plan_lines_from state_after
 lines_count D [] s n total u e = refl
 lines_count D (m ∷ ms) s n total u e = ap suc (by (D.successor m s) e (λ t f. lines_count D ms t (suc n) (total + D.cost m s) u f))
   where
-    by : (o : Option ℕ) → elim o [ none ↦ none | some t ↦ state_after D t ms ] ≡ some u
-        → ((t : ℕ) → state_after D t ms ≡ some u → length (plan_lines_from D t (suc n) (total + D.cost m s) ms) ≡ length ms)
+    by : (o : Option ℕ) → elim o [ None ↦ None | Some t ↦ state_after D t ms ] ≡ Some u
+        → ((t : ℕ) → state_after D t ms ≡ Some u → length (plan_lines_from D t (suc n) (total + D.cost m s) ms) ≡ length ms)
         → length (lines_after D (suc n) (total + D.cost m s) ms o) ≡ length ms
-    by none f g = never (cc)
-    by (some t) f g = g t f
+    by None f g = never (cc)
+    by (Some t) f g = g t f
 
 -- so its pages have the lines of each that is begun
-pub pages_count : (D : Domain) (ms : List ℕ) {u : ℕ} → state_after D D.start ms ≡ some u
+pub pages_count : (D : Domain) (ms : List ℕ) {u : ℕ} → state_after D D.start ms ≡ Some u
     → length (paged_lines (map line_bytes (plan_lines D ms))) ≡ page_lines (length ms)
 unfolding paged_lines
 pages_count D ms {u} leads =
@@ -61,8 +61,8 @@ module _ (D : Domain) (b : Bounded D most_cost) (few : D.moves ≤ most_moves) w
     where
       by : (o : Option ℕ) → ((u : ℕ) → All FitsColumns (plan_lines_from D u (suc n) (total + D.cost m s) ms))
           → All FitsColumns (lines_after D (suc n) (total + D.cost m s) ms o)
-      by none f = tt
-      by (some u) f = f u
+      by None f = tt
+      by (Some u) f = f u
 
   module _ (ms : List ℕ) (e : EntriesBelow ms D.moves) where
     all_fit : All FitsColumns (plan_lines D ms)
@@ -85,7 +85,7 @@ module _ (D : Domain) (b : Bounded D most_cost) (few : D.moves ≤ most_moves) w
         all_both WholeLine ls (replicate n blank_line) lines_whole (all_same WholeLine n blank_line blank_length)
 
     -- of moves that lead somewhere, a sheet has the bytes that so many take
-    pub sheet_length : {u : ℕ} → state_after D D.start ms ≡ some u → length (sheet_of D ms) ≡ sheet_size (length ms)
+    pub sheet_length : {u : ℕ} → state_after D D.start ms ≡ Some u → length (sheet_of D ms) ≡ sheet_size (length ms)
     unfolding sheet_of
     sheet_length leads =
         flatten_length line_size (paged_lines (map line_bytes (plan_lines D ms))) pages_whole ∙ ap (λ (j : ℕ). j * line_size) (pages_count D ms leads)

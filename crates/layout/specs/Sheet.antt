@@ -1,6 +1,6 @@
 -- The sheet of a plan (document 02: shift sheet), line by line and page by page.
 use Rattle.std.specs.Prelude.{ℕ, suc, ◌+◌, ◌-◌, ◌*◌, ◌/◌, ◌≤◌, length, replicate}
-use Rattle.std.proofs.Math.Option.{none, some}
+use Rattle.std.specs.Prelude.{None, Some}
 use mathlib.Core.List.{List, [], ◌∷◌, ◌++◌, map, flatten}
 use Rattle.text.specs.Written.{decimal}
 use Rattle.semantics.specs.Domain.{Domain}
@@ -39,7 +39,7 @@ line_at D s n total m = record { row = suc n; action = m; cost = D.cost m s; tot
 unfoldable pub plan_lines_from : Domain → ℕ → ℕ → ℕ → List ℕ → List SheetLine
 plan_lines_from D s n total [] = []
 plan_lines_from D s n total (m ∷ ms) =
-    line_at D s n total m ∷ elim (D.successor m s) [ none ↦ [] | some t ↦ plan_lines_from D t (suc n) (total + D.cost m s) ms ]
+    line_at D s n total m ∷ elim (D.successor m s) [ None ↦ [] | Some t ↦ plan_lines_from D t (suc n) (total + D.cost m s) ms ]
 
 -- of a plan, from the start on
 abbrev pub plan_lines : Domain → List ℕ → List SheetLine

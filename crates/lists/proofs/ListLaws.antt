@@ -4,7 +4,7 @@ use Prim.Native.Nat.{ℕ, suc, ◌+◌, ◌-◌, ◌≤◌, ◌<◌}
 use mathlib.Core.Path.{◌≡◌, refl, sym, ◌∙◌, ap}
 use mathlib.Core.Bool.{Bool, true, false}
 use mathlib.Core.List.{List, [], ◌∷◌, ◌++◌}
-use mathlib.Core.Option.{Option, none, some}
+use Rattle.std.specs.Prelude.{Option, None, Some}
 use native.Mathlib.Omega.{arith}
 use native.Mathlib.Numerals.{add-one}
 use lib.Dec.{ltb, leb}
@@ -35,31 +35,31 @@ module _ (key line value out : List ℕ) (limit : ℕ) (found : Bool) (after : v
   pub entry_fits : found ≡ true → get_or out 0 0 < 65536
   entry_fits e = first_small out (numbers_sound 1 out value (sym read ∙ ap (λ q. answered q out) e)).small
 
-  pub entry_below : found ≡ true → get_or out 0 0 < limit → some (get_or out 0 0) ≡ entry_in key limit line
+  pub entry_below : found ≡ true → get_or out 0 0 < limit → Some (get_or out 0 0) ≡ entry_in key limit line
   entry_below e h = sym (answer true e ∙ rw (lt-ltb (get_or out 0 0) limit h))
 
-  pub entry_past : found ≡ true → limit ≤ get_or out 0 0 → none ≡ entry_in key limit line
+  pub entry_past : found ≡ true → limit ≤ get_or out 0 0 → None ≡ entry_in key limit line
   entry_past e h = sym (answer true e ∙ rw (le-ltb (get_or out 0 0) limit h))
 
-  pub entry_none : found ≡ false → none ≡ entry_in key limit line
+  pub entry_none : found ≡ false → None ≡ entry_in key limit line
   entry_none e = sym (answer false e)
 
 -- a line has one number, below the limit
 module _ (key line : List ℕ) (limit v : ℕ) where
-  one_number : (o : Option (List ℕ)) → numbers 1 (value_of key line) ≡ o → below limit o ≡ some v → (v < limit) × (o ≡ some (v ∷ []))
-  one_number none e h = let z : ◌≡◌ {A = ℕ} 0 1 = cc in absurd (omega arith)
-  one_number (some []) e h = absurd (omega (arith, (line_sound key 1 [] line e).0.count))
-  one_number (some (a ∷ [])) e h =
+  one_number : (o : Option (List ℕ)) → numbers 1 (value_of key line) ≡ o → below limit o ≡ Some v → (v < limit) × (o ≡ Some (v ∷ []))
+  one_number None e h = let z : ◌≡◌ {A = ℕ} 0 1 = cc in absurd (omega arith)
+  one_number (Some []) e h = absurd (omega (arith, (line_sound key 1 [] line e).0.count))
+  one_number (Some (a ∷ [])) e h =
       let g = cond_some (ltb a limit) h in
       let f : a ≡ v = cc g.1 in (omega (arith, ltb-true a limit g.0), rw f)
-  one_number (some (a ∷ b ∷ l)) e h = absurd (omega (arith, (line_sound key 1 (a ∷ b ∷ l) line e).0.count))
+  one_number (Some (a ∷ b ∷ l)) e h = absurd (omega (arith, (line_sound key 1 (a ∷ b ∷ l) line e).0.count))
 
-  pub entry_number : entry_in key limit line ≡ some v → (v < limit) × (numbers 1 (value_of key line) ≡ some (v ∷ []))
+  pub entry_number : entry_in key limit line ≡ Some v → (v < limit) × (numbers 1 (value_of key line) ≡ Some (v ∷ []))
   unfolding entry_in
   entry_number e = one_number (numbers 1 (value_of key line)) refl e
 
 -- no bytes are no entry
-entry_empty : (key : List ℕ) (limit : ℕ) → entry_in key limit [] ≡ none
+entry_empty : (key : List ℕ) (limit : ℕ) → entry_in key limit [] ≡ None
 unfolding entry_in value_of has_key numbers
 entry_empty [] limit = refl
 entry_empty (k ∷ ks) limit = refl
@@ -73,47 +73,47 @@ module _ (title : List ℕ) (r : Ranges) (line : List ℕ) where
   abbrev count_of : Option ℕ
   count_of = entry_in title (suc r.most) line
 
-  pub count_none : count_of ≡ none → count_in title r line ≡ none
+  pub count_none : count_of ≡ None → count_in title r line ≡ None
   unfolding count_in
   count_none e = ap (at_least r.least) e
 
   module _ (n : ℕ) where
-    pub count_low : count_of ≡ some n → n < r.least → count_in title r line ≡ none
+    pub count_low : count_of ≡ Some n → n < r.least → count_in title r line ≡ None
     unfolding count_in
     count_low e h = ap (at_least r.least) e ∙ rw (lt-leb r.least n h)
 
-    pub count_enough : count_of ≡ some n → r.least ≤ n → count_in title r line ≡ some n
+    pub count_enough : count_of ≡ Some n → r.least ≤ n → count_in title r line ≡ Some n
     unfolding count_in
     count_enough e h = ap (at_least r.least) e ∙ rw (le-leb r.least n h)
 
-    at_least_lem : (o : Option ℕ) → at_least r.least o ≡ some n → (r.least ≤ n) × (o ≡ some n)
-    at_least_lem none h = let z : ◌≡◌ {A = ℕ} 0 1 = cc in absurd (omega arith)
-    at_least_lem (some k) h =
+    at_least_lem : (o : Option ℕ) → at_least r.least o ≡ Some n → (r.least ≤ n) × (o ≡ Some n)
+    at_least_lem None h = let z : ◌≡◌ {A = ℕ} 0 1 = cc in absurd (omega arith)
+    at_least_lem (Some k) h =
         let g = cond_some (leb r.least k) h in
         let f : k ≡ n = cc g.1 in (omega (arith, leb-true r.least k g.0), g.1)
 
-    pub count_told : count_in title r line ≡ some n → (r.least ≤ n) × (count_of ≡ some n)
+    pub count_told : count_in title r line ≡ Some n → (r.least ≤ n) × (count_of ≡ Some n)
     unfolding count_in
     count_told e = at_least_lem count_of e
 
 -- the first line, which says how many numbers there are
 module _ (title key : List ℕ) (r : Ranges) (line : List ℕ) (rest : List (List ℕ)) where
-  pub count_right : (count : ℕ) → count_in title r line ≡ some count → read_lines title key r (line ∷ rest) ≡ read_entries key (bound_at r) [] count rest
+  pub count_right : (count : ℕ) → count_in title r line ≡ Some count → read_lines title key r (line ∷ rest) ≡ read_entries key (bound_at r) [] count rest
   unfolding read_lines
   count_right count e = rw (e, read_lines)
 
-  pub count_wrong : count_in title r line ≡ none → read_lines title key r (line ∷ rest) ≡ refused 1
+  pub count_wrong : count_in title r line ≡ None → read_lines title key r (line ∷ rest) ≡ refused 1
   unfolding read_lines
   count_wrong e = rw (e, read_lines)
 
 -- one line more, as numbers are due or not
 module _ (key : List ℕ) (bound : ℕ → ℕ) (got line : List ℕ) (rest : List (List ℕ)) where
-  pub line_right : (due v : ℕ) → entry_in key (bound (length got)) line ≡ some v
+  pub line_right : (due v : ℕ) → entry_in key (bound (length got)) line ≡ Some v
       → read_entries key bound got (suc due) (line ∷ rest) ≡ read_entries key bound (got ++ (v ∷ [])) due rest
   unfolding read_entries
   line_right due v e = rw (e, read_entries)
 
-  pub line_wrong : (due : ℕ) → entry_in key (bound (length got)) line ≡ none → read_entries key bound got (suc due) (line ∷ rest) ≡ refused (length got + 2)
+  pub line_wrong : (due : ℕ) → entry_in key (bound (length got)) line ≡ None → read_entries key bound got (suc due) (line ∷ rest) ≡ refused (length got + 2)
   unfolding read_entries
   line_wrong due e = rw (e, read_entries)
 
@@ -147,7 +147,7 @@ module _ {key : List ℕ} {bound : ℕ → ℕ} {o : ListOutcome} {text list : L
     first : o ≡ from (count - n) (line ∷ lines (drop e text))
     first = p.goes ∙ ap (from (count - n)) (lines_at text i e within line-end)
 
-    pub entry_more : (v : ℕ) → n < count → entry_in key (bound n) line ≡ some v → SoFar key bound o text (set list n v) count (n + 1) e
+    pub entry_more : (v : ℕ) → n < count → entry_in key (bound n) line ≡ Some v → SoFar key bound o text (set list n v) count (n + 1) e
     entry_more v h g = record {
       few = omega arith;
       room = simp length-set p.room;
@@ -155,7 +155,7 @@ module _ {key : List ℕ} {bound : ℕ → ℕ} {o : ListOutcome} {text list : L
           ∙ rw (add-one n, take-suc-set list n v (omega (arith, p.room)));
     }
 
-    pub entry_wrong : n < count → entry_in key (bound n) line ≡ none → o ≡ refused (n + 2)
+    pub entry_wrong : n < count → entry_in key (bound n) line ≡ None → o ≡ refused (n + 2)
     entry_wrong h g = first ∙ some_due h _ ∙ line_wrong key bound (take n list) _ _ _ (bound_is key line (ap bound (sym got)) g) ∙ place
 
   pub entry_extra : i < length text → n ≡ count → o ≡ refused (count + 2)
@@ -176,16 +176,16 @@ module _ {key : List ℕ} {bound : ℕ → ℕ} {o : ListOutcome} {text list : L
 
 -- a text's first line, which ends at e
 module _ (title key : List ℕ) (r : Ranges) (e : ℕ) where
-  pub first_right : {o : ListOutcome} (text : List ℕ) → e ≡ line_length text → (count : ℕ) → count_in title r (take (e - 0) text) ≡ some count
+  pub first_right : {o : ListOutcome} (text : List ℕ) → e ≡ line_length text → (count : ℕ) → count_in title r (take (e - 0) text) ≡ Some count
       → o ≡ read_entries key (bound_at r) [] count (lines (drop e text)) → o ≡ read_list title key r text
   unfolding read_list
   first_right [] f count h g =
-      let n : count_in title r [] ≡ none = count_none title r [] (entry_empty title (suc r.most)) in
+      let n : count_in title r [] ≡ None = count_none title r [] (entry_empty title (suc r.most)) in
       let z : ◌≡◌ {A = ℕ} 0 1 = cc (n, take-nil {A = ℕ} (e - 0)) in absurd (omega arith)
   first_right (b ∷ t) f count h g =
       g ∙ sym (ap (read_lines title key r) (lines_at (b ∷ t) 0 e (omega arith) (omega arith)) ∙ count_right title key r _ _ count h)
 
-  pub first_wrong : (text : List ℕ) → e ≡ line_length text → count_in title r (take (e - 0) text) ≡ none → refused 1 ≡ read_list title key r text
+  pub first_wrong : (text : List ℕ) → e ≡ line_length text → count_in title r (take (e - 0) text) ≡ None → refused 1 ≡ read_list title key r text
   unfolding read_list read_lines lines
   first_wrong [] f h = refl
   first_wrong (b ∷ t) f h = sym (ap (read_lines title key r) (lines_at (b ∷ t) 0 e (omega arith) (omega arith)) ∙ count_wrong title key r _ _ h)

@@ -3,7 +3,7 @@
 use Prim.Native.Nat.{ℕ, zero, suc, ◌+◌, ◌≤◌, ◌<◌}
 use mathlib.Core.Path.{◌≡◌, refl, sym, ◌∙◌, ap, subst}
 use mathlib.Core.List.{List, [], ◌∷◌, ◌++◌, map-append, flatten, append_assoc, append-nil}
-use mathlib.Core.Option.{Option, none, some}
+use Rattle.std.specs.Prelude.{Option, None, Some}
 use native.Mathlib.Omega.{arith}
 use native.Mathlib.Decide.{dec_lt}
 use lib.Dec.{eqb}
@@ -25,7 +25,7 @@ not_listed : {A : Type 0} (line : ℕ) (es : List ℕ) → refused line ≡ list
 not_listed line es e = let z : ◌≡◌ {A = ℕ} 0 1 = cc in absurd (omega arith)
 
 -- a line that is read as a number is its text
-entry_text : (key line : List ℕ) (limit v : ℕ) → entry_in key limit line ≡ some v → line ≡ line_text key (v ∷ [])
+entry_text : (key line : List ℕ) (limit v : ℕ) → entry_in key limit line ≡ Some v → line ≡ line_text key (v ∷ [])
 entry_text key line limit v e = (line_sound key 1 (v ∷ []) line (entry_number key line limit v e).1).1
 
 -- each number is below its bound
@@ -52,8 +52,8 @@ module _ (key : List ℕ) (bound : ℕ → ℕ) (es : List ℕ) where
   whole_by : (got : List ℕ) (due : ℕ) (line : List ℕ) (ls : List (List ℕ)) (o : Option ℕ) → entry_in key (bound (length got)) line ≡ o
       → ((v : ℕ) → Reads (got ++ (v ∷ [])) due ls)
       → Reads got (suc due) (line ∷ ls)
-  whole_by got due line ls none h f b e = not_listed _ es (sym (line_wrong key bound got line ls due h) ∙ e)
-  whole_by got due line ls (some v) h f b e =
+  whole_by got due line ls None h f b e = not_listed _ es (sym (line_wrong key bound got line ls due h) ∙ e)
+  whole_by got due line ls (Some v) h f b e =
       let n = (entry_number key line (bound (length got)) v h).0 in
       let w = f v (every_more 0 (λ i x. x < bound i) got v b n) (sym (line_right key bound got line ls due v h) ∙ e) in
       record {
@@ -77,8 +77,8 @@ module _ (title key : List ℕ) (r : Ranges) (es : List ℕ) where
   told_by : (line : List ℕ) (ls : List (List ℕ)) (o : Option ℕ) → count_in title r line ≡ o → read_lines title key r (line ∷ ls) ≡ listed es
       → IsListText title key r (flatten (line ∷ ls)) es
   unfolding flatten
-  told_by line ls none h e = not_listed 1 es (sym (count_wrong title key r line ls h) ∙ e)
-  told_by line ls (some count) h e =
+  told_by line ls None h e = not_listed 1 es (sym (count_wrong title key r line ls h) ∙ e)
+  told_by line ls (Some count) h e =
       let c = count_told title r line count h in
       let w = whole key (bound_at r) es ls count [] (λ i g. absurd (omega arith)) (sym (count_right title key r line ls count h) ∙ e) in
       let n : length es ≡ count = omega (arith, w.count) in

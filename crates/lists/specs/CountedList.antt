@@ -1,7 +1,7 @@
 -- Texts of a counted list: a line `title=N`, then N lines `key=number`.
 use Rattle.std.specs.Prelude.{ℕ, zero, suc, ◌+◌, cond, eqb, ltb, leb, length, get_or}
 use mathlib.Core.List.{List, [], ◌∷◌, ◌++◌, map, flatten}
-use Rattle.std.proofs.Math.Option.{Option, none, some}
+use Rattle.std.specs.Prelude.{Option, None, Some}
 use Rattle.text.specs.Lines.{lines, value_of}
 use Rattle.text.specs.Numbers.{numbers}
 use Rattle.text.specs.Written.{line_text}
@@ -17,8 +17,8 @@ abbrev pub bound_at : Ranges → ℕ → ℕ
 bound_at r i = cond (eqb i 0) r.first r.rest
 
 abbrev pub below : ℕ → Option (List ℕ) → Option ℕ
-below bound none = none
-below bound (some l) = cond (ltb (get_or l 0 0) bound) (some (get_or l 0 0)) none
+below bound None = None
+below bound (Some l) = cond (ltb (get_or l 0 0) bound) (Some (get_or l 0 0)) None
 
 -- the one number of a line with this key, where it is below a bound
 unfoldable pub entry_in : List ℕ → ℕ → List ℕ → Option ℕ
@@ -31,14 +31,14 @@ read_entries key bound got zero [] = listed got
 read_entries key bound got (suc due) [] = refused (length got + 2)
 read_entries key bound got zero (line ∷ rest) = refused (length got + 2)
 read_entries key bound got (suc due) (line ∷ rest) = elim (entry_in key (bound (length got)) line) [
-  | none ↦ refused (length got + 2)
-  | some v ↦ read_entries key bound (got ++ (v ∷ [])) due rest
+  | None ↦ refused (length got + 2)
+  | Some v ↦ read_entries key bound (got ++ (v ∷ [])) due rest
 ]
 
 -- the first line says how many there are, of at least so many
 abbrev pub at_least : ℕ → Option ℕ → Option ℕ
-at_least least none = none
-at_least least (some n) = cond (leb least n) (some n) none
+at_least least None = None
+at_least least (Some n) = cond (leb least n) (Some n) None
 
 unfoldable pub count_in : List ℕ → Ranges → List ℕ → Option ℕ
 count_in title r line = at_least r.least (entry_in title (suc r.most) line)
@@ -46,8 +46,8 @@ count_in title r line = at_least r.least (entry_in title (suc r.most) line)
 unfoldable pub read_lines : List ℕ → List ℕ → Ranges → List (List ℕ) → ListOutcome
 read_lines title key r [] = refused 1
 read_lines title key r (line ∷ rest) = elim (count_in title r line) [
-  | none ↦ refused 1
-  | some count ↦ read_entries key (bound_at r) [] count rest
+  | None ↦ refused 1
+  | Some count ↦ read_entries key (bound_at r) [] count rest
 ]
 
 unfoldable pub read_list : List ℕ → List ℕ → Ranges → List ℕ → ListOutcome

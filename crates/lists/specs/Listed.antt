@@ -1,6 +1,6 @@
 -- What the reader of a list answers, beside a list whose front then holds the numbers.
 use Rattle.std.specs.Prelude.{ℕ, List, take}
-use Rattle.std.proofs.Math.Option.{Option, none, some}
+use Rattle.std.specs.Prelude.{Option, None, Some}
 use Rattle.lists.specs.CountedList.{ListOutcome, listed, refused}
 use Rattle.lists.specs.declared.counted.ListAnswer.{ListAnswer}
 use Rattle.lists.specs.declared.counted.ListAnswer.TheVariants.{Read, Refused}
@@ -16,5 +16,5 @@ entry_count (Read n) = n
 entry_count (Refused line) = 0
 
 abbrev pub entry_of : Entry → Option ℕ
-entry_of (Number v) = some v
-entry_of Wrong = none
+entry_of (Number v) = Some v
+entry_of Wrong = None

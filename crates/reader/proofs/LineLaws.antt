@@ -4,7 +4,7 @@ use Prim.Native.Nat.{ℕ, ◌≤◌}
 use mathlib.Core.Path.{◌≡◌, ap}
 use mathlib.Core.Bool.{Bool, true, false}
 use mathlib.Core.List.{List}
-use mathlib.Core.Option.{some}
+use Rattle.std.specs.Prelude.{Some}
 use native.Mathlib.Omega.{arith}
 use Rattle.text.specs.Lines.{value_of}
 use Rattle.text.specs.Progress.{answered}
@@ -31,5 +31,5 @@ value_of_lem k line e h = rw e h
 -- the numbers of a line, as the fill answered
 module _ (next : Line) (r : LineNumbers) (out : List ℕ) where
   pub numbers_answered : (formed : Bool) → r.formed ≡ formed → list_of next r ≡ out → numbers_of next r ≡ answered formed out
-  numbers_answered true e h = rw e (ap some h)
+  numbers_answered true e h = rw e (ap Some h)
   numbers_answered false e h = rw e

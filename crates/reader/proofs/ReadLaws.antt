@@ -4,7 +4,7 @@ use Prim.Native.Nat.{ℕ, ◌+◌, ◌-◌, ◌≤◌, ◌<◌}
 use mathlib.Core.Path.{◌≡◌, refl, sym, ◌∙◌, ap, subst}
 use mathlib.Core.Bool.{Bool, true, false, cond}
 use mathlib.Core.List.{List, [], ◌∷◌}
-use mathlib.Core.Option.{Option, none, some, get_or}
+use Rattle.std.specs.Prelude.{Option, None, Some, unwrap_or}
 use native.Mathlib.Omega.{arith}
 use lib.Dec.{eqb}
 use lib.ListN.{length, take, drop}
@@ -35,7 +35,7 @@ reason s line = fault s.next (counts_of s.job) (line_numbers s.next line)
 
 -- one line more: it is right, or it decides
 module _ (n : ℕ) (s : Reading) (line : List ℕ) (rest : List (List ℕ)) where
-  pub line_right : (r : List ℕ) → line_numbers s.next line ≡ some r → reason s line ≡ 0 → read_from n s (line ∷ rest) ≡ read_from (n + 1) (taken s r) rest
+  pub line_right : (r : List ℕ) → line_numbers s.next line ≡ Some r → reason s line ≡ 0 → read_from n s (line ∷ rest) ≡ read_from (n + 1) (taken s r) rest
   unfolding read_from
   line_right r e h = rw (eq-eqb _ _ h, e)
 
@@ -46,7 +46,7 @@ module _ (n : ℕ) (s : Reading) (line : List ℕ) (rest : List (List ℕ)) wher
 -- the text from place i on, whose first line ends at e
 module _ (text : List ℕ) (i e n : ℕ) (s : Reading) (within : i < length text) (line-end : e ≡ i + line_length (drop i text))
     (so_far : read_job text ≡ read_from n s (lines (drop i text))) where
-  pub read_on : (r : List ℕ) → line_numbers s.next (take (e - i) (drop i text)) ≡ some r → reason s (take (e - i) (drop i text)) ≡ 0
+  pub read_on : (r : List ℕ) → line_numbers s.next (take (e - i) (drop i text)) ≡ Some r → reason s (take (e - i) (drop i text)) ≡ 0
       → read_job text ≡ read_from (n + 1) (taken s r) (lines (drop e text))
   read_on r g h = so_far ∙ ap (read_from n s) (lines_at text i e within line-end) ∙ line_right n s _ _ r g h
 
@@ -63,7 +63,7 @@ module _ (s : ReaderState) (rows line : List ℕ) (r : LineNumbers) (numbers-rea
   reason_of_lem = rw (counts_of_lem s.head rows, numbers-read)
 
   module _ (zero-reason : fault s.next s.head.counts (numbers_of s.next r) ≡ 0) where
-    pub numbers_of_lem : line_numbers s.next line ≡ some (list_of s.next r)
+    pub numbers_of_lem : line_numbers s.next line ≡ Some (list_of s.next r)
     numbers_of_lem = sym numbers-read ∙ rw (right_formed s.next s.head.counts r zero-reason)
 
     pub right_of : LineRight s.next (counts_of (job_of s.head rows)) (list_of s.next r)
@@ -87,7 +87,7 @@ not_read a b m j e = let z : ◌≡◌ {A = ℕ} 0 1 = cc in absurd (omega arith
 -- is read
 module _ (m : ℕ) (j : J.Job) (P : ℕ → Reading → List (List ℕ) → Type 0)
     (at-end : (s : Reading) → s.next ≡ End → s.job ≡ j → P m s [])
-    (at-line : (n : ℕ) (s : Reading) (line r : List ℕ) (ls : List (List ℕ)) → line_numbers s.next line ≡ some r → LineRight s.next (counts_of s.job) r
+    (at-line : (n : ℕ) (s : Reading) (line r : List ℕ) (ls : List (List ℕ)) → line_numbers s.next line ≡ Some r → LineRight s.next (counts_of s.job) r
     → P (n + 1) (taken s r) ls → P n s (line ∷ ls)) where
   end_by : (n : ℕ) (s : Reading) (b : Bool) → is_end s.next ≡ b → cond b (read n s.job) (refused 1 (n + 1)) ≡ read m j → P n s []
   end_by n s true g e = let a : m ≡ n = cc in subst (λ k. P k s []) a (at-end s (end_is s.next g) (cc))
@@ -95,14 +95,14 @@ module _ (m : ℕ) (j : J.Job) (P : ℕ → Reading → List (List ℕ) → Type
 
   line_by : (n : ℕ) (s : Reading) (ls : List (List ℕ)) (line : List ℕ) (o : Option (List ℕ)) (b : Bool) → line_numbers s.next line ≡ o
       → eqb (fault s.next (counts_of s.job) o) 0 ≡ b
-      → cond b (read_from (n + 1) (taken s (get_or o [])) ls) (refused (fault s.next (counts_of s.job) o) (n + 1)) ≡ read m j
+      → cond b (read_from (n + 1) (taken s (unwrap_or o [])) ls) (refused (fault s.next (counts_of s.job) o) (n + 1)) ≡ read m j
       → ((q : Reading) → read_from (n + 1) q ls ≡ read m j → P (n + 1) q ls) → P n s (line ∷ ls)
   unfolding fault
-  line_by n s ls line none true d g e f = never g
-  line_by n s ls line none false d g e f = not_read _ (n + 1) m j e
-  line_by n s ls line (some r) true d g e f =
+  line_by n s ls line None true d g e f = never g
+  line_by n s ls line None false d g e f = not_read _ (n + 1) m j e
+  line_by n s ls line (Some r) true d g e f =
       at-line n s line r ls d (fault_right s.next (counts_of s.job) r (eqb-true _ 0 g)) (f (taken s r) e)
-  line_by n s ls line (some r) false d g e f = not_read _ (n + 1) m j e
+  line_by n s ls line (Some r) false d g e f = not_read _ (n + 1) m j e
 
   pub read_has : (n : ℕ) (s : Reading) (ls : List (List ℕ)) → read_from n s ls ≡ read m j → P n s ls
   unfolding read_from ended

@@ -4,7 +4,7 @@ use Prim.Native.Nat.{ℕ, ◌+◌, ◌-◌, ◌≤◌, ◌<◌}
 use mathlib.Core.Path.{◌≡◌, refl}
 use mathlib.Core.Bool.{Bool, true, false, cond}
 use mathlib.Core.List.{List, [], ◌∷◌}
-use mathlib.Core.Option.{some}
+use Rattle.std.specs.Prelude.{Some}
 use native.Mathlib.Omega.{arith}
 use lib.Dec.{eqb, leb, ltb}
 use lib.ListN.{length, get_or, length-append}
@@ -47,7 +47,7 @@ reason_right (One h) c r =
 reason_right (Of k) c r = right_by (criteria k c r).range (criteria k c r).fields
 reason_right End c r = λ e. omega arith
 
-pub fault_right : (k : Line) (c : Counts) (r : List ℕ) → fault k c (some r) ≡ 0 → LineRight k c r
+pub fault_right : (k : Line) (c : Counts) (r : List ℕ) → fault k c (Some r) ≡ 0 → LineRight k c r
 unfolding fault
 fault_right k c r e = reason_right k c r e
 

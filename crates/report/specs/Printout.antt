@@ -1,7 +1,7 @@
 -- "The sample and its printout": what the programs print, a line each.
 use Rattle.std.specs.Prelude.{ℕ, ◌*◌, List, [], ◌∷◌, ◌++◌, take}
 use Prim.Native.String.{String}
-use Rattle.std.proofs.Math.Option.{Option, none, some}
+use Rattle.std.specs.Prelude.{Option, None, Some}
 use Rattle.text.specs.Bytes.{bytes}
 use Rattle.text.specs.Written.{written, line_text}
 use Rattle.job.specs.declared.head.Counts.{Counts}
@@ -66,8 +66,8 @@ judgement_lines (other v) = verdict_lines v
 
 -- the least cost, or that there is none
 abbrev pub least_lines : Option ℕ → List ℕ
-least_lines (some cost) = line "least" cost
-least_lines none = bytes "answer=none\n"
+least_lines (Some cost) = line "least" cost
+least_lines None = bytes "answer=None\n"
 
 -- the sheet, which stands at the output's front; or what a check says
 abbrev pub written_lines : List ℕ → WriteOutcome → List ℕ

@@ -3,7 +3,7 @@
 use Prim.Native.Nat.{ℕ, ◌+◌, ◌-◌, ◌*◌, ◌≤◌, ◌<◌}
 use mathlib.Core.Path.{◌≡◌, refl, sym, ◌∙◌, ap}
 use mathlib.Core.Bool.{Bool, true, false}
-use mathlib.Core.Option.{some}
+use Rattle.std.specs.Prelude.{Some}
 use mathlib.Core.List.{List}
 use mathlib.Core.Logic.{◌⊎◌, inl, inr}
 use native.Mathlib.Omega.{arith}
@@ -50,7 +50,7 @@ room_on x a b = record { few = x.few; cells = omega (arith, x.cells); keys = rec
 
 module _ {origin : Origin} {rows : List ℕ} {values : List Bool} {T queue cache : List ℕ} (x : Sweep origin rows values T queue cache) where
   -- where a step leads there is a cell
-  pub target_inside : (step : OutStep) (target : Target) → some (target_of target) ≡ arrives (domain_at origin rows) (label_of step) origin.state step.to
+  pub target_inside : (step : OutStep) (target : Target) → Some (target_of target) ≡ arrives (domain_at origin rows) (label_of step) origin.state step.to
       → step.to < origin.grid.positions → (target.state < origin.grid.states) × (target.position < origin.grid.positions)
   target_inside step target e h =
       let y = arrives_led (domain_at origin rows) (label_of step) origin.state step.to e in
@@ -134,7 +134,7 @@ module _ {origin : Origin} {rows list adjacency : List ℕ} {values : List Bool}
 
   module _ (marks₀ : List Bool) (width : length marks₀ ≡ most_positions) (R : Relaxed G (Only queue₀ w (Processed k p marks₀)) T₀) where
     start : (marks : List Bool) → length marks ≡ most_positions → ScanProgress G w p T₀ queue₀ T₀ queue₀ marks (p + 1)
-    start marks e = record { runs = none; size = refl; width = e; key = omega arith; low = omega arith; falls = omega arith; less = omega arith }
+    start marks e = record { runs = None; size = refl; width = e; key = omega arith; low = omega arith; falls = omega arith; less = omega arith }
 
     -- there is nothing to follow
     pub scanned_none : {x : ℕ} {on : Bool} → x ≡ entry G T₀ w p → Idle (get_or marks₀ p false) k x on → on ≡ true
@@ -207,7 +207,7 @@ module _ {origin : Origin} {rows list adjacency : List ℕ} {values : List Bool}
         relaxed = X.relaxed;
       }
 
-      module _ (target : Target) (found : some (target_of target) ≡ arrives D (label_of step) w step.to) where
+      module _ (target : Target) (found : Some (target_of target) ≡ arrives D (label_of step) w step.to) where
         abbrev v : ℕ
         v = cell_at origin target
 

@@ -1,6 +1,6 @@
 -- Steps that are followed from a state's cells.
 use Rattle.std.specs.Prelude.{ℕ, suc, ◌+◌, ◌*◌, ◌≤◌, ◌<◌, ◌≡◌, Bool, false, List, length, get_or, set}
-use Rattle.std.proofs.Math.Option.{none as nothing, some}
+use Rattle.std.specs.Prelude.{None, Some}
 use Rattle.limits.specs.Limits.{most_positions}
 use Rattle.semantics.specs.Machine.{Arrival}
 use Rattle.semantics.specs.StepVerdict.{Configuration, arrival, arrives}
@@ -47,9 +47,9 @@ pub data Relaxing (origin : Origin) (target : Target) (x next : ℕ) (T queue : 
 -- what following a step from the origin's state does
 pub data Stepped (origin : Origin) (rows : List ℕ) (step : OutStep) (x next : ℕ) (T queue : List ℕ) (marks : List Bool)
     : List ℕ → List ℕ → List Bool → ℕ → Type 0 where
-  stays : nothing ≡ arrives (domain_at origin rows) (label_of step) origin.state step.to → Stepped origin rows step x next T queue marks T queue marks next
+  stays : None ≡ arrives (domain_at origin rows) (label_of step) origin.state step.to → Stepped origin rows step x next T queue marks T queue marks next
   leads : (target : Target) {T' queue' : List ℕ} {marks' : List Bool} {r : ℕ}
-      → some (target_of target) ≡ arrives (domain_at origin rows) (label_of step) origin.state step.to
+      → Some (target_of target) ≡ arrives (domain_at origin rows) (label_of step) origin.state step.to
       → Relaxing origin target x next T queue marks T' queue' marks' r → Stepped origin rows step x next T queue marks T' queue' marks' r
 
 -- stores along steps from position p of state w, after which r is where to go on

@@ -2,7 +2,7 @@
 -- Assumes nothing.
 use Prim.Native.Nat.{ℕ, ◌≤◌, ◌<◌}
 use mathlib.Core.Path.{◌≡◌}
-use mathlib.Core.Option.{some}
+use Rattle.std.specs.Prelude.{Some}
 use mathlib.Core.List.{List}
 use native.Mathlib.Omega.{arith}
 use Rattle.semantics.specs.Label.{Label}
@@ -15,7 +15,7 @@ use Rattle.semantics.proofs.CostLaws.{cost_one}
 -- states stay below their count, and no move costs more than `most`
 pub record Bounded (D : Domain) (most : ℕ) : Type 0 where
   pub start : D.start < D.states
-  pub successors : (m s t : ℕ) → s < D.states → D.successor m s ≡ some t → t < D.states
+  pub successors : (m s t : ℕ) → s < D.states → D.successor m s ≡ Some t → t < D.states
   pub costs : (m s : ℕ) → D.cost m s ≤ most
 
 -- steps stay between the positions, and states and costs within their bounds

@@ -3,7 +3,7 @@
 use Prim.Native.Nat.{ℕ, suc}
 use mathlib.Core.Path.{refl}
 use mathlib.Core.List.{List, [], ◌∷◌}
-use lib.ListN.{get_elem?}
+use Rattle.std.specs.Prelude.{slice_get}
 use Rattle.semantics.specs.Label.{Label, noop, holds, fails}
 use Rattle.semantics.specs.Program.{Program, nil, move, any, test, seq, if_else, choice, while, star, pick, object_move, object_test, put}
 use Rattle.semantics.specs.Domain.{Domain}
@@ -56,8 +56,8 @@ module _ (D : Domain) where
       let parts : (o : ℕ) → Part D (put o 0 (instance env 1 a)) (starts o) (end O a (starts o)) (steps M O (o ∷ env) a (starts o)) =
       λ o. rw put_instance (row a (o ∷ env) (starts o)) in
       pick_part (instance env 1 a) refl (λ o. refl) parts
-  row (object_move a b) env n = object_part_lem (λ o. move_part_lem) (λ s t ks ρ r. elim r [ ]) (λ i. elim i [ ]) (get_elem? env b)
-  row (object_test a b) env n = object_part_lem (λ o. test_part) (λ s t ks ρ r. elim r [ ]) (λ i. elim i [ ]) (get_elem? env b)
+  row (object_move a b) env n = object_part_lem (λ o. move_part_lem) (λ s t ks ρ r. elim r [ ]) (λ i. elim i [ ]) (slice_get env b)
+  row (object_test a b) env n = object_part_lem (λ o. test_part) (λ s t ks ρ r. elim r [ ]) (λ i. elim i [ ]) (slice_get env b)
 
   pub compiled : (σ : Program) (n : ℕ) → Part D σ n (end O σ n) (steps M O [] σ n)
   compiled σ n = rw instance_of_none at (row σ [] n)

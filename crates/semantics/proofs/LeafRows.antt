@@ -2,7 +2,7 @@
 -- Assumes nothing.
 use Prim.Native.Nat.{ℕ, zero, suc, ◌+◌, ◌≤◌, ◌<◌}
 use mathlib.Core.Path.{◌≡◌, refl}
-use mathlib.Core.Option.{Option, none, some}
+use Rattle.std.specs.Prelude.{Option, None, Some}
 use mathlib.Core.List.{List, [], ◌∷◌}
 use native.Mathlib.Omega.{arith}
 use Rattle.semantics.specs.Label.{Label, noop, holds, make}
@@ -74,5 +74,5 @@ module _ {D : Domain} where
       → ((s t : ℕ) (ks : List ℕ) (ρ : Program) → Transition D s bare ks t ρ → ⊥) → (IsNil bare → ⊥)
       → (r : Option ℕ) → Part D (with_object f bare r) n (suc n) (object_steps x r n)
   unfolding with_object object_steps
-  object_part_lem part no-next some_left none = leaf_part (λ i p q l h. elim h [ ]) (λ s t ks ρ r. absurd (no-next s t ks ρ r)) (λ s i. absurd (some_left i))
-  object_part_lem part no-next some_left (some o) = part o
+  object_part_lem part no-next some_left None = leaf_part (λ i p q l h. elim h [ ]) (λ s t ks ρ r. absurd (no-next s t ks ρ r)) (λ s i. absurd (some_left i))
+  object_part_lem part no-next some_left (Some o) = part o

@@ -3,7 +3,7 @@
 use Prim.Native.Nat.{ℕ, suc, ◌+◌}
 use mathlib.Core.Path.{◌≡◌, refl}
 use mathlib.Core.Bool.{Bool, true, false}
-use mathlib.Core.Option.{Option, none, some}
+use Rattle.std.specs.Prelude.{Option, None, Some}
 use mathlib.Core.List.{List, [], ◌∷◌}
 use mathlib.Core.Logic.{◌↔◌}
 use native.Mathlib.Omega.{arith}
@@ -28,8 +28,8 @@ onward_verdict D k (is_missed y g) = is_missed ((k.completed _ _).0 y) g
 module _ (M : Machine) (Settled : M.Config → Type 0) (E : M.Config → Entries) where
   -- what comes of a first entry x from c
   pub data Takes (c : M.Config) (x : ℕ) : Option (Arrival M.Config) → Type 0 where
-    stuck : ((u : ℕ) → (E c).Made (x ∷ []) u → ⊥) → Takes c x none
-    goes : {a : Arrival M.Config} → Settled a.to → GoesOn (E c) (E a.to) x a.cost → Takes c x (some a)
+    stuck : ((u : ℕ) → (E c).Made (x ∷ []) u → ⊥) → Takes c x None
+    goes : {a : Arrival M.Config} → Settled a.to → GoesOn (E c) (E a.to) x a.cost → Takes c x (Some a)
 
   -- configurations that are settled stand for entries: E c is what lists of entries do from c
   pub record StandsFor : Type 0 where
@@ -39,11 +39,11 @@ module _ (M : Machine) (Settled : M.Config → Type 0) (E : M.Config → Entries
     pub takes : (c : M.Config) (x : ℕ) → Settled c → Takes c x (M.take c x)
 
 module _ (D : Domain) (M : Machine) (c : M.Config) (x : ℕ) (xs : List ℕ) where
-  pub verdict_blocked : M.take c x ≡ none → verdict_from D M c (x ∷ xs) ≡ blocked 0
+  pub verdict_blocked : M.take c x ≡ None → verdict_from D M c (x ∷ xs) ≡ blocked 0
   unfolding verdict_from
   verdict_blocked h = rw (h, verdict_from)
 
-  pub verdict_onward : (a : Arrival M.Config) → M.take c x ≡ some a → verdict_from D M c (x ∷ xs) ≡ onward a.cost (verdict_from D M a.to xs)
+  pub verdict_onward : (a : Arrival M.Config) → M.take c x ≡ Some a → verdict_from D M c (x ∷ xs) ≡ onward a.cost (verdict_from D M a.to xs)
   unfolding verdict_from
   verdict_onward a h = rw (h, verdict_from)
 
@@ -60,5 +60,5 @@ module _ (D : Domain) (M : Machine) (Settled : M.Config → Type 0) (E : M.Confi
     where
       by : (o : Option (Arrival M.Config)) → M.take c x ≡ o → Takes M Settled E c x o
           → ((d : M.Config) → Settled d → Judged D (E d) es (verdict_from D M d es)) → Judged D (E c) (x ∷ es) (verdict_from D M c (x ∷ es))
-      by none h (stuck f) rest = rw (verdict_blocked D M c x es h) (is_blocked {i = 0} {u = M.state c} (omega arith) (law.made c r) f)
-      by (some a) h (goes k f) rest = rw (verdict_onward D M c x es a h) (onward_verdict D f (rest a.to k))
+      by None h (stuck f) rest = rw (verdict_blocked D M c x es h) (is_blocked {i = 0} {u = M.state c} (omega arith) (law.made c r) f)
+      by (Some a) h (goes k f) rest = rw (verdict_onward D M c x es a h) (onward_verdict D f (rest a.to k))

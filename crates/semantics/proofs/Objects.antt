@@ -3,22 +3,22 @@
 use Prim.Native.Nat.{ℕ, zero, suc, ◌+◌}
 use mathlib.Core.Path.{◌≡◌, refl, ap, ap₂}
 use mathlib.Core.Bool.{true, false, cond}
-use mathlib.Core.Option.{Option, none, some}
+use Rattle.std.specs.Prelude.{Option, None, Some}
 use mathlib.Core.List.{List, [], ◌∷◌}
 use lib.Dec.{eqb, eqb-zero-suc, eqb-suc-zero, eqb-suc-suc}
-use lib.ListN.{get_elem?}
+use Rattle.std.specs.Prelude.{slice_get}
 use Rattle.semantics.specs.Program.{Program, nil, move, any, test, seq, if_else, choice, while, star, pick, object_move, object_test, put}
 
 -- the object of variable b inside x picks, where env has those of the picks around these
 unfoldable pub object_for : List ℕ → ℕ → ℕ → Option ℕ
-object_for env zero b = get_elem? env b
-object_for env (suc x) zero = none
+object_for env zero b = slice_get env b
+object_for env (suc x) zero = None
 object_for env (suc x) (suc b) = object_for env x b
 
 -- a row that has a variable, by its object; without one it stays as it is
 unfoldable pub with_object : (ℕ → Program) → Program → Option ℕ → Program
-with_object f bare none = bare
-with_object f bare (some o) = f o
+with_object f bare None = bare
+with_object f bare (Some o) = f o
 
 -- a program inside x picks, with the objects of env in place of the variables of the picks around
 -- these
@@ -38,7 +38,7 @@ instance env x (object_test a b) = with_object (λ o. test (a + o)) (object_test
 
 -- no objects
 
-no_object : (x b : ℕ) → object_for [] x b ≡ none
+no_object : (x b : ℕ) → object_for [] x b ≡ None
 unfolding object_for
 no_object zero b = refl
 no_object (suc x) zero = refl
@@ -62,7 +62,7 @@ instance_of_none x (object_test a b) = rw (no_object x b)
 -- one object more, for the variable x: what variable b had, and has
 
 data Gains (o x b : ℕ) : Option ℕ → Option ℕ → Type 0 where
-  this : eqb b x ≡ true → Gains o x b none (some o)
+  this : eqb b x ≡ true → Gains o x b None (Some o)
   other : {r : Option ℕ} → eqb b x ≡ false → Gains o x b r r
 
 gains_next : {o x b : ℕ} {r r' : Option ℕ} → Gains o x b r r' → Gains o (suc x) (suc b) r r'
@@ -81,8 +81,8 @@ module _ {o x b : ℕ} (f : ℕ → Program) (bare : Program)
   put_with_object : {r r' : Option ℕ} → Gains o x b r r' → put o x (with_object f bare r) ≡ with_object f bare r'
   unfolding with_object
   put_with_object (this e) = rw e at opens
-  put_with_object (other {r = none} e) = rw e at opens
-  put_with_object (other {r = some q} e) = stays q
+  put_with_object (other {r = None} e) = rw e at opens
+  put_with_object (other {r = Some q} e) = stays q
 
 module _ (env : List ℕ) (o : ℕ) where
   pub put_instance : (x : ℕ) (σ : Program) → put o x (instance env (suc x) σ) ≡ instance (o ∷ env) x σ

@@ -3,7 +3,7 @@
 -- Assumes nothing.
 use Prim.Native.Nat.{ℕ}
 use mathlib.Core.Path.{◌≡◌, refl, sym, subst}
-use mathlib.Core.Option.{some}
+use Rattle.std.specs.Prelude.{Some}
 use mathlib.Core.List.{List}
 use mathlib.Core.Logic.Iff
 use mathlib.Core.Logic.{◌↔◌}
@@ -59,7 +59,7 @@ module _ (D : Domain) (σ : Program) where
   one_move_verdict ms v w j k = one_verdict D (by_paths D σ) paths_lawful ms v w ((verdicts_agree ms v).0 j) ((verdicts_agree ms w).0 k)
 
   -- the moves of a plan lead from the start to some state
-  pub plan_leads : {ms : List ℕ} {c : ℕ} → Judged D (by_runs D σ) ms (plan c) → (u : ℕ) × (state_after D D.start ms ≡ some u)
+  pub plan_leads : {ms : List ℕ} {c : ℕ} → Judged D (by_runs D σ) ms (plan c) → (u : ℕ) × (state_after D D.start ms ≡ Some u)
   unfolding by_runs
   plan_leads {ms} (is_plan {u} x g) = (u, path_leads ((complete_runs D D.start σ ms u).0 x).1)
 

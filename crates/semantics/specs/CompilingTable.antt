@@ -1,8 +1,8 @@
 -- "Compiling table": the steps of a program that is compiled from position n, and the position e
 -- where it ends.
 use Rattle.std.specs.Prelude.{ℕ, zero, suc, ◌+◌, cond, List, [], ◌∷◌, ◌++◌, eqb, get_or, drop}
-use Rattle.std.proofs.Math.Option.{Option, none, some}
-use Rattle.std.proofs.Math.ListN.{get_elem?}
+use Rattle.std.specs.Prelude.{Option, None, Some}
+use Rattle.std.specs.Prelude.{slice_get}
 use Rattle.semantics.specs.Label.{Label, noop, holds, fails, make}
 use Rattle.semantics.specs.Program.{Program, nil, move, any, test, seq, if_else, choice, while, star, pick, object_move, object_test}
 use Rattle.semantics.specs.Domain.{Domain}
@@ -60,8 +60,8 @@ pick_steps O n starts ends = copies O (λ o. arc noop n (starts o) ∷ []) ++ co
 
 -- the step of a row that has a variable, by its object; none where the variable has no pick
 unfoldable pub object_steps : (ℕ → Label) → Option ℕ → ℕ → List Step
-object_steps l none n = []
-object_steps l (some o) n = arc (l o) n (suc n) ∷ []
+object_steps l None n = []
+object_steps l (Some o) n = arc (l o) n (suc n) ∷ []
 
 -- the column "steps", where the job has M moves and O objects, and env has the objects of the
 -- enclosing picks, the nearest first; "Steps come in the order written; body steps first."
@@ -82,8 +82,8 @@ steps M O env (star a) n = steps M O env a (suc n) ++ star_steps n (end O a (suc
 steps M O env (pick a) n =
     let starts : ℕ → ℕ = copy_start (end O a) n in
     copies O (λ o. steps M O (o ∷ env) a (starts o)) ++ pick_steps O n starts (λ o. end O a (starts o))
-steps M O env (object_move a b) n = object_steps (λ o. make (a + o)) (get_elem? env b) n
-steps M O env (object_test a b) n = object_steps (λ o. holds (a + o)) (get_elem? env b) n
+steps M O env (object_move a b) n = object_steps (λ o. make (a + o)) (slice_get env b) n
+steps M O env (object_test a b) n = object_steps (λ o. holds (a + o)) (slice_get env b) n
 
 -- "The recipe starts at 0; its end is the final position.": where there are M moves and O objects
 abbrev pub program_steps : ℕ → ℕ → Program → List Step

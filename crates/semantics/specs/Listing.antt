@@ -1,6 +1,6 @@
 -- The plans of a short job in their order: the first one, and the next one after a list of moves.
 use Rattle.std.specs.Prelude.{ℕ, ◌≤◌, List, length}
-use Rattle.std.proofs.Math.Option.{Option, none, some}
+use Rattle.std.specs.Prelude.{Option, None, Some}
 use Rattle.std.proofs.lemmas.List.Edits.{sets}
 use Rattle.semantics.specs.Program.{Program}
 use Rattle.semantics.specs.Domain.{Domain}
@@ -26,5 +26,5 @@ pub record Earliest (P : List ℕ → Type 0) (ms : List ℕ) : Type 0 where
 -- numbers, unused places unchanged"; "None means that no later plan within L exists, and writes
 -- nothing."
 pub data Lists (P : List ℕ → Type 0) (old : List ℕ) : Option ℕ → List ℕ → Type 0 where
-  lists : {ms : List ℕ} → Earliest P ms → Lists P old (some (length ms)) (sets old 0 ms)
-  lists_none : ((ks : List ℕ) → P ks → ⊥) → Lists P old none old
+  lists : {ms : List ℕ} → Earliest P ms → Lists P old (Some (length ms)) (sets old 0 ms)
+  lists_none : ((ks : List ℕ) → P ks → ⊥) → Lists P old None old

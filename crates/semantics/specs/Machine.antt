@@ -1,6 +1,6 @@
 -- The verdict of a machine that takes the entries of a list, one after another.
 use Rattle.std.specs.Prelude.{ℕ, suc, ◌+◌, Bool, cond, List, [], ◌∷◌}
-use Rattle.std.proofs.Math.Option.{Option, none, some}
+use Rattle.std.specs.Prelude.{Option, None, Some}
 use Rattle.semantics.specs.Domain.{Domain}
 use Rattle.semantics.specs.Verdict.{Verdict, plan, blocked, unfinished, missed}
 
@@ -32,6 +32,6 @@ finished complete goal = cond complete (cond goal (plan 0) missed) unfinished
 unfoldable pub verdict_from : (D : Domain) (M : Machine) → M.Config → List ℕ → Verdict
 verdict_from D M c [] = finished (M.complete c) (D.goal (M.state c))
 verdict_from D M c (x ∷ xs) = elim (M.take c x) [
-  | none ↦ blocked 0
-  | some a ↦ onward a.cost (verdict_from D M a.to xs)
+  | None ↦ blocked 0
+  | Some a ↦ onward a.cost (verdict_from D M a.to xs)
 ]

@@ -1,7 +1,7 @@
 -- The verdict on a list of moves as a function: "the set of positions that the recipe may be at",
 -- one mark a position, and "each move turns it into the next set".
 use Rattle.std.specs.Prelude.{ℕ, zero, suc, ◌≡◌, Bool, true, false, not, ◌&&◌, ◌||◌, cond, List, [], ◌∷◌, eqb, length, get_or, set, replicate}
-use Rattle.std.proofs.Math.Option.{Option, none, some}
+use Rattle.std.specs.Prelude.{Option, None, Some}
 use Rattle.semantics.specs.Label.{Label, noop, holds, fails, make}
 use Rattle.semantics.specs.Program.{Program}
 use Rattle.semantics.specs.Domain.{Domain}
@@ -66,9 +66,9 @@ pub record Configurations : Type 0 where
 -- move m made there; none where it is not applicable, or no position is left
 unfoldable pub move_on : Domain → List Step → Configurations → ℕ → Option (Arrival Configurations)
 move_on D L c m = elim (D.successor m c.state) [
-  | none ↦ none
-  | some t ↦ cond (any_mark (next_set D L t m c.marks))
-      (some (record { to = record { state = t; marks = next_set D L t m c.marks }; cost = D.cost m c.state })) none
+  | None ↦ None
+  | Some t ↦ cond (any_mark (next_set D L t m c.marks))
+      (Some (record { to = record { state = t; marks = next_set D L t m c.marks }; cost = D.cost m c.state })) None
 ]
 
 -- e is the final position

@@ -1,7 +1,7 @@
 -- "What a recipe allows": the transitions of source document 003, equations (4) to (13), and runs
 -- of them.
 use Rattle.std.specs.Prelude.{ℕ, ◌<◌, ◌≡◌, true, false, List, [], ◌∷◌, ◌++◌}
-use Rattle.std.proofs.Math.Option.{some}
+use Rattle.std.specs.Prelude.{Some}
 use Rattle.semantics.specs.Program.{Program, nil, move, any, test, seq, if_else, choice, while, star, pick, put}
 use Rattle.semantics.specs.Domain.{Domain}
 
@@ -11,9 +11,9 @@ use Rattle.semantics.specs.Domain.{Domain}
 -- without its pick.
 pub data Transition (D : Domain) : ℕ → Program → List ℕ → ℕ → Program → Type 0 where
   -- (4) "move a: where it can be made, nil is left, in the world after the move"
-  moves : {a s t : ℕ} → D.successor a s ≡ some t → Transition D s (move a) (a ∷ []) t nil
+  moves : {a s t : ℕ} → D.successor a s ≡ Some t → Transition D s (move a) (a ∷ []) t nil
   -- (5) "any: the same for some one move"
-  any_moves : {a s t : ℕ} → a < D.moves → D.successor a s ≡ some t → Transition D s any (a ∷ []) t nil
+  any_moves : {a s t : ℕ} → a < D.moves → D.successor a s ≡ Some t → Transition D s any (a ∷ []) t nil
   -- (6) "test a: nil is left where formula a holds"
   tests : {a s : ℕ} → D.holds a s ≡ true → Transition D s (test a) [] s nil
   -- (7) "a then b: a step of a, with b kept behind it"

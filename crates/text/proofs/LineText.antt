@@ -5,7 +5,7 @@ use Prim.Native.Nat.{ℕ, zero, suc, ◌+◌, ◌*◌, ◌/◌, ◌%◌, ◌≤�
 use mathlib.Core.Path.{◌≡◌, refl, ◌∙◌, ap}
 use mathlib.Core.Bool.{Bool, true, false, cond}
 use mathlib.Core.List.{List, [], ◌∷◌, ◌++◌}
-use mathlib.Core.Option.{some}
+use Rattle.std.specs.Prelude.{Some}
 use native.Mathlib.Omega.{arith}
 use native.Mathlib.Decide.{dec_lt}
 use lib.Dec.{eqb}
@@ -39,18 +39,18 @@ unfolding has_key
 key_has [] v = refl
 key_has (k ∷ ks) v = rw (eq-eqb k k refl) (key_has ks v)
 
-pub line_sound : (key : List ℕ) (want : ℕ) (ns line : List ℕ) → numbers want (value_of key line) ≡ some ns
+pub line_sound : (key : List ℕ) (want : ℕ) (ns line : List ℕ) → numbers want (value_of key line) ≡ Some ns
     → IsValue want ns (value_of key line) × (line ≡ line_text key ns)
 unfolding value_of numbers
 line_sound key want ns line e = sound (has_key key line) refl e
   where
-    sound : (b : Bool) → has_key key line ≡ b → numbers want (cond b (drop (length key + 1) line) []) ≡ some ns
+    sound : (b : Bool) → has_key key line ≡ b → numbers want (cond b (drop (length key + 1) line) []) ≡ Some ns
         → IsValue want ns (cond (has_key key line) (drop (length key + 1) line) []) × (line ≡ line_text key ns)
     sound true h e = let v = numbers_sound want ns (drop (length key + 1) line) e in (rw h v, key_front key line h ∙ ap (λ r. key ++ (61 ∷ r)) v.text)
     sound false h e = let z : ◌≡◌ {A = ℕ} 0 1 = cc in absurd (omega arith)
 
 pub line_complete : (key : List ℕ) (want n : ℕ) (ns : List ℕ) → length (n ∷ ns) ≡ want → Small (n ∷ ns)
-    → numbers want (value_of key (line_text key (n ∷ ns))) ≡ some (n ∷ ns)
+    → numbers want (value_of key (line_text key (n ∷ ns))) ≡ Some (n ∷ ns)
 unfolding value_of
 line_complete key want n ns h s =
     let d : drop (length key + 1) (key ++ (61 ∷ written (n ∷ ns))) ≡ written (n ∷ ns) = drop-append-add key (61 ∷ written (n ∷ ns)) 1 in
@@ -70,7 +70,7 @@ values_short (n ∷ ns) s = omega (arith, written_short n ns s)
 abbrev pub most_bytes : List ℕ → ℕ → ℕ
 most_bytes key want = length key + 2 + 6 * want
 
-pub line_short : (key : List ℕ) (want : ℕ) (ns line : List ℕ) → numbers want (value_of key line) ≡ some ns → length line ≤ most_bytes key want
+pub line_short : (key : List ℕ) (want : ℕ) (ns line : List ℕ) → numbers want (value_of key line) ≡ Some ns → length line ≤ most_bytes key want
 line_short key want ns line e =
     let v = line_sound key want ns line e in
     omega (arith, ap length v.1 ∙ length-append key (61 ∷ written ns), values_short ns v.0.small, v.0.count)

@@ -4,7 +4,7 @@ use Prim.Native.Nat.{ℕ, zero, suc, ◌+◌, ◌-◌, ◌*◌, ◌/◌, ◌%◌
 use mathlib.Core.Path.{◌≡◌, refl, ◌∙◌, ap}
 use mathlib.Core.Bool.{true}
 use mathlib.Core.List.{List, [], ◌∷◌, ◌++◌, append_assoc, append-nil, foldl, foldl-append}
-use mathlib.Core.Option.{some}
+use Rattle.std.specs.Prelude.{Some}
 use native.Mathlib.Omega.{arith}
 use native.Mathlib.Decide.{dec_lt}
 use lib.Dec.{eqb, ltb, leb}
@@ -173,16 +173,16 @@ module _ (want : ℕ) where
       ∙ ap done (append_assoc l (n ∷ []) (m ∷ ns))
 
 -- a value is read as numbers, one or more, just where it is their text
-pub numbers_sound : (want : ℕ) (ns value : List ℕ) → numbers want value ≡ some ns → IsValue want ns value
+pub numbers_sound : (want : ℕ) (ns value : List ℕ) → numbers want value ≡ Some ns → IsValue want ns value
 unfolding numbers commas
 numbers_sound want ns value e = sound (foldl (byte_read want) (start []) value) (spelt_all want value [] (start []) (refl, tt)) e
   where
-    sound : (s : PartialValue) → Spelt want s value → numbers_outcome s ≡ some ns → IsValue want ns value
+    sound : (s : PartialValue) → Spelt want s value → numbers_outcome s ≡ Some ns → IsValue want ns value
     sound (start l) h e = let z : ◌≡◌ {A = ℕ} 0 1 = cc in absurd (omega arith)
     sound (digits l n) h e = let z : ◌≡◌ {A = ℕ} 0 1 = cc in absurd (omega arith)
     sound (done l) h e = let f : l ≡ ns = cc in record { count = rw (← f) h.2; small = rw (← f) h.1; text = rw (← f) h.0 }
     sound broken h e = let z : ◌≡◌ {A = ℕ} 0 1 = cc in absurd (omega arith)
 
-pub numbers_complete : (want n : ℕ) (ns value : List ℕ) → IsValue want (n ∷ ns) value → numbers want value ≡ some (n ∷ ns)
+pub numbers_complete : (want n : ℕ) (ns value : List ℕ) → IsValue want (n ∷ ns) value → numbers want value ≡ Some (n ∷ ns)
 unfolding numbers
 numbers_complete want n ns value h = rw h.text (ap numbers_outcome (written_read want [] n ns (omega (arith, h.count)) h.small))

@@ -2,7 +2,7 @@
 -- spaces."
 use Rattle.std.specs.Prelude.{ℕ, ◌+◌, ◌-◌, ◌*◌, Bool, cond, ◌&&◌, eqb, ltb, leb, length}
 use mathlib.Core.List.{List, [], ◌∷◌, ◌++◌, foldl}
-use Rattle.std.proofs.Math.Option.{Option, none, some}
+use Rattle.std.specs.Prelude.{Option, None, Some}
 
 -- a value as far as it was read: before a number's first digit, with the numbers before it; within
 -- a number; past the line feed; of wrong form
@@ -39,10 +39,10 @@ byte_read want (done l) b = broken
 byte_read want broken b = broken
 
 abbrev pub numbers_outcome : PartialValue → Option (List ℕ)
-numbers_outcome (start l) = none
-numbers_outcome (digits l n) = none
-numbers_outcome (done l) = some l
-numbers_outcome broken = none
+numbers_outcome (start l) = None
+numbers_outcome (digits l n) = None
+numbers_outcome (done l) = Some l
+numbers_outcome broken = None
 
 -- the numbers of a value that is to hold `want` of them, or none where its form is wrong
 unfoldable pub numbers : ℕ → List ℕ → Option (List ℕ)

@@ -1,6 +1,6 @@
 -- What the code's progress through a value stands for, beside the list that it fills.
 use Rattle.std.specs.Prelude.{ℕ, ◌≤◌, ◌≡◌, Bool, true, false, List, length, take}
-use Rattle.std.proofs.Math.Option.{Option, none, some}
+use Rattle.std.specs.Prelude.{Option, None, Some}
 use Rattle.text.specs.Numbers.{PartialValue, start, digits, done, broken}
 use Rattle.text.specs.declared.numbers.Progress.{Progress}
 use Rattle.text.specs.declared.numbers.Progress.TheVariants.{Start, Digits, Done, Broken}
@@ -30,5 +30,5 @@ pub record After (r : Progress) (out : List ℕ) (next : PartialValue) : Type 0 
 
 -- the answer's two cases: the list holds the numbers; the form is wrong
 abbrev pub answered : Bool → List ℕ → Option (List ℕ)
-answered true out = some out
-answered false out = none
+answered true out = Some out
+answered false out = None

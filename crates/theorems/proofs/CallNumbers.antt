@@ -3,7 +3,7 @@
 -- Assumes nothing.
 use Prim.Native.Nat.{ℕ, ◌≤◌}
 use mathlib.Core.Path.{◌≡◌, refl, sym, ◌∙◌, ap, subst}
-use mathlib.Core.Option.{Option, none, some}
+use Rattle.std.specs.Prelude.{Option, None, Some}
 use mathlib.Core.List.{List}
 use mathlib.Core.Logic.{◌⊎◌, inl, inr}
 use native.Mathlib.Omega.{arith}
@@ -104,8 +104,8 @@ check_call_number sort t list after g =
 
 -- a least cost is no refusal
 cost_zero : (c : Option ℕ) → (cost_numbers c).number ≡ 0
-cost_zero (some c) = refl
-cost_zero none = refl
+cost_zero (Some c) = refl
+cost_zero None = refl
 
 -- of the least cost and the judge
 module _ (t : Texts) (old new : Lent) {number : ℕ} {values : List ℕ} where

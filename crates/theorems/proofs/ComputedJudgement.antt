@@ -3,7 +3,7 @@
 use Prim.Native.Nat.{ℕ, zero, suc, ◌*◌, ◌<◌}
 use mathlib.Core.Path.{◌≡◌, refl}
 use mathlib.Core.Bool.{Bool, true, false, cond, ◌&&◌}
-use mathlib.Core.Option.{Option, none, some}
+use Rattle.std.specs.Prelude.{Option, None, Some}
 use mathlib.Core.List.{List}
 use native.Mathlib.Omega.{arith}
 use native.Mathlib.Numerals.{add-one}
@@ -68,10 +68,10 @@ least_of t = lowest_below (domain_of t) (position_count t.job) (table_of t) (fin
 
 -- a list of moves of this verdict; none where more rounds are needed
 unfoldable pub computed_judgement : Task → Verdict → Option Judgement
-computed_judgement t (plan c) = cond (relaxed_below (graph_of t) (table_of t) (domain_of t).states) (some (judgement_of (compared c (least_of t)))) none
-computed_judgement t (blocked i) = some (other (blocked i))
-computed_judgement t unfinished = some (other unfinished)
-computed_judgement t missed = some (other missed)
+computed_judgement t (plan c) = cond (relaxed_below (graph_of t) (table_of t) (domain_of t).states) (Some (judgement_of (compared c (least_of t)))) None
+computed_judgement t (blocked i) = Some (other (blocked i))
+computed_judgement t unfinished = Some (other unfinished)
+computed_judgement t missed = Some (other missed)
 
 module _ (text : List ℕ) (t : Task) (accepted : AcceptedJob text t.job) (within : CostsWithin t.costs) where
   table_filled : relaxed_below (graph_of t) (table_of t) (domain_of t).states ≡ true
@@ -88,11 +88,11 @@ module _ (text : List ℕ) (t : Task) (accepted : AcceptedJob text t.job) (withi
     Gets v = Judged (domain_of t) (by_runs (domain_of t) (program_of t.job)) ms v
 
     other_finds : (v : Verdict) (g : Judgement) → Gets v → ((c : ℕ) → v ≡ plan c → ⊥)
-        → ◌≡◌ {A = Option Judgement} (some (other v)) (some g) → Finds (domain_of t) (program_of t.job) ms g
+        → ◌≡◌ {A = Option Judgement} (Some (other v)) (Some g) → Finds (domain_of t) (program_of t.job) ms g
     other_finds v g x f e = let k : other v ≡ g = cc in rw k at (is_other x f)
 
     pub computed_finds : (v : Verdict) (g : Judgement) → Judged (domain_of t) (by_runs (domain_of t) (program_of t.job)) ms v
-        → computed_judgement t v ≡ some g → Finds (domain_of t) (program_of t.job) ms g
+        → computed_judgement t v ≡ Some g → Finds (domain_of t) (program_of t.job) ms g
     unfolding computed_judgement
     computed_finds (plan c) g x e =
         let v = cond_some (relaxed_below (graph_of t) (table_of t) (domain_of t).states) e in

@@ -4,7 +4,7 @@
 use Prim.Native.Nat.{ℕ, zero, suc, ◌+◌, ◌*◌, ◌≤◌, ◌<◌}
 use mathlib.Core.Path.{◌≡◌, refl, sym, ◌∙◌, ap}
 use mathlib.Core.Bool.{Bool, true, cond, ◌&&◌}
-use mathlib.Core.Option.{Option, none, some}
+use Rattle.std.specs.Prelude.{Option, None, Some}
 use mathlib.Core.List.{List, [], ◌∷◌}
 use native.Mathlib.Omega.{arith}
 use native.Mathlib.Decide.{dec_lt}
@@ -28,8 +28,8 @@ use Rattle.semantics.proofs.Arrivals.{does_arrives, arrives_does}
 
 -- a step followed from state s to where it leads
 abbrev lowered : Graph → ℕ → ℕ → ℕ → List ℕ → Option (Arrival Configuration) → List ℕ
-lowered G s p q T none = T
-lowered G s p q T (some a) =
+lowered G s p q T None = T
+lowered G s p q T (Some a) =
     let v = cell G.positions a.to.state q in
     let x = entry G T s p + a.cost in
     cond (ltb x (get_or T v 0)) (set T v x) T
@@ -61,8 +61,8 @@ computed_table G rounds = sweeps G rounds (set (clear G) (cell G.positions G.dom
 -- the test: no step lowers an entry
 
 abbrev kept : Graph → ℕ → ℕ → ℕ → List ℕ → Option (Arrival Configuration) → Bool
-kept G s p q T none = true
-kept G s p q T (some a) = leb (entry G T a.to.state q) (entry G T s p + a.cost)
+kept G s p q T None = true
+kept G s p q T (Some a) = leb (entry G T a.to.state q) (entry G T s p + a.cost)
 
 unfoldable pub keeps : Graph → ℕ → List ℕ → Step → Bool
 keeps G s T (arc l p q) = kept G s p q T (arrives G.domain l s q)
@@ -105,8 +105,8 @@ module _ (G : Graph) where
     follow_runs {i} {p} {q} {l} {T} h r = by (arrives G.domain l s q) refl
       where
         by : (o : Option (Arrival Configuration)) → arrives G.domain l s q ≡ o → Runs G T₀ (lowered G s p q T o)
-        by none f = r
-        by (some a) f =
+        by None f = r
+        by (Some a) f =
             let m = arrives_does G.domain f in
             let e : Edge G i l s p a.to.state q a.cost = record { inside = inside; step = h; made = m.moves; does = m.does; costs = m.costs } in
             let v = cell G.positions a.to.state q in

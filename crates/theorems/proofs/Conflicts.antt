@@ -5,7 +5,7 @@ use Prim.Native.Nat.{ℕ, ◌<◌}
 use mathlib.Core.Path.{◌≡◌, refl, sym, ◌∙◌}
 use mathlib.Core.Logic.{◌↔◌}
 use mathlib.Core.Bool.{Bool, true, ◌&&◌, or-true}
-use mathlib.Core.Option.{some}
+use Rattle.std.specs.Prelude.{Some}
 use mathlib.Core.List.{List, [], ◌∷◌, Memᴰ}
 use Rattle.laws.proofs.Tests.{never, and_left, and_right, or_either, tests_equal}
 use Rattle.job.specs.Job.{Job, Effect, move_at}
@@ -65,7 +65,7 @@ module _ (vs : List Bool) (es us : List Effect)
   same_affected n w = state_same n (fact_after vs es w) (fact_after vs us w) (λ i. rw (same_gets 0 i, same_gets 1 i) refl)
 
 -- a fact after a move: set, cleared or kept
-pub fact_after_lem : (j : Job) (m w t i : ℕ) → successor_of j m w ≡ some t → i < j.scalars.facts
+pub fact_after_lem : (j : Job) (m w t i : ℕ) → successor_of j m w ≡ Some t → i < j.scalars.facts
     → fact t i ≡ fact_after (values w j.formulas) (effects_of j (move_at j m)) w i
 unfolding affected
 fact_after_lem j m w t i e h =

@@ -5,7 +5,7 @@
 use Prim.Native.Nat.{ℕ, zero, suc}
 use mathlib.Core.Path.{◌≡◌, refl, sym, ◌∙◌, subst}
 use mathlib.Core.Bool.{Bool, true, false}
-use mathlib.Core.Option.{Option, none, some}
+use Rattle.std.specs.Prelude.{Option, None, Some}
 use mathlib.Core.List.{List, [], ◌∷◌}
 use mathlib.Core.Logic.{◌↔◌}
 use native.Mathlib.Omega.{arith}
@@ -43,15 +43,15 @@ module _ (t : Task) where
   along_cost (with_second {w} {u} {m} {ms} on made rest) = cost_first D w u m ms made ∙ rw (on, along_cost rest)
 
   -- moves that lead somewhere have one
-  sum_along : (ms : List ℕ) (w u : ℕ) → state_after D w ms ≡ some u → CostsAlong t w ms (cost D w ms)
+  sum_along : (ms : List ℕ) (w u : ℕ) → state_after D w ms ≡ Some u → CostsAlong t w ms (cost D w ms)
   unfolding state_after cost
   sum_along [] w u e = no_move
   sum_along (m ∷ ms) w u e = by (D.successor m w) refl e (λ v. sum_along ms v u)
     where
-      by : (o : Option ℕ) → D.successor m w ≡ o → elim o [ none ↦ none | some v ↦ state_after D v ms ] ≡ some u
-          → ((v : ℕ) → state_after D v ms ≡ some u → CostsAlong t v ms (cost D v ms)) → CostsAlong t w (m ∷ ms) (cost D w (m ∷ ms))
-      by none f e g = never (cc)
-      by (some v) f e g = with_formula (D.holds (move_at t.job m).when w) refl
+      by : (o : Option ℕ) → D.successor m w ≡ o → elim o [ None ↦ None | Some v ↦ state_after D v ms ] ≡ Some u
+          → ((v : ℕ) → state_after D v ms ≡ Some u → CostsAlong t v ms (cost D v ms)) → CostsAlong t w (m ∷ ms) (cost D w (m ∷ ms))
+      by None f e g = never (cc)
+      by (Some v) f e g = with_formula (D.holds (move_at t.job m).when w) refl
         where
           with_formula : (b : Bool) → D.holds (move_at t.job m).when w ≡ b → CostsAlong t w (m ∷ ms) (cost D w (m ∷ ms))
           with_formula true on = let x = with_second on f (g v e) in subst (CostsAlong t w (m ∷ ms)) (sym (along_cost x)) x

@@ -4,7 +4,7 @@
 -- Assumes nothing.
 use Prim.Native.Nat.{ℕ}
 use mathlib.Core.Path.{◌≡◌, refl, sym, subst}
-use mathlib.Core.Option.{Option, some}
+use Rattle.std.specs.Prelude.{Option, Some}
 use mathlib.Core.List.{List, []}
 use native.Mathlib.Omega.{arith}
 use lib.ListN.{length}
@@ -33,7 +33,7 @@ found_verdict (is_dearer x l h) = x
 found_verdict (is_other x f) = x
 
 named_least : (v : View) {ms : List ℕ} {g : Judgement} {old new : List ℕ} {b : ℕ} → Finds v.domain v.program ms g → TableFor v g old new
-    → least_in g ≡ some b → LeastIs v (some b) × TableOf v old new
+    → least_in g ≡ Some b → LeastIs v (Some b) × TableOf v old new
 named_least v (is_least {c} x l) t e = (subst (λ (k : Option ℕ). LeastIs v k) e (costs l), t)
 named_least v (is_dearer {c} {b} x l h) t e = (subst (λ (k : Option ℕ). LeastIs v k) e (costs l), t)
 named_least v (is_other x f) t e = never (cc)
@@ -78,8 +78,8 @@ module _ (t : Texts) (old new : Lent) {g : SizedJudgement}
         table = a.table;
       })
 
-  pub judged_is_costed : {b : ℕ} → least_in g.judgement ≡ some b
-      → Answers CostDone old (view_in (costing t (length old.list) (length old.table))) (passed (some b)) new
+  pub judged_is_costed : {b : ℕ} → least_in g.judgement ≡ Some b
+      → Answers CostDone old (view_in (costing t (length old.list) (length old.table))) (passed (Some b)) new
   judged_is_costed f =
       let n = named_least (view_of offered.offer) offered.done.found.finds offered.done.found.table f in
       answer_done (costing t (length old.list) (length old.table)) (sym costed) (record { is = again n.0; list = offered.done.list; table = n.1 })

@@ -5,7 +5,7 @@ use mathlib.Core.Path.{◌≡◌, refl, sym, ◌∙◌, ap, subst}
 use mathlib.Core.Bool.{true}
 use mathlib.Core.List.{List, [], ◌∷◌, ◌++◌, flatten, append_assoc, append-nil}
 use mathlib.Core.Logic.{◌↔◌}
-use mathlib.Core.Option.{some}
+use Rattle.std.specs.Prelude.{Some}
 use native.Mathlib.Omega.{arith}
 use lib.Dec.{eqb}
 use lib.ListN.{length, get_or, length-append}
@@ -25,7 +25,7 @@ use Rattle.lists.proofs.ListLaws.{count_enough, count_right, line_right}
 use Rattle.lists.proofs.ListTold.{Below, IsListText, list_told, plan_bound, plan_told, costs_told}
 
 -- the text of a number is read as it
-entry_read : (key : List ℕ) (limit v : ℕ) → v < limit → limit ≤ 65536 → entry_in key limit (line_text key (v ∷ [])) ≡ some v
+entry_read : (key : List ℕ) (limit v : ℕ) → v < limit → limit ≤ 65536 → entry_in key limit (line_text key (v ∷ [])) ≡ Some v
 unfolding entry_in
 entry_read key limit v h g = rw (line_complete key 1 v [] refl (omega arith, tt), lt-ltb v limit h)
 

@@ -4,7 +4,7 @@
 use Prim.Native.Nat.{ℕ, zero, suc, ◌+◌, ◌*◌, ◌≤◌, ◌<◌}
 use mathlib.Core.Path.{◌≡◌, refl, sym, ◌∙◌}
 use mathlib.Core.List.{List, [], ◌∷◌, ◌++◌}
-use mathlib.Core.Option.{Option, none, some}
+use Rattle.std.specs.Prelude.{Option, None, Some}
 use native.Mathlib.Nat.{mul-le-mul_right}
 use native.Mathlib.Omega.{arith}
 use lib.ListN.{length, take}
@@ -26,12 +26,12 @@ abbrev most : List ℕ → ℕ
 most key = most_bytes key 1
 
 module _ (key : List ℕ) (limit : ℕ) (line : List ℕ) where
-  entry_short : (v : ℕ) → entry_in key limit line ≡ some v → length line ≤ most key
+  entry_short : (v : ℕ) → entry_in key limit line ≡ Some v → length line ≤ most key
   entry_short v e = line_short key 1 (v ∷ []) line (entry_number key line limit v e).1
 
-  long_none : (o : Option ℕ) → entry_in key limit line ≡ o → most key < length line → o ≡ none
-  long_none none e h = refl
-  long_none (some v) e h = absurd (omega (arith, entry_short v e))
+  long_none : (o : Option ℕ) → entry_in key limit line ≡ o → most key < length line → o ≡ None
+  long_none None e h = refl
+  long_none (Some v) e h = absurd (omega (arith, entry_short v e))
 
 -- before the first line; and after it, with the numbers read and how many are due
 data Place : Type 0 where
@@ -48,7 +48,7 @@ module _ (title key : List ℕ) (r : Ranges) where
   ahead begun = most title + r.most * most key
   ahead (within got due) = due * most key
 
-  long_count : (line : List ℕ) → most title < length line → count_in title r line ≡ none
+  long_count : (line : List ℕ) → most title < length line → count_in title r line ≡ None
   long_count line h = count_none title r line (long_none title (suc r.most) line _ refl h)
 
   long : (p : Place) (line other : List ℕ) (rest more : List (List ℕ)) → ahead p < length line → ahead p < length other
@@ -66,8 +66,8 @@ module _ (title key : List ℕ) (r : Ranges) where
     Alike p = ((q : Place) → ahead q + length line ≤ ahead p → read q rest ≡ read q more) → read p (line ∷ rest) ≡ read p (line ∷ more)
 
     count_same : (o : Option ℕ) → count_in title r line ≡ o → Alike begun
-    count_same none e f = count_wrong title key r line rest e ∙ sym (count_wrong title key r line more e)
-    count_same (some count) e f =
+    count_same None e f = count_wrong title key r line rest e ∙ sym (count_wrong title key r line more e)
+    count_same (Some count) e f =
         let n = (count_told title r line count e).1 in
         let few = mul-le-mul_right (most key) (entry_number title line (suc r.most) count n).0 in
         count_right title key r line rest count e
@@ -75,8 +75,8 @@ module _ (title key : List ℕ) (r : Ranges) where
         ∙ sym (count_right title key r line more count e)
 
     entry_same : (got : List ℕ) (due : ℕ) (o : Option ℕ) → entry_in key (bound_at r (length got)) line ≡ o → Alike (within got (suc due))
-    entry_same got due none e f = line_wrong key (bound_at r) got line rest due e ∙ sym (line_wrong key (bound_at r) got line more due e)
-    entry_same got due (some v) e f =
+    entry_same got due None e f = line_wrong key (bound_at r) got line rest due e ∙ sym (line_wrong key (bound_at r) got line more due e)
+    entry_same got due (Some v) e f =
         line_right key (bound_at r) got line rest due v e
         ∙ f (within (got ++ (v ∷ [])) due) (omega (arith, entry_short key (bound_at r (length got)) line v e))
         ∙ sym (line_right key (bound_at r) got line more due v e)

@@ -4,7 +4,7 @@
 use Prim.Native.Nat.{ℕ, ◌+◌, ◌-◌, ◌*◌, ◌≤◌, ◌<◌}
 use mathlib.Core.Path.{◌≡◌, refl, sym, ◌∙◌, ap}
 use mathlib.Core.List.{List, [], ◌∷◌}
-use mathlib.Core.Option.{Option, none, some}
+use Rattle.std.specs.Prelude.{Option, None, Some}
 use native.Mathlib.Omega.{arith}
 use native.Mathlib.Decide.{dec_lt}
 use lib.ListN.{length, get_or, take}
@@ -30,7 +30,7 @@ use Rattle.reader.proofs.ReadLaws.{line_right, line_wrong}
 abbrev most : Line → ℕ
 most k = most_bytes (form_of k).key (form_of k).width
 
-numbers_short : (k : Line) (line r : List ℕ) → line_numbers k line ≡ some r → length line ≤ most k
+numbers_short : (k : Line) (line r : List ℕ) → line_numbers k line ≡ Some r → length line ≤ most k
 unfolding line_numbers
 numbers_short k line r e = line_short (form_of k).key (form_of k).width r line e
 
@@ -129,8 +129,8 @@ module _ (s : Reading) where
   module _ (n : ℕ) (formed : FormedSoFar s) where
     long_by : (line : List ℕ) (o : Option (List ℕ)) → line_numbers s.next line ≡ o → ahead_of s < length line → reason o ≡ 1
     unfolding fault
-    long_by line none e h = refl
-    long_by line (some r) e h = absurd (omega (arith, numbers_short s.next line r e, (falls_at r s.next formed.room).0))
+    long_by line None e h = refl
+    long_by line (Some r) e h = absurd (omega (arith, numbers_short s.next line r e, (falls_at r s.next formed.room).0))
 
     -- a line that is longer than all that may come is of wrong form
     long_wrong : (line : List ℕ) (rest : List (List ℕ)) → ahead_of s < length line → read_from n s (line ∷ rest) ≡ refused 1 (n + 1)
@@ -144,7 +144,7 @@ module _ (s : Reading) where
       both_wrong : (reason (line_numbers s.next line) ≡ 0 → ⊥) → read_from n s (line ∷ rest) ≡ read_from n s (line ∷ more)
       both_wrong h = line_wrong n s line rest h ∙ sym (line_wrong n s line more h)
 
-      both_right : (r : List ℕ) → line_numbers s.next line ≡ some r → reason (line_numbers s.next line) ≡ 0
+      both_right : (r : List ℕ) → line_numbers s.next line ≡ Some r → reason (line_numbers s.next line) ≡ 0
           → read_from n s (line ∷ rest) ≡ read_from n s (line ∷ more)
       unfolding taken
       both_right r e z =
@@ -156,8 +156,8 @@ module _ (s : Reading) where
 
       both_by : (o : Option (List ℕ)) → line_numbers s.next line ≡ o → read_from n s (line ∷ rest) ≡ read_from n s (line ∷ more)
       unfolding fault
-      both_by none e = both_wrong (λ z. let y : ◌≡◌ {A = ℕ} 0 1 = sym z ∙ ap reason e in omega arith)
-      both_by (some r) e = elim (dec_lt 0 (reason (line_numbers s.next line))) [
+      both_by None e = both_wrong (λ z. let y : ◌≡◌ {A = ℕ} 0 1 = sym z ∙ ap reason e in omega arith)
+      both_by (Some r) e = elim (dec_lt 0 (reason (line_numbers s.next line))) [
         | yes h ↦ both_wrong (λ z. omega arith)
         | no h ↦ both_right r e (omega arith)
       ]

@@ -3,7 +3,7 @@
 -- Assumes nothing.
 use Prim.Native.Nat.{ℕ}
 use mathlib.Core.Path.{◌≡◌, refl, ap}
-use mathlib.Core.Option.{Option, some}
+use Rattle.std.specs.Prelude.{Option, Some}
 use mathlib.Core.List.{List, [], ◌∷◌, ◌++◌, map, Memᴰ}
 use native.Mathlib.Omega.{arith}
 use Rattle.laws.proofs.Tests.{never}
@@ -51,7 +51,7 @@ unfoldable judged : Case → Checked Computed
 judged c = next (loading (handed_by_program c.texts)) (λ o. passed (computed_of o))
 
 abbrev said : Case → Checked Computed
-said c = passed (record { positions = c.positions; steps = c.steps; says = some c.says })
+said c = passed (record { positions = c.positions; steps = c.steps; says = Some c.says })
 
 -- the cases of requests
 abbrev others : List Case
@@ -74,7 +74,7 @@ judged_right c e = by (loading (handed_by_program c.texts)) refl e
   where
     by : (k : Checked Offer) → loading (handed_by_program c.texts) ≡ k → next k (λ o. passed (computed_of o)) ≡ said c → Right c
     by (passed o) f g =
-        let z : computed_of o ≡ record { positions = c.positions; steps = c.steps; says = some c.says } = cc in
+        let z : computed_of o ≡ record { positions = c.positions; steps = c.steps; says = Some c.says } = cc in
         let accepted = ((accepted_iff (handed_by_program c.texts) o).0 f).texts.its_task in
         let j = verdict_by_judged (domain_of o.task) (program_of o.task.job) (position_count o.task.job) (omega arith) o.entries in
         record {

@@ -3,7 +3,7 @@
 -- Assumes nothing.
 use Prim.Native.Nat.{ℕ}
 use mathlib.Core.Path.{◌≡◌, refl, sym, ◌∙◌, ap, subst}
-use mathlib.Core.Option.{Option, some}
+use Rattle.std.specs.Prelude.{Option, Some}
 use mathlib.Core.List.{List}
 use Rattle.laws.proofs.Tests.{never}
 use Rattle.job.specs.declared.refusal.Refusal.{Refusal}
@@ -47,7 +47,7 @@ one_table : (v : View) {old new other : List ℕ} → TableOf v old new → Tabl
 one_table v x y = filled_unique v.domain (view_steps v) (positions_of v) _ _ _ x y
 
 one_least : {v : View} {c d : Option ℕ} → LeastIs v c → LeastIs v d → c ≡ d
-one_least {v} (costs x) (costs y) = ap some (least_unique v.domain v.program _ _ x y)
+one_least {v} (costs x) (costs y) = ap Some (least_unique v.domain v.program _ _ x y)
 one_least (costs x) (no_plan f) = absurd (f x.best x.allowed)
 one_least (no_plan f) (costs y) = absurd (f y.best y.allowed)
 one_least (no_plan f) (no_plan g) = refl

@@ -4,7 +4,7 @@ use Prim.Native.Nat.{ℕ, ◌+◌, ◌≤◌}
 use mathlib.Core.Path.{◌≡◌, refl, subst}
 use mathlib.Core.Bool.{true, cond}
 use mathlib.Core.List.{List, [], ◌∷◌}
-use mathlib.Core.Option.{Option, none, some}
+use Rattle.std.specs.Prelude.{Option, None, Some}
 use native.Mathlib.Omega.{arith}
 use lib.Dec.{eqb, leb}
 use lib.ListN.{get_or}
@@ -49,8 +49,8 @@ reason_small End c r = omega arith
 
 fault_small : (next : Line) (c : Counts) (o : Option (List ℕ)) → fault next c o ≤ 3
 unfolding fault
-fault_small next c none = omega arith
-fault_small next c (some r) = reason_small next c r
+fault_small next c None = omega arith
+fault_small next c (Some r) = reason_small next c r
 
 reading_refuses : (n : ℕ) (s : Reading) (ls : List (List ℕ)) → Ranged (read_from n s ls)
 unfolding read_from ended

@@ -4,7 +4,7 @@
 -- Assumes nothing.
 use Prim.Native.Nat.{ℕ}
 use mathlib.Core.Path.{◌≡◌, refl, sym, ◌∙◌, ap, subst}
-use mathlib.Core.Option.{some}
+use Rattle.std.specs.Prelude.{Some}
 use native.Mathlib.Omega.{arith}
 use lib.ListN.{length}
 use Rattle.laws.proofs.Tests.{never}
@@ -66,7 +66,7 @@ module _ (t : Texts) (old : LentOutput) (o : Offer) (accepted : Accepted (checki
     says_plan = allowed_plan v.domain v.program o.entries allowed
 
     -- its moves are the job's, and lead somewhere; costs fit their column
-    leads : state_after D D.start o.entries ≡ some (plan_leads v.domain v.program says_plan).0
+    leads : state_after D D.start o.entries ≡ Some (plan_leads v.domain v.program says_plan).0
     leads = (plan_leads v.domain v.program says_plan).1
 
     entries : EntriesBelow o.entries D.moves
@@ -105,8 +105,8 @@ module _ (t : Texts) (old : LentOutput) (o : Offer) (accepted : Accepted (checki
     pub sheet_repeats : (Allowed (view_of o).domain (view_of o).program o.entries → ⊥)
         → (w : Verdict) × (sheet_outcome answer ≡ passed (said w)) × (new.output ≡ old.output)
         × Answers (CheckDone Moves) old.list (view_in (checking Moves t (length old.list))) (passed w) new.list
-    sheet_repeats none =
-        let (w, s, e, f) = repeated promised_here refl (λ k p. none (plan_allowed v.domain v.program o.entries p)) in (
+    sheet_repeats None =
+        let (w, s, e, f) = repeated promised_here refl (λ k p. None (plan_allowed v.domain v.program o.entries p)) in (
           w,
           e,
           ap (λ (x : LentOutput). x.output) f,

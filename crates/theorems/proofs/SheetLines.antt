@@ -3,7 +3,7 @@
 use Prim.Native.Nat.{ℕ, zero, suc, ◌-◌, ◌≤◌}
 use mathlib.Core.Path.{◌≡◌, refl, sym, ◌∙◌, ap, subst}
 use mathlib.Core.Bool.{true}
-use mathlib.Core.Option.{some}
+use Rattle.std.specs.Prelude.{Some}
 use mathlib.Core.List.{List, [], ◌∷◌, ◌++◌, map}
 use native.Mathlib.Omega.{arith}
 use lib.ListN.{length, replicate}
@@ -65,7 +65,7 @@ module _ (D : Domain) (ms : List ℕ) where
     sheet_lines_whole = subst (All WholeLine) (sym sheet_lines) (pages_whole D b few ms e)
 
   -- "A page has 60 lines"
-  pub sheet_pages : {u : ℕ} → state_after D D.start ms ≡ some u → length (lines (sheet_of D ms)) ≡ page_lines (length ms)
+  pub sheet_pages : {u : ℕ} → state_after D D.start ms ≡ Some u → length (lines (sheet_of D ms)) ≡ page_lines (length ms)
   sheet_pages leads = ap length sheet_lines ∙ pages_count D ms leads
 
 -- as the header says: 124,620 bytes are enough for every plan

@@ -3,7 +3,7 @@
 -- Assumes nothing.
 use Prim.Native.Nat.{ℕ, zero, suc, ◌+◌, ◌-◌, ◌≤◌, ◌<◌}
 use mathlib.Core.Path.{◌≡◌, refl, sym, ◌∙◌, ap}
-use mathlib.Core.Option.{Option, none, some}
+use Rattle.std.specs.Prelude.{Option, None, Some}
 use mathlib.Core.List.{List, [], ◌∷◌, ◌++◌, map}
 use native.Mathlib.Omega.{arith}
 use lib.ListN.{length, get_or, take, replicate, length-map, get_or-replicate, get_or-append}
@@ -41,23 +41,23 @@ unfolding cost
 cost_none D s = refl
 
 module _ (D : Domain) where
-  shows_from : (ms : List ℕ) (s n total u : ℕ) → state_after D s ms ≡ some u → (i : ℕ) → i < length ms
+  shows_from : (ms : List ℕ) (s n total u : ℕ) → state_after D s ms ≡ Some u → (i : ℕ) → i < length ms
       → ShowsFrom D s n total ms i (get_or (plan_lines_from D s n total ms) i no_line)
   unfolding plan_lines_from state_after
   shows_from [] s n total u e i h = absurd (omega arith)
   shows_from (m ∷ ms) s n total u e i h = by (D.successor m s) refl e i h (λ t. shows_from ms t (suc n) (total + D.cost m s) u)
     where
-      by : (o : Option ℕ) → D.successor m s ≡ o → elim o [ none ↦ none | some t ↦ state_after D t ms ] ≡ some u → (i : ℕ) → i < suc (length ms)
-          → ((t : ℕ) → state_after D t ms ≡ some u → (j : ℕ) → j < length ms
+      by : (o : Option ℕ) → D.successor m s ≡ o → elim o [ None ↦ None | Some t ↦ state_after D t ms ] ≡ Some u → (i : ℕ) → i < suc (length ms)
+          → ((t : ℕ) → state_after D t ms ≡ Some u → (j : ℕ) → j < length ms
           → ShowsFrom D t (suc n) (total + D.cost m s) ms j (get_or (plan_lines_from D t (suc n) (total + D.cost m s) ms) j no_line))
           → ShowsFrom D s n total (m ∷ ms) i
           (get_or (line_at D s n total m ∷ lines_after D (suc n) (total + D.cost m s) ms o) i no_line)
-      by none f e i h g = never (cc)
-      by (some t) f e zero h g =
+      by None f e i h g = never (cc)
+      by (Some t) f e zero h g =
           let one : cost D s [] + D.cost m s ≡ cost D s (m ∷ []) = omega (arith, cost_none D s, cost_one D s t m f) in
           let sum : total + D.cost m s ≡ total + cost D s (m ∷ []) = omega (arith, cost_one D s t m f) in
           record { row = omega arith; action = refl; adds = one; total_is = sum }
-      by (some t) f e (suc j) h g =
+      by (Some t) f e (suc j) h g =
           let x = g t e j (omega arith) in
           record {
             row = omega (arith, x.row);
@@ -66,14 +66,14 @@ module _ (D : Domain) where
             total_is = omega (arith, x.total_is, cost_first D s t m (take (suc j) ms) f);
           }
 
-  pub sheet_shows : (ms : List ℕ) {u : ℕ} → state_after D D.start ms ≡ some u → (i : ℕ) → i < length ms
+  pub sheet_shows : (ms : List ℕ) {u : ℕ} → state_after D D.start ms ≡ Some u → (i : ℕ) → i < length ms
       → Shows D ms i (get_or (plan_lines D ms) i no_line)
   sheet_shows ms {u} e i h =
       let x = shows_from ms D.start 0 0 u e i h in
       record { row = omega (arith, x.row); action = x.action; adds = x.adds; total = omega (arith, x.total_is) }
 
 -- of moves that lead somewhere: where each line stands in the sheet's text
-module _ (D : Domain) (ms : List ℕ) {u : ℕ} (leads : state_after D D.start ms ≡ some u) where
+module _ (D : Domain) (ms : List ℕ) {u : ℕ} (leads : state_after D D.start ms ≡ Some u) where
   abbrev rows : List (List ℕ)
   rows = map line_bytes (plan_lines D ms)
 

@@ -4,7 +4,7 @@ use Prim.Native.Nat.{ℕ, suc, ◌+◌, ◌^◌, ◌≤◌, ◌<◌}
 use mathlib.Core.Path.{◌≡◌, refl, sym, ◌∙◌, ap, subst}
 use mathlib.Core.Bool.{true}
 use mathlib.Core.List.{List, [], ◌∷◌, ◌++◌, map, flatten, append_assoc, append-nil}
-use mathlib.Core.Option.{some}
+use Rattle.std.specs.Prelude.{Some}
 use native.Mathlib.Omega.{arith}
 use native.Mathlib.Nat.{pow-le-pow_right}
 use lib.Dec.{ltb}
@@ -81,7 +81,7 @@ text_line : (s : Reading) (n a : ℕ) (ns : List ℕ) (rest : List (List ℕ)) �
 unfolding line_numbers taken fault
 text_line s n a ns rest w t x =
     let k = s.next in
-    let e : line_numbers k (line_of k (a ∷ ns)) ≡ some (a ∷ ns) = line_complete (form_of k).key (form_of k).width a ns w t in
+    let e : line_numbers k (line_of k (a ∷ ns)) ≡ Some (a ∷ ns) = line_complete (form_of k).key (form_of k).width a ns w t in
     line_right n s (line_of k (a ∷ ns)) rest (a ∷ ns) e (rw (e, x))
 
 one_line : (h : Heading) (due : ℕ) (j : J.Job) (n a : ℕ) (rest : List (List ℕ)) → a ≤ 65535 → (range_of h (counts_of j)).from ≤ a

@@ -3,7 +3,7 @@
 use Prim.Native.Nat.{ℕ, zero, suc, ◌+◌, ◌-◌, ◌≤◌, ◌<◌}
 use mathlib.Core.Path.{◌≡◌, refl, sym, ◌∙◌, ap, subst}
 use mathlib.Core.List.{List, [], ◌∷◌, ◌++◌, map, map-append, flatten, append_assoc, append-nil}
-use mathlib.Core.Option.{some}
+use Rattle.std.specs.Prelude.{Some}
 use native.Mathlib.Omega.{arith}
 use lib.ListN.{length, get_or, take, drop, length-append, length-drop}
 use lib.Seq.{take_all, take-nil, take-append-le, drop-append-le}
@@ -271,7 +271,7 @@ module _ (s : Reading) (r : List ℕ) where
   open_at End o = o
 
 -- a line that has numbers is their text
-numbers_text : (k : Line) (line r : List ℕ) → line_numbers k line ≡ some r → (length r ≡ (form_of k).width) × (line ≡ line_of k r)
+numbers_text : (k : Line) (line r : List ℕ) → line_numbers k line ≡ Some r → (length r ≡ (form_of k).width) × (line ≡ line_of k r)
 unfolding line_numbers
 numbers_text k line r e = let v = line_sound (form_of k).key (form_of k).width r line e in (v.0.count, v.1)
 

@@ -1,7 +1,7 @@
 -- Request (g), as written: what a list of moves costs, summed along its states (document 02: worlds), and
 -- the least of such sums. It cites the class costs, and no definition of what a move costs.
 use Rattle.std.specs.Prelude.{ℕ, ◌+◌, ◌≤◌, ◌≡◌, true, false, List, [], ◌∷◌}
-use Rattle.std.proofs.Math.Option.{some}
+use Rattle.std.specs.Prelude.{Some}
 use Rattle.job.specs.Job.{move_at}
 use Rattle.job.specs.Task.{Task, class_cost}
 use Rattle.semantics.specs.Plan.{Allowed}
@@ -19,9 +19,9 @@ second_cost t m = class_cost t.costs (move_at t.job m).second
 -- before the move"; the moves after it start from the state after it
 pub data CostsAlong (t : Task) : ℕ → List ℕ → ℕ → Type 0 where
   no_move : {w : ℕ} → CostsAlong t w [] 0
-  first_alone : {w u m : ℕ} {ms : List ℕ} {c : ℕ} → (domain_of t).holds (move_at t.job m).when w ≡ false → (domain_of t).successor m w ≡ some u
+  first_alone : {w u m : ℕ} {ms : List ℕ} {c : ℕ} → (domain_of t).holds (move_at t.job m).when w ≡ false → (domain_of t).successor m w ≡ Some u
       → CostsAlong t u ms c → CostsAlong t w (m ∷ ms) (first_cost t m + c)
-  with_second : {w u m : ℕ} {ms : List ℕ} {c : ℕ} → (domain_of t).holds (move_at t.job m).when w ≡ true → (domain_of t).successor m w ≡ some u
+  with_second : {w u m : ℕ} {ms : List ℕ} {c : ℕ} → (domain_of t).holds (move_at t.job m).when w ≡ true → (domain_of t).successor m w ≡ Some u
       → CostsAlong t u ms c → CostsAlong t w (m ∷ ms) (first_cost t m + second_cost t m + c)
 
 -- "A plan's cost is summed along its worlds"

@@ -1,7 +1,7 @@
 -- Demand 3, as written: what an outcome of the judge says of an offered list of moves that the
 -- program allows.
 use Rattle.std.specs.Prelude.{ℕ, ◌≡◌, ◌↔◌, ◌⊎◌}
-use Rattle.std.proofs.Math.Option.{Option, none, some}
+use Rattle.std.specs.Prelude.{Option, None, Some}
 use Rattle.semantics.specs.Plan.{cost, Least}
 use Rattle.semantics.specs.Verdict.{Verdict, plan}
 use Rattle.semantics.specs.Judgement.{Judgement, least, dearer, other}
@@ -36,6 +36,6 @@ verdict_in (other v) = v
 
 -- the least cost that it names
 abbrev pub least_in : Judgement → Option ℕ
-least_in (least cost) = some cost
-least_in (dearer cost low) = some low
-least_in (other v) = none
+least_in (least cost) = Some cost
+least_in (dearer cost low) = Some low
+least_in (other v) = None

@@ -1,7 +1,7 @@
 -- "Source document 000 gives the same meaning by traces, without the star and any": the meaning of a
 -- program by its parts, where no residual program occurs.
 use Rattle.std.specs.Prelude.{ℕ, ◌<◌, ◌≡◌, true, false, List, [], ◌∷◌, ◌++◌}
-use Rattle.std.proofs.Math.Option.{some}
+use Rattle.std.specs.Prelude.{Some}
 use Rattle.semantics.specs.Domain.{Domain}
 use Rattle.semantics.specs.Program.{Program, nil, move, any, test, seq, if_else, choice, while, star, pick, put}
 
@@ -10,8 +10,8 @@ use Rattle.semantics.specs.Program.{Program, nil, move, any, test, seq, if_else,
 pub data Trace (D : Domain) : ℕ → Program → List ℕ → ℕ → Type 0 where
   of_nil : {s : ℕ} → Trace D s nil [] s
   -- "n = 1 and a₀ = a"
-  of_move : {a s t : ℕ} → D.successor a s ≡ some t → Trace D s (move a) (a ∷ []) t
-  of_any : {a s t : ℕ} → a < D.moves → D.successor a s ≡ some t → Trace D s any (a ∷ []) t
+  of_move : {a s t : ℕ} → D.successor a s ≡ Some t → Trace D s (move a) (a ∷ []) t
+  of_any : {a s t : ℕ} → a < D.moves → D.successor a s ≡ Some t → Trace D s any (a ∷ []) t
   -- "n = 0 and ϕ holds in s₀"
   of_test : {a s : ℕ} → D.holds a s ≡ true → Trace D s (test a) [] s
   -- "there exists an i such that s₀a₀…sᵢ is a trace of p₁ and sᵢaᵢ…sₙ is a trace of p₂"

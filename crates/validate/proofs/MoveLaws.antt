@@ -3,7 +3,7 @@
 use Prim.Native.Nat.{ℕ, ◌+◌, ◌-◌, ◌*◌, ◌≤◌, ◌<◌}
 use mathlib.Core.Path.{◌≡◌, sym, ◌∙◌, ap}
 use mathlib.Core.Bool.{Bool, true, false}
-use mathlib.Core.Option.{none, some}
+use Rattle.std.specs.Prelude.{None, Some}
 use mathlib.Core.List.{List}
 use native.Mathlib.Omega.{arith}
 use lib.ListN.{length, get_or, set, replicate}
@@ -95,7 +95,7 @@ module _ (head : Head) (rows list : List ℕ) (plan : List ℕ) where
         abbrev here : Configurations
         here = record { state = state; marks = S.marks }
 
-        stops : move_on D L here m ≡ none → blocked i ≡ whole
+        stops : move_on D L here m ≡ None → blocked i ≡ whole
         stops = left_blocked D M plan whole x.left h
 
         -- the move is not applicable
@@ -105,7 +105,7 @@ module _ (head : Head) (rows list : List ℕ) (plan : List ℕ) where
         module _ {a : Successor} {next : ℕ} (to : a ≡ To next) (after : successor_in a ≡ D.successor m state) (told : List Bool) (tells : Tells D next told)
             (A : List Bool) (B : PositionSet) (advanced : A ≡ spread (is_move m) (steps_on list) S.marks (replicate most_positions false))
             (closed : B.marks ≡ closure (silent_by told) (steps_on list) A) (counted : CountedSet B) where
-          made : D.successor m state ≡ some next
+          made : D.successor m state ≡ Some next
           made = sym after ∙ ap successor_in to
 
           is_next : B.marks ≡ next_set D L next m S.marks
@@ -117,10 +117,10 @@ module _ (head : Head) (rows list : List ℕ) (plan : List ℕ) where
           checking_stuck f =
               stops (moves_nowhere D L here m next made (ap any_mark (sym is_next) ∙ count_zero B.marks (sym counted.counted ∙ f)))
 
-          goes_on : (B.count ≡ 0 → ⊥) → move_on D L here m ≡ some (record { to = record { state = next; marks = B.marks }; cost = D.cost m state })
+          goes_on : (B.count ≡ 0 → ⊥) → move_on D L here m ≡ Some (record { to = record { state = next; marks = B.marks }; cost = D.cost m state })
           goes_on f =
               moves_somewhere D L here m next made (ap any_mark (sym is_next) ∙ count_some B.marks (omega (arith, counted.counted, f)))
-              ∙ ap (λ (T : List Bool). some (record { to = record { state = next; marks = T }; cost = D.cost m state })) (sym is_next)
+              ∙ ap (λ (T : List Bool). Some (record { to = record { state = next; marks = T }; cost = D.cost m state })) (sym is_next)
 
           pub checking_more : (B.count ≡ 0 → ⊥) → {c : ℕ} → c ≡ D.cost m state → c ≤ most_cost → length told ≡ most_formulas
               → Checking next told B (cost + c) (i + 1)

@@ -2,7 +2,7 @@
 -- Assumes nothing.
 use Prim.Native.Nat.{ℕ, ◌+◌, ◌*◌, ◌≤◌, ◌<◌}
 use mathlib.Core.Path.{◌≡◌, sym, ◌∙◌}
-use mathlib.Core.Option.{Option, none, some}
+use Rattle.std.specs.Prelude.{Option, None, Some}
 use mathlib.Core.List.{List}
 use native.Mathlib.Omega.{arith}
 use lib.Dec.{eqb}
@@ -24,7 +24,7 @@ module _ (D : Domain) (s p : ℕ) {L : List Step} {i from to : ℕ} {l : Label} 
   pub made_here : {o : Option (Arrival Configuration)} → from ≡ p → o ≡ arrives D l s to → o ≡ made D L i s p
   made_here e f = f ∙ sym (made_at D s p is ∙ rw (eq-eqb from p e))
 
-  pub made_nowhere : (from ≡ p → ⊥) → none ≡ made D L i s p
+  pub made_nowhere : (from ≡ p → ⊥) → None ≡ made D L i s p
   made_nowhere e = sym (made_at D s p is ∙ rw (ne_eqb from p e))
 
 -- after i entries at this cost, in a state and at a position
@@ -40,10 +40,10 @@ module _ {D : Domain} {most : ℕ} {L : List Step} {e : ℕ} {plan : List ℕ} w
 
   module _ {s p c i : ℕ} (x : Stepping D most L e plan s p c i) where
     module _ (h : i < length plan) where
-      pub stepping_blocked : none ≡ made D L (get_or plan i 0) s p → blocked i ≡ step_verdict D L e plan
+      pub stepping_blocked : None ≡ made D L (get_or plan i 0) s p → blocked i ≡ step_verdict D L e plan
       stepping_blocked n = left_blocked D _ plan _ x.left h (sym n)
 
-      pub stepping_more : Bounded D most → {a : Arrival Configuration} → some a ≡ made D L (get_or plan i 0) s p
+      pub stepping_more : Bounded D most → {a : Arrival Configuration} → Some a ≡ made D L (get_or plan i 0) s p
           → Stepping D most L e plan a.to.state a.to.position (c + a.cost) (i + 1)
       stepping_more b n =
           let v = made_bounded D b L (get_or plan i 0) s p x.state (sym n) in

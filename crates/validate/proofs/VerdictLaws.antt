@@ -4,7 +4,7 @@
 use Prim.Native.Nat.{ℕ, suc, ◌+◌, ◌≤◌, ◌<◌}
 use mathlib.Core.Path.{◌≡◌, refl, sym, ◌∙◌, ap}
 use mathlib.Core.Bool.{Bool, true, false}
-use mathlib.Core.Option.{none, some}
+use Rattle.std.specs.Prelude.{None, Some}
 use mathlib.Core.List.{List, ◌∷◌}
 use native.Mathlib.Omega.{arith}
 use native.Mathlib.Numerals.{add-one}
@@ -67,10 +67,10 @@ module _ (D : Domain) (M : Machine) (plan : List ℕ) (all : Verdict) where
       next : all ≡ later c i (verdict_from D M here (get_or plan i 0 ∷ drop (suc i) plan))
       next = x.same ∙ ap (λ (l : List ℕ). later c i (verdict_from D M here l)) (drop-cons plan i 0 h)
 
-      pub left_blocked : M.take here (get_or plan i 0) ≡ none → blocked i ≡ all
+      pub left_blocked : M.take here (get_or plan i 0) ≡ None → blocked i ≡ all
       left_blocked e = sym (next ∙ ap (later c i) (verdict_blocked D M here _ _ e) ∙ later_blocked c i)
 
-      pub left_more : {a : Arrival M.Config} → M.take here (get_or plan i 0) ≡ some a → Left a.to (c + a.cost) (i + 1)
+      pub left_more : {a : Arrival M.Config} → M.take here (get_or plan i 0) ≡ Some a → Left a.to (c + a.cost) (i + 1)
       left_more {a} e = record {
         within = omega arith;
         same = next ∙ ap (later c i) (verdict_onward D M here _ _ a e) ∙ later_onward c i a.cost _ ∙ rw (add-one i);
