@@ -8,3 +8,5 @@ pub mod ReadJob
 pub mod WellFormed
 pub mod Store
 pub mod Stored
+pub mod Props
+pub mod StoredTask

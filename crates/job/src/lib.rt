@@ -10,3 +10,4 @@ pub mod refusal;
 pub mod rows;
 pub mod states;
 pub mod stored;
+pub mod task;
