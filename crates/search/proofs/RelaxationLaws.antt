@@ -134,7 +134,7 @@ module _ {origin : Origin} {rows list adjacency : List ℕ} {values : List Bool}
 
   module _ (marks₀ : List Bool) (width : length marks₀ ≡ most_positions) (R : Relaxed G (Only queue₀ w (Processed k p marks₀)) T₀) where
     start : (marks : List Bool) → length marks ≡ most_positions → ScanProgress G w p T₀ queue₀ T₀ queue₀ marks (p + 1)
-    start marks e = record { runs = None; size = refl; width = e; key = omega arith; low = omega arith; falls = omega arith; less = omega arith }
+    start marks e = record { runs = none; size = refl; width = e; key = omega arith; low = omega arith; falls = omega arith; less = omega arith }
 
     -- there is nothing to follow
     pub scanned_none : {x : ℕ} {on : Bool} → x ≡ entry G T₀ w p → Idle (get_or marks₀ p false) k x on → on ≡ true

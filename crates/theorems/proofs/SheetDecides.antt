@@ -105,8 +105,8 @@ module _ (t : Texts) (old : LentOutput) (o : Offer) (accepted : Accepted (checki
     pub sheet_repeats : (Allowed (view_of o).domain (view_of o).program o.entries → ⊥)
         → (w : Verdict) × (sheet_outcome answer ≡ passed (said w)) × (new.output ≡ old.output)
         × Answers (CheckDone Moves) old.list (view_in (checking Moves t (length old.list))) (passed w) new.list
-    sheet_repeats None =
-        let (w, s, e, f) = repeated promised_here refl (λ k p. None (plan_allowed v.domain v.program o.entries p)) in (
+    sheet_repeats none =
+        let (w, s, e, f) = repeated promised_here refl (λ k p. none (plan_allowed v.domain v.program o.entries p)) in (
           w,
           e,
           ap (λ (x : LentOutput). x.output) f,
