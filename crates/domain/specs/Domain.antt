@@ -6,6 +6,7 @@ use Rattle.job.specs.Job.{Job, Move, Effect, move_at}
 use Rattle.job.specs.Task.{Task, class_cost}
 use Rattle.job.specs.Store.{task_of}
 use Rattle.job.specs.declared.head.Head.{Head}
+use Rattle.job.specs.declared.task.Task.{Task as StoredTask}
 use Rattle.semantics.specs.Domain.{Domain}
 use Rattle.domain.specs.State.{values}
 use Rattle.domain.specs.Effects.{conflicts, affected}
@@ -48,6 +49,9 @@ domain_of t = record {
 -- the domain of a stored task
 abbrev pub domain_in : Head → List ℕ → Domain
 domain_in head rows = domain_of (task_of head rows)
+
+abbrev pub domain_at : StoredTask → Domain
+domain_at t = domain_in t.head t.rows.now
 
 -- a list of truth values that tells each formula's in a state
 abbrev pub Tells : Domain → ℕ → List Bool → Type 0

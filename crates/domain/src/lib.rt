@@ -7,6 +7,7 @@ pub mod facts;
 pub mod formulas;
 pub mod moves;
 pub mod states;
+pub mod world;
 
 // The state after a move, where it is applicable.
 #[derive(Clone, Copy)]

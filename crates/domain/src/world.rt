@@ -1,0 +1,67 @@
+// A state of a stored task, with the formulas' values in it.
+ghost use Rattle.std.specs.Prelude.{◌≡◌, ◌≤◌, ◌<◌, IfSome};
+ghost use Rattle.limits.specs.Limits.{most_cost};
+ghost use Rattle.domain.specs.Domain.{domain_at, Tells};
+
+use crate::Successor;
+use crate::formulas::VALUES;
+use job::task::Task;
+
+#[derive(Clone, Copy)]
+pub struct World<'t> {
+    pub task: Task<'t>,
+    pub state: u16,
+    pub values: [bool; VALUES],
+    pub ghost inside: { state < (domain_at task).states },
+    pub ghost told: { Tells (domain_at task) state values },
+}
+
+impl<'t> World<'t> {
+    pub fn at(task: &Task<'t>, state: u16) -> World<'t>
+        requires { state < (domain_at task.now).states }
+        ensures { (result.task ≡ task.now) × (result.state ≡ state) }
+    {
+        let values = crate::formulas::formula_values(task.head, task.rows, state);
+        World {
+            task: *task,
+            state: state,
+            values: values,
+        }
+    }
+
+    // Whether a formula holds; one that the task lacks does not.
+    pub fn holds(&self, formula: u16) -> bool
+        ensures { result ≡ (domain_at self.now.task).holds formula self.now.state }
+    {
+        crate::formulas::value_at(&self.values, formula)
+    }
+
+    pub fn goal_holds(&self) -> bool
+        ensures { result ≡ (domain_at self.now.task).goal self.now.state }
+    {
+        self.holds(self.task.head.goal)
+    }
+
+    // The state after move m: none where its precondition fails, or where its effects that hold both
+    // clear and set one fact.
+    pub fn successor(&self, m: u16) -> Option<u16>
+        requires { m < (domain_at self.now.task).moves }
+        ensures after { result ≡ (domain_at self.now.task).successor m self.now.state }
+        ensures within { IfSome result (λ t. t < (domain_at self.now.task).states) }
+    {
+        let task = self.task;
+        match crate::moves::successor(task.head, task.rows, &self.values, m, self.state) {
+            Successor::To(t) => Some(t),
+            Successor::Inapplicable => None,
+        }
+    }
+
+    // What move m costs: its class, and where its formula holds the second one too.
+    pub fn cost(&self, m: u16) -> u64
+        requires { m < (domain_at self.now.task).moves }
+        ensures { (result ≡ (domain_at self.now.task).cost m self.now.state) × (result ≤ most_cost) }
+    {
+        let task = self.task;
+        crate::moves::cost(task.head, task.rows, &self.values, m, self.state)
+    }
+}
