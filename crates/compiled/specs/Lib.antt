@@ -1,5 +1,7 @@
 pub mod Adjacency
+pub mod StepIndex
 pub mod Steps
 pub mod Ready
+pub mod Props
 pub mod Successors
 pub mod Arrival

@@ -1,7 +1,23 @@
 // A compiled job as data: its steps by the positions that they start from, and where a step leads.
 #![tactic(auto)]
 
+ghost use Rattle.compiled.specs.Props.{ready_props};
+ghost use Rattle.compiled.specs.Ready.{Ready};
+
 pub mod adjacency;
 pub mod arrival;
+pub mod index;
 pub mod steps;
 pub mod successors;
+
+use job::task::Task;
+
+// A stored task and the steps of its program: the list holds them and nothing else, four numbers
+// each, and the last of so many positions is the final one.
+#[derive(Clone, Copy)]
+pub struct CompiledJob<'a> {
+    pub task: Task<'a>,
+    pub list: &'a [u16],
+    pub positions: u16,
+    pub ghost ready: { Ready task.head task.rows.now list.now positions } by { Prim.hlevel ready_props },
+}

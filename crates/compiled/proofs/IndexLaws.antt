@@ -1,0 +1,52 @@
+-- Links to the steps from each position, as they are made.
+-- Assumes nothing.
+use Rattle.std.proofs.Common.{◌≡◌, ℕ, ◌+◌, ◌<◌, Bool, true, false, cond, List, Option, None, Some, eqb, get_or, set, replicate, refl, sym, ◌∙◌, ap, add-one, arith}
+use Rattle.std.proofs.Math.ListN.{length-set, length-replicate}
+use Rattle.std.proofs.Math.Seq.{get_or-set_same, get_or-set_other}
+use borrow.Author.Tests.{eqb-true, eqb-false}
+use Rattle.limits.specs.Limits.{most_positions, most_steps}
+use Rattle.laws.proofs.Lists.{replicate_default}
+use Rattle.compiled.specs.Adjacency.{start_in}
+use Rattle.compiled.specs.StepIndex.{last_step_from, step_before, link_of, Linked}
+
+pub same_link : (a b : Option ℕ) → link_of a ≡ link_of b → a ≡ b
+same_link None None e = refl
+same_link None (Some k) e = absurd (omega arith)
+same_link (Some k) None e = absurd (omega arith)
+same_link (Some j) (Some k) e = let z : j ≡ k = omega arith in ap Some z
+
+pub linked_none : (list : List ℕ) → Linked list 0 (replicate most_positions 0) (replicate most_steps 0)
+unfolding last_step_from
+linked_none list = record {
+  positions = length-replicate {A = ℕ} most_positions 0;
+  steps = length-replicate {A = ℕ} most_steps 0;
+  last_from = λ p h. replicate_default {A = ℕ} 0 most_positions p;
+  before_each = λ k h. absurd (omega arith);
+}
+
+-- one step more
+module _ (list last before : List ℕ) (k q : ℕ) (x : Linked list k last before) (room : k < most_steps) (starts : q ≡ start_in list k)
+    (inside : q < most_positions) where
+  last_by : (p : ℕ) → p < most_positions → (b : Bool) → eqb q p ≡ b → get_or (set last q (k + 1)) p 0 ≡ link_of (cond b (Some k) (last_step_from list p k))
+  last_by p h true e = let y : p ≡ q = sym (eqb-true q p e) in ap (λ i. get_or (set last q (k + 1)) i 0) y ∙ get_or-set_same last q (k + 1) 0 (rw x.positions inside) ∙ add-one k
+  last_by p h false e = get_or-set_other last q p (k + 1) 0 (λ y. eqb-false q p e (sym y)) ∙ x.last_from p h
+
+  last_more : (p : ℕ) → last_step_from list p (k + 1) ≡ cond (eqb q p) (Some k) (last_step_from list p k)
+  unfolding last_step_from
+  last_more p = rw (add-one k, starts)
+
+  before_by : (i : ℕ) → i < k + 1 → (b : Bool) → eqb i k ≡ b → get_or (set before k (get_or last q 0)) i 0 ≡ link_of (step_before list i)
+  before_by i h true e =
+      let y : i ≡ k = eqb-true i k e in
+      rw y (get_or-set_same before k (get_or last q 0) 0 (rw x.steps room) ∙ x.last_from q inside ∙ ap (λ p. link_of (last_step_from list p k)) starts)
+  before_by i h false e =
+      let ne : i ≡ k → ⊥ = eqb-false i k e in
+      get_or-set_other before k i (get_or last q 0) 0 ne ∙ x.before_each i (omega arith)
+
+  pub linked_more : Linked list (k + 1) (set last q (k + 1)) (set before k (get_or last q 0))
+  linked_more = record {
+    positions = length-set last q (k + 1) ∙ x.positions;
+    steps = length-set before k (get_or last q 0) ∙ x.steps;
+    last_from = λ p h. last_by p h (eqb q p) refl ∙ ap link_of (sym (last_more p));
+    before_each = λ i h. before_by i h (eqb i k) refl;
+  }

@@ -1,0 +1,67 @@
+// The steps of a list by the positions that they start from.
+ghost use Rattle.std.proofs.Props.{props};
+ghost use Rattle.std.specs.Prelude.{◌≡◌, ◌/◌, ◌<◌, length};
+ghost use Rattle.limits.specs.Limits.{most_positions};
+ghost use Rattle.compiled.specs.Adjacency.{Listed};
+ghost use Rattle.compiled.specs.StepIndex.{last_step_from, step_before, link_of, StepsIndexed};
+
+use crate::steps::OutStep;
+use limits::{POSITIONS, STEPS};
+
+// For each position the last step from it, and for each step the one before it from the same
+// position; counted from 1, and 0 for none.
+pub struct StepIndex<'a> {
+    pub list: &'a [u16],
+    last: [u16; POSITIONS],
+    before: [u16; STEPS],
+    pub ghost indexed: { StepsIndexed list.now last before } by { Prim.hlevel props },
+}
+
+// The step that a link leads to.
+fn linked(link: u16) -> Option<usize>
+    ensures { link_of result ≡ link }
+{
+    (link as usize).checked_sub(1)
+}
+
+impl<'a> StepIndex<'a> {
+    ghost use Rattle.compiled.specs.Steps.{IsStep};
+
+    pub fn of(list: &'a [u16]) -> StepIndex<'a>
+        requires { Listed list.now }
+        ensures { result.list.now ≡ list.now }
+    {
+        let mut last = [0u16; POSITIONS];
+        let mut before = [0u16; STEPS];
+        for k in 0..list.len() / 4 {
+            let from = crate::steps::start_at(list, k) as usize;
+            before[k] = last[from];
+            last[from] = (k + 1) as u16;
+        }
+        StepIndex { list, last, before }
+    }
+
+    // The last step from position p.
+    pub fn last_from(&self, p: usize) -> Option<usize>
+        requires { p < most_positions }
+        ensures { result ≡ last_step_from self.now.list.now p (length self.now.list.now / 4) }
+    {
+        linked(self.last[p])
+    }
+
+    // The step before step k from the same position.
+    pub fn before(&self, k: usize) -> Option<usize>
+        requires { k < length self.now.list.now / 4 }
+        ensures { result ≡ step_before self.now.list.now k }
+    {
+        linked(self.before[k])
+    }
+
+    // Step k.
+    pub fn step(&self, k: usize) -> OutStep
+        requires { k < length self.now.list.now / 4 }
+        ensures { IsStep self.now.list.now k result }
+    {
+        crate::steps::step_at(self.list, k)
+    }
+}
