@@ -11,6 +11,7 @@ ghost use Rattle.compiled.specs.Arrival.{arrival_of, Arrives};
 use crate::steps::OutStep;
 use domain::Successor;
 use job::head::Head;
+use job::task::Task;
 
 // Where a step leads: the state, the position, and what it costs. Nowhere, where it can't be made.
 #[derive(Clone, Copy)]
@@ -42,7 +43,7 @@ fn by_move(
     ensures { Arrives (domain_in head rows.now) (make step.arg) state step.to result cache.new }
 {
     let m = step.arg;
-    if domain::moves::move_count(head, rows) <= m {
+    if domain::moves::move_count(&Task { head, rows }) <= m {
         return Arrival::Nowhere;
     }
     let after = crate::successors::successor(head, rows, values, cache, m, state);

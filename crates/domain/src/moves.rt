@@ -2,18 +2,18 @@
 ghost use Rattle.std.specs.Prelude.{◌≡◌, cond, ◌≤◌, ◌<◌};
 ghost use Rattle.job.specs.Stored.{Stored};
 ghost use Rattle.limits.specs.Limits.{most_cost};
-ghost use Rattle.domain.specs.Domain.{domain_in, Tells};
+ghost use Rattle.domain.specs.Domain.{domain_at, domain_in, Tells};
 ghost use Rattle.domain.specs.Successor.{successor_in};
 
 use crate::Successor;
 use job::head::Head;
+use job::task::Task;
 
 // How many moves there are.
-pub fn move_count(head: Head, rows: &[u16]) -> u16
-    requires { Stored head rows.now }
-    ensures { result ≡ (domain_in head rows.now).moves }
+pub fn move_count(task: &Task) -> u16
+    ensures { result ≡ (domain_at task.now).moves }
 {
-    head.counts.moves
+    task.head.counts.moves
 }
 
 // The state after move m, by the formulas' values in the state before: none where its precondition

@@ -1,22 +1,22 @@
 // States: how many there are, where a job starts, and where its goal holds.
-ghost use Rattle.std.specs.Prelude.{◌≡◌};
+ghost use Rattle.std.specs.Prelude.{◌≡◌, ◌<◌};
 ghost use Rattle.job.specs.Stored.{Stored};
-ghost use Rattle.domain.specs.Domain.{domain_in, Tells};
+ghost use Rattle.domain.specs.Domain.{domain_at, domain_in, Tells};
 
 use job::head::Head;
+use job::task::Task;
 
-pub fn state_count(head: Head, rows: &[u16]) -> u16
-    requires { Stored head rows.now }
-    ensures { result ≡ (domain_in head rows.now).states }
+pub fn state_count(task: &Task) -> u16
+    ensures { result ≡ (domain_at task.now).states }
 {
-    job::states::state_count(head.counts.facts)
+    job::states::state_count(task.head.counts.facts)
 }
 
-pub fn start(head: Head, rows: &[u16]) -> u16
-    requires { Stored head rows.now }
-    ensures { result ≡ (domain_in head rows.now).start }
+pub fn start(task: &Task) -> u16
+    ensures start { result ≡ (domain_at task.now).start }
+    ensures inside { result < (domain_at task.now).states }
 {
-    head.init
+    task.head.init
 }
 
 // Whether the goal holds in a state, by the formulas' values in it.

@@ -29,6 +29,13 @@ impl<'t> World<'t> {
         }
     }
 
+    // Where the task starts.
+    pub fn start(task: &Task<'t>) -> World<'t>
+        ensures { (result.task ≡ task.now) × (result.state ≡ (domain_at task.now).start) }
+    {
+        World::at(task, crate::states::start(task))
+    }
+
     // Whether a formula holds; one that the task lacks does not.
     pub fn holds(&self, formula: u16) -> bool
         ensures { result ≡ (domain_at self.now.task).holds formula self.now.state }

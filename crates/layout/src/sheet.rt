@@ -11,6 +11,7 @@ ghost use Rattle.layout.specs.Sheet.{line_size, line_bytes, plan_lines, page_lin
 use crate::line::{LINE, SheetLine, put_blank, put_line};
 use domain::Successor;
 use job::head::Head;
+use job::task::Task;
 
 // Lines of a page.
 const PAGE: usize = 60;
@@ -41,7 +42,7 @@ fn put_lines(head: Head, rows: &[u16], plan: &[u16], out: &mut [u8]) -> usize
     ensures { (out.new ≡ sets out.old 0 (flatten (map line_bytes (plan_lines (domain_in head rows.now) plan.now))))
         × (result ≡ length (plan_lines (domain_in head rows.now) plan.now)) × (result ≤ length plan.now) }
 {
-    let mut state = domain::states::start(head, rows);
+    let mut state = domain::states::start(&Task { head, rows });
     let mut total: u64 = 0;
     let mut i: usize = 0;
     while i < plan.len() {

@@ -9,6 +9,7 @@ ghost use Rattle.load.specs.Loaded.{loaded_as, Measured, Fitting, EntryRoom, cou
 
 use crate::loaded::{Loaded, LoadedJob, list_refusal};
 use crate::request::{Request, Sort};
+use job::task::Task;
 use lists::counted::ListAnswer;
 
 // The entries of a plan for a job with so many moves and steps.
@@ -38,7 +39,7 @@ pub fn load_plan(
     if request.plan {
         let head = job.head;
         let sort = request.sort;
-        let moves = domain::moves::move_count(head, rows);
+        let moves = domain::moves::move_count(&Task { head, rows });
         let read = read_plan(sort, plan, moves, job.sizes.steps, entries);
         let ListAnswer::Read(n) = read else {
             let r = list_refusal(read, 5);

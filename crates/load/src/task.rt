@@ -10,6 +10,7 @@ use crate::loaded::{Loaded, LoadedJob, list_refusal};
 use crate::request::Given;
 use job::head::Head;
 use job::refusal::Refusal;
+use job::task::Task;
 use limits::{CLASSES, POSITIONS, STEPS};
 use lists::counted::ListAnswer;
 use reader::reading::Answer;
@@ -39,7 +40,7 @@ fn load_read(head: Head, rows: &[u16], lines: usize) -> Loaded
     Loaded::Ready(LoadedJob {
         head: head,
         sizes: sizes,
-        states: domain::states::state_count(head, rows),
+        states: domain::states::state_count(&Task { head, rows }),
         entries: 0,
     })
 }

@@ -13,6 +13,7 @@ ghost use Rattle.search.specs.Filling.{Search, Exhausted};
 use crate::{Grid, Origin};
 use compiled::successors::CACHE;
 use job::head::Head;
+use job::task::Task;
 use queue::{NO_KEY, QUEUE};
 
 // Sweeps a state that has a key.
@@ -79,7 +80,7 @@ pub fn fill(costs: &mut [u64], head: Head, rows: &[u16], list: &[u16], grid: Gri
 {
     let positions = grid.positions as usize;
     let states = grid.states as usize;
-    let start = domain::states::start(head, rows);
+    let start = domain::states::start(&Task { head, rows });
     let adjacency = compiled::adjacency::adjacency_of(list);
     let mut queue = [NO_KEY; QUEUE];
     queue::order::order(&mut queue, states);

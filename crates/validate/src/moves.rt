@@ -13,6 +13,7 @@ use crate::position_set::PositionSet;
 use crate::verdict::Verdict;
 use domain::Successor;
 use job::head::Head;
+use job::task::Task;
 
 // The list holds the steps of the job's program, whose last position is the final one.
 pub fn check_moves(head: Head, rows: &[u16], list: &[u16], positions: u16, plan: &[u16]) -> Verdict
@@ -22,7 +23,7 @@ pub fn check_moves(head: Head, rows: &[u16], list: &[u16], positions: u16, plan:
         ≡ verdict_by most_positions (domain_in head rows.now) (program_of (job_of head rows.now)) plan.now }
 {
     let adjacency = compiled::adjacency::adjacency_of(list);
-    let mut state = domain::states::start(head, rows);
+    let mut state = domain::states::start(&Task { head, rows });
     let mut values = domain::formulas::formula_values(head, rows, state);
     let mut set = PositionSet::start().closed(list, &adjacency, &values);
     let mut cost: u64 = 0;

@@ -15,6 +15,7 @@ use crate::verdict::Verdict;
 use compiled::arrival::Arrival;
 use compiled::successors::CACHE;
 use job::head::Head;
+use job::task::Task;
 
 // Step i of the list, made at a position in a state.
 fn make_step(head: Head, rows: &[u16], list: &[u16], i: u16, state: u16, position: u16) -> Arrival
@@ -40,7 +41,7 @@ pub fn check_steps(head: Head, rows: &[u16], list: &[u16], positions: u16, plan:
     ensures { verdict_of result ≡ step_verdict (domain_in head rows.now) (steps_of (job_of head rows.now))
         (final_position_of (job_of head rows.now)) plan.now }
 {
-    let mut state = domain::states::start(head, rows);
+    let mut state = domain::states::start(&Task { head, rows });
     let mut position: u16 = 0;
     let mut cost: u64 = 0;
     let mut i: usize = 0;

@@ -4,9 +4,6 @@ use Rattle.domain.proofs.SuccessorLaws.{successor_past}
 use Rattle.compiled.proofs.ArrivalLaws.{arrives_after, arrives_nowhere}
 use Rattle.compiled.proofs.arrival.by_move.Goals as goal
 
-pub move_count-requires : goal.move_count-requires
-move_count-requires c = c.requires.stored
-
 pub returns-then-move_count-m : goal.returns-then-move_count-m
 returns-then-move_count-m c =
     let a = c.args in

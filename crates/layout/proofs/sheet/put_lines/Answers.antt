@@ -3,12 +3,9 @@ use native.Mathlib.Omega.{arith}
 use Rattle.layout.proofs.LayingLaws.{lining_start, lining_fits, lining_stop, lining_more, lining_end}
 use Rattle.layout.proofs.sheet.put_lines.Goals as goal
 
-pub start-state-requires : goal.start-state-requires
-start-state-requires c = c.requires.stored
-
 pub loop-i-init : goal.loop-i-init
 loop-i-init c =
-    lining_start _ _ _ c.requires.stored c.args.out.now c.start-state.ensures
+    lining_start _ _ _ c.requires.stored c.args.out.now c.start-state.ensures.start
 
 pub formula_values-values-requires : goal.formula_values-values-requires
 formula_values-values-requires c = c.requires.stored

@@ -1,10 +1,6 @@
 use Rattle.load.proofs.OfferLaws.{offer_none, offer_refused, offer_ready}
 use Rattle.load.proofs.offer.load_plan.Goals as goal
 
-pub move_count-moves-requires : goal.move_count-moves-requires
-move_count-moves-requires c =
-    c.requires.0.0.stored
-
 pub read_plan-read-requires : goal.read_plan-read-requires
 read_plan-read-requires c =
     c.requires.1 c.if-request.true

@@ -12,9 +12,6 @@ use Rattle.search.proofs.FillLaws.{start_inside, start_below, start_relaxed, sea
 use borrow.Author.Rules.{rules}
 use Rattle.search.proofs.fill.fill.Goals as goal
 
-pub start-start-requires : goal.start-start-requires
-start-start-requires c = c.requires.ready.0.stored
-
 pub adjacency_of-adjacency-requires : goal.adjacency_of-adjacency-requires
 adjacency_of-adjacency-requires c = ready_listed c.requires.ready.0
 
@@ -30,7 +27,7 @@ lower-requires c =
         size = c.order.ensures.size ∙ length-replicate {A = ℕ} queue_size unreached;
         few = omega (arith, c.requires.ready.1, states_few c.requires.ready.0.stored);
       },
-      omega (arith, c.requires.ready.1, start_inside c.requires.ready.0 c.requires.ready.1 a.costs.now c.requires.positions_in_bounds c.start-start.ensures),
+      omega (arith, c.requires.ready.1, start_inside c.requires.ready.0 c.requires.ready.1 a.costs.now c.requires.positions_in_bounds c.start-start.ensures.start),
     )
 
 pub overflow_mul-states : goal.overflow_mul-states
@@ -51,13 +48,13 @@ cell-requires c =
 pub offset_bounds-costs-cell : goal.offset_bounds-costs-cell
 offset_bounds-costs-cell c =
     let a = c.args in
-    let below = start_below c.requires.ready.0 c.requires.ready.1 a.costs.now c.requires.positions_in_bounds c.start-start.ensures in
+    let below = start_below c.requires.ready.0 c.requires.ready.1 a.costs.now c.requires.positions_in_bounds c.start-start.ensures.start in
     search (rules, below, c.cell.ensures, c.clear.ensures.size)
 
 pub bounds-costs-cell : goal.bounds-costs-cell
 bounds-costs-cell c =
     let a = c.args in
-    let below = start_below c.requires.ready.0 c.requires.ready.1 a.costs.now c.requires.positions_in_bounds c.start-start.ensures in
+    let below = start_below c.requires.ready.0 c.requires.ready.1 a.costs.now c.requires.positions_in_bounds c.start-start.ensures.start in
     omega (arith, below, c.cell.ensures, c.clear.ensures.size)
 
 pub settle-requires : goal.settle-requires
@@ -65,9 +62,9 @@ settle-requires c =
     let r = c.requires.ready.0 in
     let is = c.requires.ready.1 in
     rw c.cell.ensures (record {
-      search = search_ready r is _ c.requires.positions_in_bounds c.start-start.ensures c.clear.ensures c.adjacency_of-adjacency.ensures
+      search = search_ready r is _ c.requires.positions_in_bounds c.start-start.ensures.start c.clear.ensures c.adjacency_of-adjacency.ensures
           (record { size = c.lower.ensures.size ∙ c.order.ensures.size ∙ length-replicate {A = ℕ} queue_size unreached; few = omega (arith, is, states_few r.stored) });
-      relaxed = start_relaxed r is _ c.requires.positions_in_bounds c.start-start.ensures c.clear.ensures c.order.ensures c.lower.ensures;
+      relaxed = start_relaxed r is _ c.requires.positions_in_bounds c.start-start.ensures.start c.clear.ensures c.order.ensures c.lower.ensures;
     })
 
 pub shape_of-costs : goal.shape_of-costs
@@ -76,5 +73,5 @@ shape_of-costs c =
 
 pub returns : goal.returns
 returns c =
-    exhausted_fills c.requires.ready.0 c.requires.ready.1 _ c.requires.positions_in_bounds c.start-start.ensures c.clear.ensures
+    exhausted_fills c.requires.ready.0 c.requires.ready.1 _ c.requires.positions_in_bounds c.start-start.ensures.start c.clear.ensures
     (rw c.cell.ensures at c.settle.ensures)

@@ -10,9 +10,6 @@ use Rattle.validate.proofs.moves.check_moves.Goals as goal
 pub adjacency_of-adjacency-requires : goal.adjacency_of-adjacency-requires
 adjacency_of-adjacency-requires c = ready_listed c.requires.ready
 
-pub start-state-requires : goal.start-state-requires
-start-state-requires c = c.requires.ready.stored
-
 pub formula_values-values-requires : goal.formula_values-values-requires
 formula_values-values-requires c = c.requires.ready.stored
 
@@ -24,7 +21,7 @@ pub loop-i-init : goal.loop-i-init
 loop-i-init c =
     let values = c.formula_values-values in
     let room : length values.result ≡ most_formulas = search rules in
-    checking_start _ _ _ _ c.requires.ready _ c.start-state.ensures _ values.ensures room _ _
+    checking_start _ _ _ _ c.requires.ready _ c.start-state.ensures.start _ values.ensures room _ _
     c.closed-set.ensures.1 c.start.ensures.0 c.closed-set.ensures.0
 
 pub slice_bounds-successor-end : goal.slice_bounds-successor-end

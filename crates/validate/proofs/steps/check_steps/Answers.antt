@@ -5,7 +5,7 @@ use Rattle.validate.proofs.StepLaws.{stepping_start, stepping_blocked, stepping_
 use Rattle.validate.proofs.steps.check_steps.Goals as goal
 
 pub loop-i-init : goal.loop-i-init
-loop-i-init c = stepping_start (job_bounded c.requires.ready) c.start-state.ensures
+loop-i-init c = stepping_start (job_bounded c.requires.ready) c.start-state.ensures.start
 
 pub make_step-step-requires : goal.make_step-step-requires
 make_step-step-requires c =
