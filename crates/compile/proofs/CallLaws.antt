@@ -43,11 +43,11 @@ module _ (h : Head) (l : List ℕ) where
   -- being made
   abbrev pub Fit : ℕ → Cursor → ℕ → List ℕ → ℕ → Type 0
   Fit i from start env places =
-      (Stored h l × (i < h.counts.program) × EnvRight start env × (i < start)) × Enough h.counts (objects_from start env) (of i) from places
+      ((i < h.counts.program) × EnvRight start env × (i < start)) × Enough h.counts (objects_from start env) (of i) from places
 
   abbrev pub PickFit : ℕ → Cursor → ℕ → List ℕ → ℕ → Type 0
   PickFit a from start env places =
-      (Stored h l × (a < h.counts.program) × EnvRight start env × (a + 1 < start)) × Enough h.counts (objects_from start env) (pick (of a)) from places
+      ((a < h.counts.program) × EnvRight start env × (a + 1 < start)) × Enough h.counts (objects_from start env) (pick (of a)) from places
 
 pub told : {f : ℕ → Program} {i : ℕ} {r k : Construct} → r ≡ k → RowSays f i r → RowSays f i k
 told {f} {i} {r} {k} e s = subst (λ (x : Construct). RowSays f i x) e s
@@ -57,7 +57,8 @@ pub in_env : {c : Counts} {e₁ e₂ : List ℕ} {σ : Program} {old new : List 
     → StepsLaid c e₁ σ old from new to
 in_env {c} {e₁} {e₂} {σ} {old} {new} {from} {to} e w = subst (λ (x : List ℕ). StepsLaid c x σ old from new to) e w
 
-module _ {h : Head} {l : List ℕ} {i t places start : ℕ} {from : Cursor} {env : List ℕ} (p : (2 * i ≡ t) × Fit h l i from start env places) where
+module _ {h : Head} {l : List ℕ} {i t places start : ℕ} {from : Cursor} {env : List ℕ} (stored : Stored h l)
+    (p : (2 * i ≡ t) × Fit h l i from start env places) where
   abbrev c : Counts
   c = h.counts
 
@@ -82,7 +83,7 @@ module _ {h : Head} {l : List ℕ} {i t places start : ℕ} {from : Cursor} {env
       → Enough c objects (of h l j) x places → (2 * j < t) × Fit h l j x start env₂ z
   call {j} {z} {x} g e q k r = (
     omega (arith, g, p.0),
-    ((p.1.0.0, omega (arith, g, p.1.0.1), env_kept p.1.0.2 q k, omega (arith, g, p.1.0.3)), rw (k, e) r),
+    ((omega (arith, g, p.1.0.0), env_kept p.1.0.1 q k, omega (arith, g, p.1.0.2)), rw (k, e) r),
   )
 
   -- a position has one after it
@@ -94,7 +95,7 @@ module _ {h : Head} {l : List ℕ} {i t places start : ℕ} {from : Cursor} {env
 
   pub leaf_ok : {s : Simple} → RowSays (of h l) i (Leaf s)
       → (EnvRight start env × BaseRight s × HasObject (objects_from start env) s) × ((from.at + 4 ≤ places) × (from.position < 65535))
-  leaf_ok {s} x = ((p.1.0.2, x.refers, leaf_object x), (omega (arith, (room (Leaf s) x).1), next_ok))
+  leaf_ok {s} x = ((p.1.0.1, x.refers, leaf_object x), (omega (arith, (room (Leaf s) x).1), next_ok))
 
   pub any_ok : RowSays (of h l) i Any → (from.at + c.moves * 4 ≤ places) × (from.position < 65535)
   any_ok x = (omega (arith, (room Any x).1), next_ok)
@@ -170,7 +171,7 @@ module _ {h : Head} {l : List ℕ} {i t places start : ℕ} {from : Cursor} {env
   pub pick_first : {a : ℕ} → RowSays (of h l) i (Pick a) → (2 * a + 1 < t) × PickFit h l a from start env places
   pick_first s = (
     omega (arith, s.refers, p.0),
-    ((p.1.0.0, omega (arith, s.refers, p.1.0.1), p.1.0.2, omega (arith, s.refers, p.1.0.3)), rw s.is at p.1.1),
+    ((omega (arith, s.refers, p.1.0.0), p.1.0.1, omega (arith, s.refers, p.1.0.2)), rw s.is at p.1.1),
   )
 
 -- the first o copies of the body of a pick are laid, and the objects are kept
@@ -185,14 +186,15 @@ abbrev Inside : ℕ → List ℕ → ℕ → ℕ → List ℕ → Type 0
 Inside start env₂ o inside env₃ = (objects_from inside env₃ ≡ o ∷ objects_from start env₂) × EnvRight inside env₃ × (inside + 1 ≡ start)
 
 -- the calls of a pick whose body is row a
-module _ {h : Head} {l : List ℕ} {a t places start : ℕ} {from : Cursor} {env : List ℕ} (p : (2 * a + 1 ≡ t) × PickFit h l a from start env places) where
+module _ {h : Head} {l : List ℕ} {a t places start : ℕ} {from : Cursor} {env : List ℕ} (stored : Stored h l)
+    (p : (2 * a + 1 ≡ t) × PickFit h l a from start env places) where
   pub pick_next : from.position < 65535
   pick_next = omega (arith, p.1.1.positions)
 
   module _ {old list env₂ : List ℕ} {last : Cursor} {o : ℕ} (k : Copied h.counts (of h l a) start env old from o list last env₂)
       (g : o < h.counts.objects) where
     pub inside_ok : EnvRight start env₂ × (0 < start) × (o < most_objects)
-    inside_ok = (env_kept p.1.0.2 k.size k.kept, omega (arith, p.1.0.3), omega (arith, g, (limited p.1.0.0).objects))
+    inside_ok = (env_kept p.1.0.1 k.size k.kept, omega (arith, p.1.0.2), omega (arith, g, (limited stored).objects))
 
     module _ {env₃ : List ℕ} {inside : ℕ} (e : Inside start env₂ o inside env₃) where
       inside_is : objects_from inside env₃ ≡ o ∷ objects_from start env
@@ -202,7 +204,7 @@ module _ {h : Head} {l : List ℕ} {a t places start : ℕ} {from : Cursor} {env
       pub copy_first : length old ≡ places → (2 * a < t) × Fit h l a last inside env₃ (length list)
       copy_first q = (
         omega (arith, p.0),
-        ((p.1.0.0, p.1.0.1, e.1, omega (arith, e.2, p.1.0.3)), copy_room p.1.1 q k.copies g inside_is),
+        ((p.1.0.0, e.1, omega (arith, e.2, p.1.0.2)), copy_room p.1.1 q k.copies g inside_is),
       )
 
       module _ {new env₄ : List ℕ} {x : Cursor} (w : RowLaid h.counts (of h l a) inside env₃ list last new x env₄) where

@@ -1,12 +1,12 @@
 // Program rows of a job.
 ghost use Rattle.std.specs.Prelude.{◌≡◌, ◌<◌};
-ghost use Rattle.job.specs.Store.{job_of, row_in};
-ghost use Rattle.job.specs.Stored.{Stored};
+ghost use Rattle.job.specs.Store.{row_in};
+ghost use Rattle.job.specs.StoredTask.{stored_job};
 ghost use Rattle.compile.specs.Program.{row_program};
 ghost use Rattle.compile.specs.Construct.{construct_of, RowSays};
 
-use job::head::Head;
 use job::stored::ProgramRow;
+use job::task::Task;
 
 // How many program rows a job may have.
 pub const PROGRAM_ROWS: usize = limits::PROGRAM as usize;
@@ -64,10 +64,9 @@ fn construct_of(row: ProgramRow) -> Construct
 }
 
 // Row i of the job's program.
-pub fn construct_at(head: Head, rows: &[u16], i: u16) -> Construct
-    requires stored { Stored head rows.now }
-    requires i_lt_program { i < head.counts.program }
-    ensures { RowSays (row_program (job_of head rows.now).program) i result }
+pub fn construct_at(task: &Task, i: u16) -> Construct
+    requires { i < task.now.head.counts.program }
+    ensures { RowSays (row_program (stored_job task.now).program) i result }
 {
-    construct_of(job::stored::program_row_at(head, rows, i))
+    construct_of(job::stored::program_row_at(task.head, task.rows, i))
 }

@@ -1,12 +1,11 @@
 // Variables and their picks.
 ghost use Rattle.std.specs.Prelude.{◌≡◌, ◌-◌, max, get_or};
-ghost use Rattle.job.specs.Store.{job_of};
-ghost use Rattle.job.specs.Stored.{Stored};
+ghost use Rattle.job.specs.StoredTask.{stored_job};
 ghost use Rattle.compile.specs.CompiledJob.{program_scoped};
 ghost use Rattle.compile.specs.Construct.{leaf_picks, picks_in};
 
 use crate::rows::{Construct, PROGRAM_ROWS, Simple};
-use job::head::Head;
+use job::task::Task;
 
 // The number at an index; 0 where there is none. Variable 65,535 asks for 65,536 picks, so numbers
 // have 32 bits.
@@ -59,19 +58,16 @@ fn construct_picks(construct: Construct, picks: &[u32]) -> u32
 }
 
 // Whether each variable of the job's program has its pick: the last row asks for none around it.
-pub fn program_scoped(head: Head, rows: &[u16]) -> bool
-    requires { Stored head rows.now }
-    ensures { result ≡ program_scoped (job_of head rows.now) }
+pub fn program_scoped(task: &Task) -> bool
+    ensures { result ≡ program_scoped (stored_job task.now) }
 {
-    let n = head.counts.program;
+    let n = task.head.counts.program;
     let mut picks = [0u32; PROGRAM_ROWS];
-    let mut i: u16 = 0;
-    while i < n {
-        let construct = crate::rows::construct_at(head, rows, i);
+    for i in 0..n {
+        let construct = crate::rows::construct_at(task, i);
         let p = construct_picks(construct, &picks);
         let k = i as usize;
         picks[k] = p;
-        i += 1;
     }
     picks_at(&picks, n - 1) == 0
 }

@@ -1,13 +1,13 @@
 // Sizes of program rows, capped so that rows which double each other neither overflow nor take
 // long.
 ghost use Rattle.std.specs.Prelude.{◌≡◌, true, ◌+◌, get_or};
-ghost use Rattle.job.specs.Store.{job_of};
-ghost use Rattle.job.specs.Stored.{Stored};
+ghost use Rattle.job.specs.StoredTask.{stored_job};
 ghost use Rattle.compile.specs.CompiledJob.{position_count, step_count, program_scoped};
 ghost use Rattle.compile.specs.Size.{sizes_sum, copies_size, sizes_in, capped as cap, capped_sizes, listed};
 
 use crate::rows::{Construct, PROGRAM_ROWS};
-use job::head::{Counts, Head};
+use job::head::Counts;
+use job::task::Task;
 use limits::STEPS;
 
 // What every size above a limit is counted as.
@@ -104,22 +104,20 @@ fn construct_sizes(construct: Construct, positions: &[u16], steps: &[u16], count
 
 // The sizes of the compiled job, capped: its program is the last row, and has one position more
 // than it adds.
-pub fn measure(head: Head, rows: &[u16]) -> Sizes
-    requires { Stored head rows.now × (program_scoped (job_of head rows.now) ≡ true) }
-    ensures { (result.positions ≡ cap (position_count (job_of head rows.now))) × (result.steps ≡ cap (step_count (job_of head rows.now))) }
+pub fn measure(task: &Task) -> Sizes
+    requires { program_scoped (stored_job task.now) ≡ true }
+    ensures { (result.positions ≡ cap (position_count (stored_job task.now))) × (result.steps ≡ cap (step_count (stored_job task.now))) }
 {
-    let n = head.counts.program;
-    let counts = head.counts;
+    let counts = task.head.counts;
+    let n = counts.program;
     let mut positions = [0u16; PROGRAM_ROWS];
     let mut steps = [0u16; PROGRAM_ROWS];
-    let mut i: u16 = 0;
-    while i < n {
-        let construct = crate::rows::construct_at(head, rows, i);
+    for i in 0..n {
+        let construct = crate::rows::construct_at(task, i);
         let s = construct_sizes(construct, &positions, &steps, counts);
         let k = i as usize;
         positions[k] = s.positions;
         steps[k] = s.steps;
-        i += 1;
     }
     let last = n - 1;
     Sizes {

@@ -15,6 +15,7 @@ ghost use Rattle.jesmovit.specs.Writing.{Writes, bytes_for, SheetIs, Sheets};
 
 use job::refusal::Refusal;
 use job::rows::STORE;
+use job::task::Task;
 use limits::{ENTRIES, LIST};
 use load::loaded::{Loaded, LoadedJob};
 use load::request::{Given, Request, Sort};
@@ -40,7 +41,7 @@ fn move_verdict(job: LoadedJob, rows: &[u16], plan: &[u16]) -> Verdict
     let head = job.head;
     let need = load::room::list_need(job);
     let mut list = [0u16; LIST];
-    compile::program::compile(head, rows, &mut list);
+    compile::program::compile(&Task { head, rows }, &mut list);
     let steps = front(&list, need);
     validate::moves::check_moves(head, rows, steps, job.sizes.positions, plan)
 }
@@ -79,7 +80,7 @@ fn lay_out(
         let short = load::room::too_short(need);
         return SheetAnswer::Refused(short);
     }
-    compile::program::compile(head, rows, list);
+    compile::program::compile(&Task { head, rows }, list);
     let Verdict::Plan(_) = verdict else {
         return SheetAnswer::Said(verdict);
     };

@@ -4,6 +4,7 @@ ghost use Rattle.job.specs.Store.{store_size};
 ghost use Rattle.load.specs.Loaded.{EntryRoom};
 ghost use Rattle.jesmovit.specs.Compiling.{Prepares};
 
+use job::task::Task;
 use load::loaded::Loaded;
 use load::request::Request;
 
@@ -27,6 +28,6 @@ pub(crate) fn prepare(
         return loaded;
     };
     let head = job.head;
-    compile::program::compile(head, rows, list);
+    compile::program::compile(&Task { head, rows }, list);
     loaded
 }

@@ -20,13 +20,14 @@ fn load_read(head: Head, rows: &[u16], lines: usize) -> Loaded
     requires { Stored head rows.now }
     ensures { (job_as result rows.now ≡ compilable (read lines (job_of head rows.now))) × Measured result rows.now }
 {
-    if !compile::scope::program_scoped(head, rows) {
+    let task = Task { head, rows };
+    if !compile::scope::program_scoped(&task) {
         return Loaded::Refused(Refusal {
             number: 8,
             place: lines,
         });
     }
-    let sizes = compile::sizes::measure(head, rows);
+    let sizes = compile::sizes::measure(&task);
     let large = Refusal {
         number: 4,
         place: lines,

@@ -9,7 +9,7 @@ use Rattle.compile.proofs.program.+compile_pick_compile_row.Goals as goal
 
 pub compile_pick-overflow_add-first : goal.compile_pick-overflow_add-first
 compile_pick-overflow_add-first t c =
-    omega (arith, pick_next (c.decreases, (c.requires.stored, c.requires.enough)))
+    omega (arith, pick_next c.args.task.now.stored (c.decreases, (c.requires.bounds, c.requires.enough)))
 
 pub compile_pick-returns-then-objects-eq0 : goal.compile_pick-returns-then-objects-eq0
 compile_pick-returns-then-objects-eq0 t c = record { steps = wrote_none c.if-objects-eq0.true; kept = refl }
@@ -19,15 +19,15 @@ compile_pick-loop-o-init t c = none_copied
 
 pub compile_pick-put_object-inside-requires : goal.compile_pick-put_object-inside-requires
 compile_pick-put_object-inside-requires t c =
-    inside_ok (c.decreases, (c.requires.stored, c.requires.enough)) c.loop-o.invariant c.loop-o-test.true
+    inside_ok c.args.task.now.stored (c.decreases, (c.requires.bounds, c.requires.enough)) c.loop-o.invariant c.loop-o-test.true
 
 pub compile_pick-compile_row-x-requires : goal.compile_pick-compile_row-x-requires
 compile_pick-compile_row-x-requires t c =
-    copy_first (c.decreases, (c.requires.stored, c.requires.enough)) c.loop-o.invariant c.loop-o-test.true c.put_object-inside.ensures refl
+    copy_first c.args.task.now.stored (c.decreases, (c.requires.bounds, c.requires.enough)) c.loop-o.invariant c.loop-o-test.true c.put_object-inside.ensures refl
 
 pub compile_pick-overflow_add-next : goal.compile_pick-overflow_add-next
 compile_pick-overflow_add-next t c =
-    omega (arith, next_copy (c.decreases, (c.requires.stored, c.requires.enough)) c.loop-o.invariant c.loop-o-test.true c.put_object-inside.ensures c.compile_row-x.ensures refl)
+    omega (arith, next_copy c.args.task.now.stored (c.decreases, (c.requires.bounds, c.requires.enough)) c.loop-o.invariant c.loop-o-test.true c.put_object-inside.ensures c.compile_row-x.ensures refl)
 
 pub compile_pick-overflow_add-o : goal.compile_pick-overflow_add-o
 compile_pick-overflow_add-o t c =
@@ -39,7 +39,7 @@ compile_pick-loop-o-smaller t c =
 
 pub compile_pick-loop-o-preserved : goal.compile_pick-loop-o-preserved
 compile_pick-loop-o-preserved t c =
-    one_copied (c.decreases, (c.requires.stored, c.requires.enough)) c.loop-o.invariant c.loop-o-test.true c.put_object-inside.ensures c.compile_row-x.ensures
+    one_copied c.args.task.now.stored (c.decreases, (c.requires.bounds, c.requires.enough)) c.loop-o.invariant c.loop-o-test.true c.put_object-inside.ensures c.compile_row-x.ensures
     c.compile_row-x.auto.list
     (c.compile_row-x.auto.env ∙ c.put_object-inside.auto.env)
 
@@ -71,68 +71,68 @@ compile_pick-returns t c =
 
 pub compile_row-construct_at-construct-requires : goal.compile_row-construct_at-construct-requires
 compile_row-construct_at-construct-requires t c =
-    record { stored = c.requires.stored.0; i_lt_program = c.requires.stored.1 }
+    c.requires.bounds.0
 
 pub compile_row-overflow_add-inner : goal.compile_row-overflow_add-inner
 compile_row-overflow_add-inner t c =
-    omega (arith, next_ok (c.decreases, (c.requires.stored, c.requires.enough)))
+    omega (arith, next_ok c.args.task.now.stored (c.decreases, (c.requires.bounds, c.requires.enough)))
 
 pub compile_row-leaf_step-requires : goal.compile_row-leaf_step-requires
 compile_row-leaf_step-requires t c =
     let s = told c.in-Leaf.is c.construct_at-construct.ensures in
-    let ok = leaf_ok (c.decreases, (c.requires.stored, c.requires.enough)) s in
+    let ok = leaf_ok c.args.task.now.stored (c.decreases, (c.requires.bounds, c.requires.enough)) s in
     record { env_right = ok.0; at_in_bounds = ok.1 }
 
 pub compile_row-any_steps-requires : goal.compile_row-any_steps-requires
 compile_row-any_steps-requires t c =
     let s = told c.in-Any.is c.construct_at-construct.ensures in
-    any_ok (c.decreases, (c.requires.stored, c.requires.enough)) s
+    any_ok c.args.task.now.stored (c.decreases, (c.requires.bounds, c.requires.enough)) s
 
 pub compile_row-compile_row-x-requires : goal.compile_row-compile_row-x-requires
 compile_row-compile_row-x-requires t c =
     let s = told c.in-Seq.is c.construct_at-construct.ensures in
-    seq_first (c.decreases, (c.requires.stored, c.requires.enough)) s
+    seq_first c.args.task.now.stored (c.decreases, (c.requires.bounds, c.requires.enough)) s
 
 pub compile_row-compile_row-requires : goal.compile_row-compile_row-requires
 compile_row-compile_row-requires t c =
     let s = told c.in-Seq.is c.construct_at-construct.ensures in
-    seq_second (c.decreases, (c.requires.stored, c.requires.enough)) s c.compile_row-x.auto.list c.compile_row-x.auto.env c.compile_row-x.ensures
+    seq_second c.args.task.now.stored (c.decreases, (c.requires.bounds, c.requires.enough)) s c.compile_row-x.auto.list c.compile_row-x.auto.env c.compile_row-x.ensures
 
 pub compile_row-compile_row-x-requires-in-Branch : goal.compile_row-compile_row-x-requires-in-Branch
 compile_row-compile_row-x-requires-in-Branch t c =
     let s = told c.in-Branch.is c.construct_at-construct.ensures in
-    branch_first (c.decreases, (c.requires.stored, c.requires.enough)) s
+    branch_first c.args.task.now.stored (c.decreases, (c.requires.bounds, c.requires.enough)) s
 
 pub compile_row-overflow_add-second : goal.compile_row-overflow_add-second
 compile_row-overflow_add-second t c =
     let s = told c.in-Branch.is c.construct_at-construct.ensures in
-    omega (arith, branch_next (c.decreases, (c.requires.stored, c.requires.enough)) s c.compile_row-x-in-Branch.ensures)
+    omega (arith, branch_next c.args.task.now.stored (c.decreases, (c.requires.bounds, c.requires.enough)) s c.compile_row-x-in-Branch.ensures)
 
 pub compile_row-compile_row-y-requires : goal.compile_row-compile_row-y-requires
 compile_row-compile_row-y-requires t c =
     let s = told c.in-Branch.is c.construct_at-construct.ensures in
-    branch_second (c.decreases, (c.requires.stored, c.requires.enough)) s c.compile_row-x-in-Branch.ensures c.compile_row-x-in-Branch.auto.list c.compile_row-x-in-Branch.auto.env
+    branch_second c.args.task.now.stored (c.decreases, (c.requires.bounds, c.requires.enough)) s c.compile_row-x-in-Branch.ensures c.compile_row-x-in-Branch.auto.list c.compile_row-x-in-Branch.auto.env
 
 pub compile_row-branch_steps-requires : goal.compile_row-branch_steps-requires
 compile_row-branch_steps-requires t c =
     let s = told c.in-Branch.is c.construct_at-construct.ensures in
-    branch_ok (c.decreases, (c.requires.stored, c.requires.enough)) s c.compile_row-x-in-Branch.ensures (c.compile_row-y.auto.list ∙ c.compile_row-x-in-Branch.auto.list)
+    branch_ok c.args.task.now.stored (c.decreases, (c.requires.bounds, c.requires.enough)) s c.compile_row-x-in-Branch.ensures (c.compile_row-y.auto.list ∙ c.compile_row-x-in-Branch.auto.list)
     c.compile_row-y.ensures
 
 pub compile_row-compile_row-x-requires-in-Loop : goal.compile_row-compile_row-x-requires-in-Loop
 compile_row-compile_row-x-requires-in-Loop t c =
     let s = told c.in-Loop.is c.construct_at-construct.ensures in
-    loop_first (c.decreases, (c.requires.stored, c.requires.enough)) s
+    loop_first c.args.task.now.stored (c.decreases, (c.requires.bounds, c.requires.enough)) s
 
 pub compile_row-loop_steps-requires : goal.compile_row-loop_steps-requires
 compile_row-loop_steps-requires t c =
     let s = told c.in-Loop.is c.construct_at-construct.ensures in
-    loop_ok (c.decreases, (c.requires.stored, c.requires.enough)) s c.compile_row-x-in-Loop.auto.list c.compile_row-x-in-Loop.ensures
+    loop_ok c.args.task.now.stored (c.decreases, (c.requires.bounds, c.requires.enough)) s c.compile_row-x-in-Loop.auto.list c.compile_row-x-in-Loop.ensures
 
 pub compile_row-compile_pick-requires : goal.compile_row-compile_pick-requires
 compile_row-compile_pick-requires t c =
     let s = told c.in-Pick.is c.construct_at-construct.ensures in
-    pick_first (c.decreases, (c.requires.stored, c.requires.enough)) s
+    pick_first c.args.task.now.stored (c.decreases, (c.requires.bounds, c.requires.enough)) s
 
 pub compile_row-shape_of-list-in-Leaf : goal.compile_row-shape_of-list-in-Leaf
 compile_row-shape_of-list-in-Leaf t c = c.leaf_step.auto.list
@@ -140,7 +140,7 @@ compile_row-shape_of-list-in-Leaf t c = c.leaf_step.auto.list
 pub compile_row-returns-in-Leaf : goal.compile_row-returns-in-Leaf
 compile_row-returns-in-Leaf t c =
     let s = told c.in-Leaf.is c.construct_at-construct.ensures in
-    record { steps = wrote_leaf s (leaf_object (c.decreases, (c.requires.stored, c.requires.enough)) s) c.leaf_step.ensures; kept = refl }
+    record { steps = wrote_leaf s (leaf_object c.args.task.now.stored (c.decreases, (c.requires.bounds, c.requires.enough)) s) c.leaf_step.ensures; kept = refl }
 
 pub compile_row-shape_of-list-in-Any : goal.compile_row-shape_of-list-in-Any
 compile_row-shape_of-list-in-Any t c = c.any_steps.auto.list

@@ -10,7 +10,7 @@ decreases-compile_row l = 2 * l.i
 
 abbrev pub invariant-compile_pick-loop-o : goal.invariant-compile_pick-loop-o
 invariant-compile_pick-loop-o l =
-    Copied l.head.counts (of l.head l.rows l.a) l.start l.initial.env l.initial.list (record { position = l.n; at = l.first.at }) l.o l.list l.next l.env
+    Copied l.task.head.counts (of l.task.head l.task.rows.now l.a) l.start l.initial.env l.initial.list (record { position = l.n; at = l.first.at }) l.o l.list l.next l.env
 
 abbrev pub decreases-compile_pick-loop-o : goal.decreases-compile_pick-loop-o
 decreases-compile_pick-loop-o l = l.objects - l.o

@@ -6,22 +6,21 @@ use Rattle.compile.proofs.program.compile.Goals as goal
 
 pub overflow_sub-last : goal.overflow_sub-last
 overflow_sub-last c =
-    omega (arith, some_row c.requires.stored.0)
+    omega (arith, some_row c.args.task.now.stored)
 
 pub compile_row-requires : goal.compile_row-requires
 compile_row-requires c =
-    let h = c.requires.stored.0 in
+    let h = c.args.task.now.stored in
     let g = some_row h in
     record {
-      stored = (
-        h,
+      bounds = (
         omega (arith, g),
         record { size = refl; within = omega arith; objects = λ k. omega arith },
         omega (arith, g, (limited h).program),
       );
-      enough = all_fit c.args.head c.args.rows.now c.requires.stored.1 refl c.requires.rows_value.0 c.requires.rows_value.1;
+      enough = all_fit c.args.task.now.head c.args.task.now.rows.now c.requires.scoped refl c.requires.fits.0 c.requires.fits.1;
     }
 
 pub returns : goal.returns
 returns c =
-    all_written c.args.head c.args.rows.now refl c.compile_row.ensures.steps
+    all_written c.args.task.now.head c.args.task.now.rows.now refl c.compile_row.ensures.steps

@@ -1,5 +1,4 @@
 use mathlib.Core.Path.{◌≡◌}
-use Prim.Native.Nat.{◌≤◌, ◌-◌}
 use lib.ListN.{length}
 use Rattle.limits.specs.Limits.{most_program}
 use Rattle.job.specs.Store.{job_of}
@@ -8,7 +7,4 @@ use Rattle.compile.proofs.sizes.measure.Given as goal
 
 abbrev pub invariant-loop-i : goal.invariant-loop-i
 invariant-loop-i l =
-    (l.i ≤ l.n) × (length l.positions ≡ most_program) × (length l.steps ≡ most_program) × Listed l.counts (job_of l.head l.rows).program l.i l.positions l.steps
-
-abbrev pub decreases-loop-i : goal.decreases-loop-i
-decreases-loop-i l = l.n - l.i
+    (length l.positions ≡ most_program) × (length l.steps ≡ most_program) × Listed l.counts (job_of l.task.head l.task.rows.now).program l.i l.positions l.steps

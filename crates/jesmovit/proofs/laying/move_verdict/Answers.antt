@@ -5,7 +5,7 @@ use Rattle.jesmovit.proofs.laying.move_verdict.Goals as goal
 
 pub compile-requires : goal.compile-requires
 compile-requires c =
-    record { stored = (c.requires.sized.stored, c.requires.sized.scoped); rows_value = (c.requires.sized.fit, own_room c.requires.sized) }
+    record { scoped = c.requires.sized.scoped; fits = (c.requires.sized.fit, own_room c.requires.sized) }
 
 pub check_moves-requires : goal.check_moves-requires
 check_moves-requires c =

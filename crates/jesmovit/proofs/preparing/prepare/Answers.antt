@@ -8,7 +8,7 @@ returns-in_default c =
 pub compile-requires : goal.compile-requires
 compile-requires c =
     let listed = rw c.requires.2 at (load_listed c.load-loaded.ensures c.in-Ready.is) in
-    record { stored = listed.0; rows_value = listed.1 }
+    record { scoped = listed.0.1; fits = listed.1 }
 
 pub returns : goal.returns
 returns c =

@@ -8,7 +8,7 @@ returns-then-not-program_scoped c =
 
 pub measure-sizes-requires : goal.measure-sizes-requires
 measure-sizes-requires c =
-    (c.requires, sym c.program_scoped.ensures ∙ c.if-not-program_scoped.false)
+    sym c.program_scoped.ensures ∙ c.if-not-program_scoped.false
 
 pub returns-then-sizes-gt-POSITIONS : goal.returns-then-sizes-gt-POSITIONS
 returns-then-sizes-gt-POSITIONS c =
