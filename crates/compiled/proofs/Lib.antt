@@ -1,4 +1,5 @@
 pub mod AdjacencyLaws
+pub mod ExploredLaws
 pub mod IndexLaws
 pub mod WalkLaws
 pub mod StepWalk

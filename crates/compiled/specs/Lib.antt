@@ -3,5 +3,6 @@ pub mod StepIndex
 pub mod Steps
 pub mod Ready
 pub mod Props
+pub mod Explored
 pub mod Successors
 pub mod Arrival

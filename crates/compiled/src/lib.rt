@@ -6,6 +6,7 @@ ghost use Rattle.compiled.specs.Ready.{Ready};
 
 pub mod adjacency;
 pub mod arrival;
+pub mod explored;
 pub mod index;
 pub mod steps;
 pub mod successors;
