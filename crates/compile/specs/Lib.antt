@@ -3,4 +3,5 @@ pub mod Env
 pub mod CompiledJob
 pub mod Size
 pub mod Construct
+pub mod Label
 pub mod Laid

@@ -2,6 +2,7 @@
 #![tactic(auto)]
 
 pub mod env;
+pub mod label;
 pub mod program;
 pub mod rows;
 pub mod scope;
