@@ -67,7 +67,7 @@ judgement_lines (other v) = verdict_lines v
 -- the least cost, or that there is none
 abbrev pub least_lines : Option ℕ → List ℕ
 least_lines (Some cost) = line "least" cost
-least_lines None = bytes "answer=None\n"
+least_lines None = bytes "answer=none\n"
 
 -- the sheet, which stands at the output's front; or what a check says
 abbrev pub written_lines : List ℕ → WriteOutcome → List ℕ
