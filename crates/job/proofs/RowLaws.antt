@@ -1,15 +1,16 @@
 -- Laws of right rows: their fields, and the effects of a move.
 -- Assumes nothing.
 use Prim.Native.Nat.{ℕ, zero, suc, ◌+◌, ◌≤◌, ◌<◌}
-use mathlib.Core.Path.{◌≡◌, refl}
-use mathlib.Core.Bool.{true, ◌&&◌, and-true, and_assoc}
-use mathlib.Core.List.{List, [], ◌∷◌, ◌++◌, map}
+use mathlib.Core.Path.{◌≡◌, refl, ap}
+use mathlib.Core.Bool.{true, false, ◌&&◌, and-false}
+use mathlib.Core.List.{List, [], ◌∷◌}
 use mathlib.Core.Logic.{◌↔◌}
 use native.Mathlib.Omega.{arith}
 use native.Mathlib.Decide.{dec_lt}
 use lib.Dec.{ltb}
 use lib.ListN.{length, get_or, get_or-eq_default}
 use borrow.Author.Tests.{ltb-true}
+use Rattle.std.specs.List.{list_all, zip}
 use Rattle.laws.proofs.Tests.{never, and_left, and_right}
 use Rattle.laws.proofs.Tables.{pair_at}
 use Rattle.job.specs.Job as J
@@ -17,7 +18,6 @@ use Rattle.job.specs.Fields.{base_bound, bound, formula_fields, within, Within}
 use Rattle.job.specs.WellFormed.{Tiled, beside}
 use Rattle.job.specs.declared.head.Counts.{Counts}
 use Rattle.job.specs.declared.fields.Field.{Field}
-use Rattle.job.specs.declared.fields.Field.TheVariants.{Unused}
 
 -- the test of fields is their statement
 pub within_true : (c : Counts) (fs : List Field) (xs : List ℕ) → within c fs xs ≡ true → Within c fs xs
@@ -27,29 +27,20 @@ within_true c (f ∷ fs) [] e = never e
 within_true c (f ∷ fs) (x ∷ xs) e =
     (ltb-true x (bound c f) (and_left (ltb x (bound c f)) (within c fs xs) e), within_true c fs xs (and_right (ltb x (bound c f)) (within c fs xs) e))
 
--- three fields, one after another
-pub three_fields_lem : (c : Counts) (fs : List Field) (x y z : ℕ) → length fs ≡ 3
-    → within c fs (x ∷ y ∷ z ∷ [])
-    ≡ (ltb x (bound c (get_or fs 0 Unused)) && (ltb y (bound c (get_or fs 1 Unused)) && ltb z (bound c (get_or fs 2 Unused))))
-three_fields_lem c [] x y z e = absurd (omega arith)
-three_fields_lem c (f ∷ []) x y z e = absurd (omega arith)
-three_fields_lem c (f ∷ g ∷ []) x y z e = absurd (omega arith)
-three_fields_lem c (f ∷ g ∷ h ∷ []) x y z e = rw and-true
-three_fields_lem c (f ∷ g ∷ h ∷ i ∷ fs) x y z e = absurd (omega arith)
+-- the test pairs each number with its field
+pub within_zip : (c : Counts) (fs : List Field) (xs : List ℕ) → length fs ≡ length xs
+    → list_all (λ (p : Field × ℕ). ltb p.1 (bound c p.0)) (zip fs xs) ≡ within c fs xs
+within_zip c [] [] e = refl
+within_zip c [] (x ∷ xs) e = absurd (omega arith)
+within_zip c (f ∷ fs) [] e = absurd (omega arith)
+within_zip c (f ∷ fs) (x ∷ xs) e = ap (λ b. ltb x (bound c f) && b) (within_zip c fs xs (omega arith))
 
--- and more behind them
-pub three_more : (c : Counts) (f g h : Field) (fs : List Field) (x y z : ℕ) (xs : List ℕ)
-    → (within c (f ∷ g ∷ h ∷ []) (x ∷ y ∷ z ∷ []) && within c fs xs) ≡ within c (f ∷ g ∷ h ∷ fs) (x ∷ y ∷ z ∷ xs)
-three_more c f g h fs x y z xs = rw (and-true, and_assoc, and_assoc)
-
--- a formula has no third field
-abbrev three_fields : List (List Field)
-three_fields = map (λ fs. fs ++ (Unused ∷ [])) formula_fields
-
-pub third_unused : (c : Counts) (x y k : ℕ) → k < length formula_fields
-    → within c (get_or three_fields k []) (x ∷ y ∷ 0 ∷ []) ≡ within c (get_or formula_fields k []) (x ∷ y ∷ [])
-third_unused c x y = pair_at (λ fs gs. within c fs (x ∷ y ∷ 0 ∷ []) ≡ within c gs (x ∷ y ∷ [])) [] [] three_fields formula_fields
-    (refl, (refl, (refl, (refl, (refl, (refl, tt))))))
+-- and is false where there are more of either
+pub within_uneven : (c : Counts) (fs : List Field) (xs : List ℕ) → (length fs ≡ length xs → ⊥) → within c fs xs ≡ false
+within_uneven c [] [] e = absurd (e refl)
+within_uneven c [] (x ∷ xs) e = refl
+within_uneven c (f ∷ fs) [] e = refl
+within_uneven c (f ∷ fs) (x ∷ xs) e = rw (within_uneven c fs xs (λ h. e (omega arith)), and-false)
 
 -- a kind whose fields hold something is in the table
 pub kind_listed : (c : Counts) (kinds : List (List Field)) (kind x : ℕ) (xs : List ℕ) → Within c (get_or kinds kind []) (x ∷ xs) → kind < length kinds

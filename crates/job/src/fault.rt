@@ -67,7 +67,7 @@ fn move_reason(numbers: [u16; WIDTH], counts: Counts) -> u8
     if MOVE_EFFECTS < numbers[crate::rows::EFFECT_COUNT] {
         return 2;
     }
-    unless(crate::fields::move_right(numbers, counts), 3)
+    unless(crate::fields::move_right(&numbers, counts), 3)
 }
 
 // The reason that refuses a row, or 0.
@@ -75,10 +75,10 @@ fn row_reason(sort: RowSort, numbers: [u16; WIDTH], counts: Counts) -> u8
     ensures { result ≡ first_reason (criteria sort counts numbers) }
 {
     match sort {
-        RowSort::Formula => unless(crate::fields::formula_right(numbers, counts), 3),
+        RowSort::Formula => unless(crate::fields::formula_right(&numbers, counts), 3),
         RowSort::Move => move_reason(numbers, counts),
-        RowSort::Effect => unless(crate::fields::effect_right(numbers, counts), 3),
-        RowSort::Row => unless(crate::fields::row_right(numbers, counts), 3),
+        RowSort::Effect => unless(crate::fields::effect_right(&numbers, counts), 3),
+        RowSort::Row => unless(crate::fields::row_right(&numbers, counts), 3),
     }
 }
 

@@ -1,5 +1,5 @@
 // What the numbers of a row may be: of formulas and program rows by their kind.
-ghost use Rattle.std.specs.Prelude.{◌≡◌, [], ◌∷◌, ◌+◌, ◌-◌, ◌<◌, get_or};
+ghost use Rattle.std.specs.Prelude.{◌≡◌, [], ◌∷◌, ◌+◌, ◌-◌, get_or};
 ghost use Rattle.job.specs.Job.{move_of, effect_of, move_numbers, effect_numbers};
 ghost use Rattle.job.specs.Fields.{formula_fields, move_fields, effect_fields, row_fields, within};
 ghost use Rattle.job.specs.Fields.{bound as field_bound};
@@ -24,20 +24,23 @@ pub enum Field {
     Value,
 }
 
-// a, b and c of a formula, by its kind; it has no c.
-const FORMULA_FIELDS: [[Field; 3]; 6] = [
-    [Field::Unused, Field::Unused, Field::Unused], // false
-    [Field::Unused, Field::Unused, Field::Unused], // true
-    [Field::Fact, Field::Unused, Field::Unused], // fact a
-    [Field::Formula, Field::Unused, Field::Unused], // not formula a
-    [Field::Formula, Field::Formula, Field::Unused], // formulas a and b
-    [Field::Formula, Field::Formula, Field::Unused], // a or b
+// a and b of a formula, by its kind.
+const FORMULA_FIELDS: [[Field; 2]; 6] = [
+    [Field::Unused, Field::Unused], // false
+    [Field::Unused, Field::Unused], // true
+    [Field::Fact, Field::Unused], // fact a
+    [Field::Formula, Field::Unused], // not formula a
+    [Field::Formula, Field::Formula], // formulas a and b
+    [Field::Formula, Field::Formula], // a or b
 ];
 
-// The numbers of a move, by threes; it has no sixth.
-const MOVE_FIELDS: [[Field; 3]; 2] = [
-    [Field::Formula, Field::Class, Field::EffectCount],
-    [Field::Formula, Field::Class, Field::Unused],
+// The numbers of a move.
+const MOVE_FIELDS: [Field; 5] = [
+    Field::Formula,
+    Field::Class,
+    Field::EffectCount,
+    Field::Formula,
+    Field::Class,
 ];
 
 // The numbers of an effect.
@@ -63,78 +66,72 @@ const ROW_FIELDS: [[Field; 3]; 12] = [
 fn base_bound(count: u16, objects: u16) -> u32
     ensures { result ≡ count + 1 - objects }
 {
-    let n = (count as u32) + 1;
-    let o = objects as u32;
-    if o < n { n - o } else { 0 }
+    (u32::from(count) + 1).saturating_sub(u32::from(objects))
 }
 
 // A field is below this number.
-fn bound(f: Field, counts: Counts) -> u32
-    ensures { result ≡ field_bound counts f }
+fn bound(field: Field, counts: Counts) -> u32
+    ensures { result ≡ field_bound counts field }
 {
-    match f {
+    match field {
         Field::Unused => 1,
-        Field::Fact => counts.facts as u32,
-        Field::Formula => counts.formulas as u32,
+        Field::Fact => u32::from(counts.facts),
+        Field::Formula => u32::from(counts.formulas),
         Field::FormulaBase => base_bound(counts.formulas, counts.objects),
-        Field::Move => counts.moves as u32,
+        Field::Move => u32::from(counts.moves),
         Field::MoveBase => base_bound(counts.moves, counts.objects),
-        Field::Row => counts.program as u32,
+        Field::Row => u32::from(counts.program),
         Field::Variable => 65536,
-        Field::Class => (LAST_CLASS as u32) + 1,
-        Field::EffectCount => (MOVE_EFFECTS as u32) + 1,
+        Field::Class => u32::from(LAST_CLASS) + 1,
+        Field::EffectCount => u32::from(MOVE_EFFECTS) + 1,
         Field::Value => 2,
     }
 }
 
-// Whether three numbers are below the bounds of their fields.
-fn right(fields: [Field; 3], a: u16, b: u16, c: u16, counts: Counts) -> bool
-    ensures { result ≡ within counts fields (a ∷ b ∷ c ∷ []) }
+// Whether there are as many numbers as fields, each below the bound of its own.
+fn within(fields: &[Field], numbers: &[u16], counts: Counts) -> bool
+    ensures { result ≡ within counts fields.now numbers.now }
 {
-    let fa = fields[0];
-    let fb = fields[1];
-    let fc = fields[2];
-    let right_a = (a as u32) < bound(fa, counts);
-    let right_b = (b as u32) < bound(fb, counts);
-    let right_c = (c as u32) < bound(fc, counts);
-    right_a & (right_b & right_c)
+    fields.len() == numbers.len()
+        && fields
+            .iter()
+            .zip(numbers)
+            .all(|(f, n)| u32::from(*n) < bound(*f, counts))
 }
 
 // Whether a formula refers to facts and earlier formulas alone: its numbers are kind, a and b.
-pub fn formula_right(numbers: [u16; WIDTH], counts: Counts) -> bool
-    ensures { result ≡ within counts (get_or formula_fields (get_or numbers 0 0) []) (get_or numbers 1 0 ∷ get_or numbers 2 0 ∷ []) }
+pub fn formula_right(numbers: &[u16; WIDTH], counts: Counts) -> bool
+    ensures { result ≡ within counts (get_or formula_fields (get_or numbers.now 0 0) []) (get_or numbers.now 1 0 ∷ get_or numbers.now 2 0 ∷ []) }
 {
-    let kind = numbers[0] as usize;
-    if kind < FORMULA_FIELDS.len() {
-        return right(FORMULA_FIELDS[kind], numbers[1], numbers[2], 0, counts);
-    }
-    false
+    let [kind, a, b, ..] = *numbers;
+    FORMULA_FIELDS
+        .get(usize::from(kind))
+        .is_some_and(|fields| within(fields, &[a, b], counts))
 }
 
 // Whether a move refers to formulas alone, with classes and a count of effects in their ranges.
-pub fn move_right(numbers: [u16; WIDTH], counts: Counts) -> bool
-    ensures { result ≡ within counts move_fields (move_numbers (move_of 0 numbers)) }
+pub fn move_right(numbers: &[u16; WIDTH], counts: Counts) -> bool
+    ensures { result ≡ within counts move_fields (move_numbers (move_of 0 numbers.now)) }
 {
-    let own = right(MOVE_FIELDS[0], numbers[0], numbers[1], numbers[2], counts);
-    let second = right(MOVE_FIELDS[1], numbers[3], numbers[4], 0, counts);
-    own & second
+    let [pre, class, effects, when, second, ..] = *numbers;
+    within(&MOVE_FIELDS, &[pre, class, effects, when, second], counts)
 }
 
 // Whether an effect refers to a formula and a fact, with a value of 0 or 1.
-pub fn effect_right(numbers: [u16; WIDTH], counts: Counts) -> bool
-    ensures { result ≡ within counts effect_fields (effect_numbers (effect_of numbers)) }
+pub fn effect_right(numbers: &[u16; WIDTH], counts: Counts) -> bool
+    ensures { result ≡ within counts effect_fields (effect_numbers (effect_of numbers.now)) }
 {
-    right(EFFECT_FIELDS, numbers[0], numbers[1], numbers[2], counts)
+    let [cond, fact, value, ..] = *numbers;
+    within(&EFFECT_FIELDS, &[cond, fact, value], counts)
 }
 
 // Whether a program row refers to formulas, moves and earlier rows alone, with any object added where
 // it has a variable: its numbers are kind, a, b and c.
-pub fn row_right(numbers: [u16; WIDTH], counts: Counts) -> bool
-    ensures { result ≡ within counts (get_or row_fields (get_or numbers 0 0) []) (get_or numbers 1 0 ∷ get_or numbers 2 0 ∷ get_or numbers 3 0 ∷ []) }
+pub fn row_right(numbers: &[u16; WIDTH], counts: Counts) -> bool
+    ensures { result ≡ within counts (get_or row_fields (get_or numbers.now 0 0) []) (get_or numbers.now 1 0 ∷ get_or numbers.now 2 0 ∷ get_or numbers.now 3 0 ∷ []) }
 {
-    let kind = numbers[0] as usize;
-    if kind < ROW_FIELDS.len() {
-        return right(ROW_FIELDS[kind], numbers[1], numbers[2], numbers[3], counts);
-    }
-    false
+    let [kind, a, b, c, ..] = *numbers;
+    ROW_FIELDS
+        .get(usize::from(kind))
+        .is_some_and(|fields| within(fields, &[a, b, c], counts))
 }

@@ -8,11 +8,5 @@ pub fn state_count(facts: u16) -> u16
     requires { facts ≤ most_facts }
     ensures { result ≡ state_count facts }
 {
-    let mut count: u16 = 1;
-    let mut k: u16 = 0;
-    while k < facts {
-        count *= 2;
-        k += 1;
-    }
-    count
+    2u16.pow(u32::from(facts))
 }
