@@ -1,64 +1,78 @@
--- Laws of the lines of a text and of a line's key, at a place.
+-- Laws of the lines of a text and of a line's key.
 -- Assumes nothing.
-use Prim.Native.Nat.{ℕ, zero, suc, ◌+◌, ◌-◌, ◌≤◌, ◌<◌, min}
-use mathlib.Core.Path.{◌≡◌, refl, ◌∙◌, ap}
-use mathlib.Core.Bool.{Bool, true, false, cond}
-use mathlib.Core.List.{List, [], ◌∷◌, flatten}
-use native.Mathlib.Numerals.{add-one}
-use native.Mathlib.Omega.{arith}
+use Rattle.std.proofs.Common.{◌≡◌, ℕ, zero, suc, ◌+◌, ◌-◌, ◌≤◌, ◌<◌, min, Bool, true, false, cond, ◌&&◌, Option, Some, None, MatchOption, unwrap_or, Bor, List, [], ◌∷◌, length, get_or, take, drop, refl, sym, ◌∙◌, ap, arith}
+use mathlib.Core.List.{flatten}
 use native.Mathlib.Nat.{not-suc-le-zero}
-use lib.Dec.{eqb}
-use lib.ListN.{length, get_or, take, drop, drop_of_length-le, length-drop}
+use lib.Dec.{eqb, ltb}
+use lib.ListN.{drop_of_length-le, length-drop}
 use lib.Seq.{drop-cons, drop-drop}
-use borrow.Author.Tests.{eq-eqb, ne_eqb, eqb-true}
-use Rattle.text.specs.Lines.{line_length, lines, onto, has_key}
+use borrow.Author.Tests.{eqb-true, ltb-true}
+use Rattle.std.proofs.lemmas.Bool.{ltb-false}
+use Rattle.std.specs.List.{position, position_or_len}
+use Rattle.std.specs.Cmp.Lexicographic.{pointwise}
+use Rattle.laws.proofs.Tests.{cond_some}
+use Rattle.text.specs.Lines.{line_length, lines, onto, has_key, value_of}
 
-module _ (s : List ℕ) (i : ℕ) where
-  pub length_at_feed : i < length s → get_or s i 0 ≡ 10 → line_length (drop i s) ≡ 1
-  unfolding line_length
-  length_at_feed h e = rw (drop-cons s i 0 h, eq-eqb _ _ e)
+-- the first line ends with the first line feed, or with the text
+length_by : (b : ℕ) (t : List ℕ) (z : Bool) → eqb b 10 ≡ z → line_length t ≡ min (position_or_len (λ x. eqb x 10) t + 1) (length t)
+    → line_length (b ∷ t) ≡ min (position_or_len (λ x. eqb x 10) (b ∷ t) + 1) (suc (length t))
+unfolding line_length
+length_by b t true e h = rw e (omega arith)
+length_by b t false e h = rw e (omega arith)
 
-  pub length_at_other : i < length s → (get_or s i 0 ≡ 10 → ⊥) → line_length (drop i s) ≡ suc (line_length (drop (i + 1) s))
-  unfolding line_length
-  length_at_other h e = rw (add-one, drop-cons s i 0 h, ne_eqb _ _ e)
+length_is : (s : List ℕ) → line_length s ≡ min (position_or_len (λ x. eqb x 10) s + 1) (length s)
+length_is [] = unfold line_length in refl
+length_is (b ∷ t) = length_by b t (eqb b 10) refl (length_is t)
 
-  pub length_at_end : length s ≤ i → line_length (drop i s) ≡ 0
-  unfolding line_length
-  length_at_end h = rw (drop_of_length-le s h)
+module _ (s : List ℕ) where
+  abbrev before : ℕ
+  before = position_or_len (λ x. eqb x 10) s
 
-module _ (k s : List ℕ) (i : ℕ) where
-  pub key_at_same : i < length k → i < length s → get_or s i 0 ≡ get_or k i 0 → has_key (drop i k) (drop i s) ≡ has_key (drop (i + 1) k) (drop (i + 1) s)
-  unfolding has_key
-  key_at_same h g e = rw (add-one, drop-cons k i 0 h, drop-cons s i 0 g, eq-eqb _ _ e)
+  pub length_to_feed : (n : ℕ) → Some n ≡ position (λ x. eqb x 10) s → n + 1 ≡ line_length s
+  length_to_feed n e =
+      let h = cond_some (ltb before (length s)) (sym e) in
+      let f : before ≡ n = cc h.1 in omega (arith, length_is s, ltb-true before (length s) h.0)
 
-  pub key_at_other : i < length k → i < length s → (get_or s i 0 ≡ get_or k i 0 → ⊥) → has_key (drop i k) (drop i s) ≡ false
-  unfolding has_key
-  key_at_other h g e = rw (drop-cons k i 0 h, drop-cons s i 0 g, ne_eqb _ _ e)
+  to_end : (b : Bool) → ltb before (length s) ≡ b → None ≡ cond b (Some before) None → length s ≡ line_length s
+  to_end true h e = let z : ◌≡◌ {A = ℕ} 0 1 = cc in absurd (omega arith)
+  to_end false h e = omega (arith, length_is s, ltb-false before (length s) h)
 
-  pub key_past_line : i < length k → length s ≤ i → has_key (drop i k) (drop i s) ≡ false
-  unfolding has_key
-  key_past_line h g = rw (drop-cons k i 0 h, drop_of_length-le s g)
+  pub length_to_end : None ≡ position (λ x. eqb x 10) s → length s ≡ line_length s
+  length_to_end e = to_end (ltb before (length s)) refl e
 
-  pub key_past_both : length k ≤ i → length s ≤ i → has_key (drop i k) (drop i s) ≡ false
-  unfolding has_key
-  key_past_both h g = rw (drop_of_length-le k h, drop_of_length-le s g)
+pub length_at_end : (s : List ℕ) (i : ℕ) → length s ≤ i → line_length (drop i s) ≡ 0
+unfolding line_length
+length_at_end s i h = rw (drop_of_length-le s h)
 
-  pub key_at_equals : length k ≤ i → i < length s → has_key (drop i k) (drop i s) ≡ eqb (get_or s i 0) 61
-  unfolding has_key
-  key_at_equals h g = rw (drop_of_length-le k h, drop-cons s i 0 g)
+-- a line has a key where the key's bytes begin it, and the equals sign what follows them
+both_true : (b : Bool) → b ≡ b && true
+both_true true = refl
+both_true false = refl
 
-key_step : (k : ℕ) (ks l : List ℕ) (b : ℕ) (same : Bool) → cond same (has_key ks l) false ≡ true → (has_key ks l ≡ true → length ks + 1 ≤ length l)
-    → length ks + 1 ≤ length l
-key_step k ks l b true e f = f e
-key_step k ks l b false e f = let z : ◌≡◌ {A = ℕ} 0 1 = cc in absurd (omega arith)
+key_by : (same has front rest : Bool) → has ≡ front && rest → cond same has false ≡ same && front && rest
+key_by true has front rest e = e
+key_by false has front rest e = refl
 
--- a line that has a key is long enough for it
-pub key_within : (k l : List ℕ) → has_key k l ≡ true → length k + 1 ≤ length l
+pub key_is : (k l : List ℕ) → has_key k l ≡ pointwise eqb (take (length k) l) k && pointwise eqb (take 1 (drop (length k) l)) (61 ∷ [])
 unfolding has_key
-key_within [] [] e = let z : ◌≡◌ {A = ℕ} 0 1 = cc in absurd (omega arith)
-key_within [] (b ∷ l) e = omega arith
-key_within (k ∷ ks) [] e = let z : ◌≡◌ {A = ℕ} 0 1 = cc in absurd (omega arith)
-key_within (k ∷ ks) (b ∷ l) e = omega (arith, key_step k ks l b (eqb b k) e (key_within ks l))
+key_is [] [] = refl
+key_is [] (b ∷ l) = both_true (eqb b 61)
+key_is (k ∷ ks) [] = refl
+key_is (k ∷ ks) (b ∷ l) = key_by (eqb b k) (has_key ks l) _ _ (key_is ks l)
+
+-- what follows a key, and then an equals sign
+pub stripped : (k l rest : List ℕ) (r : Option (Bor (List ℕ))) → pointwise eqb (take (length k) l) k ≡ true → rest ≡ drop (length k) l
+    → MatchOption r (pointwise eqb (take 1 rest) (61 ∷ []) ≡ false)
+    (λ x. (pointwise eqb (take 1 rest) (61 ∷ []) ≡ true) × (x.now ≡ drop 1 rest) × (length x.now + 1 ≡ length rest))
+    → MatchOption r (has_key k l ≡ false) (λ x. (has_key k l ≡ true) × (x.now ≡ drop (length k + 1) l))
+stripped k l rest None h e g = key_is k l ∙ rw (h, ← e) g
+stripped k l rest (Some x) h e g = (key_is k l ∙ rw (h, ← e) g.0, g.1 ∙ rw e (drop-drop 1 (length k) l))
+
+pub value_is : (k l : List ℕ) (r : Option (Bor (List ℕ))) (none : Bor (List ℕ)) → none.now ≡ []
+    → MatchOption r (has_key k l ≡ false) (λ x. (has_key k l ≡ true) × (x.now ≡ drop (length k + 1) l)) → (unwrap_or r none).now ≡ value_of k l
+unfolding value_of
+value_is k l None none e g = rw g e
+value_is k l (Some x) none e g = rw g.0 g.1
 
 -- one step of `lines` and of `line_length`, by the test
 line_step : (b : ℕ) (t : List ℕ) (z : Bool) → eqb b 10 ≡ z → onto b (lines t) ≡ (b ∷ take (line_length t) t) ∷ lines (drop (line_length t) t)

@@ -1,16 +1,12 @@
 -- Laws of a value's numbers as they are read, byte by byte, into a list.
 -- Assumes nothing.
-use Prim.Native.Nat.{ℕ, ◌+◌, ◌-◌, ◌≤◌, ◌<◌}
-use mathlib.Core.Path.{◌≡◌, sym, ◌∙◌, ap}
-use mathlib.Core.Bool.{true, false}
-use mathlib.Core.List.{List, [], ◌∷◌, ◌++◌, foldl}
-use native.Mathlib.Omega.{arith}
-use native.Mathlib.Numerals.{add-one}
+use Rattle.std.proofs.Common.{◌≡◌, ℕ, ◌+◌, ◌-◌, ◌≤◌, ◌<◌, ◌⊎◌, inl, inr, true, false, None, List, [], ◌∷◌, ◌++◌, length, get_or, take, drop, refl, sym, ◌∙◌, ap, arith, add-one}
+use mathlib.Core.List.{foldl}
 use lib.Dec.{leb}
-use lib.ListN.{length, get_or, take, drop, set, length-set}
+use lib.ListN.{set, length-set}
 use lib.Seq.{length-take-le, take-suc-set, take_all}
-use borrow.Author.Tests.{leb-true, lt-ltb, le-ltb, eq-eqb, ne_eqb}
-use Rattle.text.specs.Numbers.{PartialValue, start, done, broken, is_digit, first_digit, more_digits, number_end, byte_read, numbers_outcome, numbers}
+use borrow.Author.Tests.{leb-true, eq-eqb, ne_eqb}
+use Rattle.text.specs.Numbers.{PartialValue, start, done, is_digit, first_digit, more_digits, number_end, byte_read, numbers_outcome, numbers}
 use Rattle.text.specs.Progress.{partial_of, complete_count, Goes, After}
 use Rattle.text.specs.declared.numbers.Progress.{Progress}
 use Rattle.text.specs.declared.numbers.Progress.TheVariants.{Start, Digits, Done, Broken}
@@ -20,16 +16,10 @@ use Rattle.laws.proofs.Lists.{fed_at, fed_past}
 pub digit_within : (b : ℕ) → is_digit b ≡ true → (48 ≤ b) × (b ≤ 57)
 digit_within b e = (leb-true 48 b (and_left (leb 48 b) (leb b 57) e), leb-true b 57 (and_right (leb 48 b) (leb b 57) e))
 
--- number k of a list, read to its end by byte b
+-- the last number of a list, read to its end by byte b
 module _ (out : List ℕ) (k n b : ℕ) (h : k ≤ length out) where
   before : length (take k out) ≡ k
   before = length-take-le k out h
-
-  pub comma_next : b ≡ 44 → 1 < length out - k → start (take (k + 1) (set out k n)) ≡ number_end (length out) (take k out) n b
-  comma_next e g = rw (eq-eqb _ _ e, before, lt-ltb (k + 1) (length out) (omega arith), add-one, take-suc-set out k n (omega arith))
-
-  pub comma_last : b ≡ 44 → length out - k ≤ 1 → broken ≡ number_end (length out) (take k out) n b
-  comma_last e g = rw (eq-eqb _ _ e, before, le-ltb (k + 1) (length out) (omega arith))
 
   filled : k + 1 ≡ length out → set out k n ≡ take k out ++ (n ∷ [])
   filled e = sym (take_all (k + 1) (set out k n) (simp length-set (omega arith))) ∙ rw (add-one, take-suc-set out k n (omega arith))
@@ -38,14 +28,6 @@ module _ (out : List ℕ) (k n b : ℕ) (h : k ≤ length out) where
   feed_last d e g =
       let f : k + 1 ≡ length out = omega arith in
       rw (ne_eqb b 44 d, eq-eqb b 10 e, before, eq-eqb (k + 1) (length out) f, filled f)
-
-  pub feed_early : (b ≡ 44 → ⊥) → b ≡ 10 → (length out - k ≡ 1 → ⊥) → broken ≡ number_end (length out) (take k out) n b
-  feed_early d e g =
-      let f : k + 1 ≡ length out → ⊥ = λ z. g (omega arith) in
-      rw (ne_eqb b 44 d, eq-eqb b 10 e, before, ne_eqb (k + 1) (length out) f)
-
-  pub other_end : (b ≡ 44 → ⊥) → (b ≡ 10 → ⊥) → broken ≡ number_end (length out) (take k out) n b
-  other_end d e = rw (ne_eqb b 44 d, ne_eqb b 10 e)
 
 -- one byte more, by the case of the progress
 module _ (p r : Progress) (b : ℕ) (out : List ℕ) (h : complete_count p ≤ length out) where
@@ -71,14 +53,16 @@ module _ (p r : Progress) (b : ℕ) (out : List ℕ) (h : complete_count p ≤ l
   step_end after k n e d g = record { reads = g.reads ∙ rw (e, d); within = g.within }
 
 -- nothing follows the line feed, and a broken form stays so
-module _ (p : Progress) (b : ℕ) (out : List ℕ) where
-  pub step_done : p ≡ Done → After Broken out (byte_read (length out) (partial_of p out) b)
-  unfolding byte_read
-  step_done e = record { reads = rw e; within = omega arith }
+pub step_other : (p : Progress) (b : ℕ) (out : List ℕ) → (p ≡ Done) ⊎ (p ≡ Broken) → After Broken out (byte_read (length out) (partial_of p out) b)
+unfolding byte_read
+step_other p b out (inl e) = record { reads = rw e; within = omega arith }
+step_other p b out (inr e) = record { reads = rw e; within = omega arith }
 
-  pub step_broken : p ≡ Broken → After Broken out (byte_read (length out) (partial_of p out) b)
-  unfolding byte_read
-  step_broken e = record { reads = rw e; within = omega arith }
+pub not_done : (p : Progress) (out : List ℕ) → (p ≡ Done → ⊥) → numbers_outcome (partial_of p out) ≡ None
+not_done (Start k) out h = refl
+not_done (Digits k n) out h = refl
+not_done Done out h = absurd (h refl)
+not_done Broken out h = refl
 
 -- a value from its start on is what it is from here on
 module _ (value : List ℕ) (want i : ℕ) (p : Progress) (out : List ℕ)

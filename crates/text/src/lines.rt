@@ -1,49 +1,53 @@
 // Lines of a text, a line's key, and the value after it.
-ghost use Rattle.std.specs.Prelude.{◌≡◌, ◌+◌, drop};
+ghost use Rattle.std.specs.Prelude.{◌≡◌, ◌+◌, ◌≤◌, ◌==◌, true, false, drop, length, position, MatchOption};
 ghost use Rattle.text.specs.Lines.{line_length, has_key, value_of};
+
+// How many bytes stand before a text's first line feed.
+fn feed(text: &[u8]) -> Option<usize>
+    ensures { result ≡ position (λ b. b == 10) text.now }
+{
+    text.iter().position(|b| *b == b'\n')
+}
+
+// How many bytes the first line of a text has, its line feed among them.
+fn line_length(text: &[u8]) -> usize
+    ensures value { result ≡ line_length text.now }
+    ensures bound { result ≤ length text.now }
+{
+    match feed(text) {
+        Some(before) => before + 1,
+        None => text.len(),
+    }
+}
 
 // The end of the line that starts at a place: one past its line feed, or the text's end.
 pub fn line_end(text: &[u8], at: usize) -> usize
     ensures { result ≡ at + line_length (drop at text.now) }
 {
-    let mut i = at;
-    while i < text.len() {
-        if text[i] == b'\n' {
-            return i + 1;
-        }
-        i += 1;
+    match text.get(at..) {
+        Some(rest) => at + line_length(rest),
+        None => at,
     }
-    i
 }
 
-// Whether a line begins with a key and an equals sign, compared byte for byte.
+// What follows `key=`, as a part of the caller's line; the key is compared byte for byte.
+fn after_key<'a>(line: &'a [u8], key: &[u8]) -> Option<&'a [u8]>
+    ensures { MatchOption result (has_key key.now line.now ≡ false)
+        (λ value. (has_key key.now line.now ≡ true) × (value.now ≡ drop (length key.now + 1) line.now)) }
+{
+    line.strip_prefix(key)?.strip_prefix(b"=")
+}
+
+// Whether a line begins with a key and an equals sign.
 pub fn has_key(line: &[u8], key: &[u8]) -> bool
     ensures { result ≡ has_key key.now line.now }
 {
-    let mut i = 0;
-    while i < key.len() {
-        if line.len() <= i {
-            return false;
-        }
-        if line[i] != key[i] {
-            return false;
-        }
-        i += 1;
-    }
-    if line.len() <= i {
-        return false;
-    }
-    line[i] == b'='
+    after_key(line, key).is_some()
 }
 
 // The value after `key=`, as a part of the caller's line; nothing where the line doesn't begin so.
 pub fn value<'a, 'k>(line: &'a [u8], key: &'k [u8]) -> &'a [u8]
     ensures { result.now ≡ value_of key.now line.now }
 {
-    if has_key(line, key) {
-        let n = key.len() + 1;
-        return &line[n..];
-    }
-    let e = line.len();
-    &line[e..]
+    after_key(line, key).unwrap_or(&[])
 }

@@ -13,21 +13,12 @@ pub enum Progress {
     Broken,
 }
 
-fn is_digit(b: u8) -> bool
-    ensures { result ≡ is_digit b }
-{
-    if b < b'0' {
-        return false;
-    }
-    b <= b'9'
-}
-
 // The first digit of number k.
 fn first_digit(k: usize, b: u8) -> Progress
     ensures { Goes k result (λ l. first_digit l b) }
 {
-    if is_digit(b) {
-        return Progress::Digits(k, (b - b'0') as u16);
+    if b.is_ascii_digit() {
+        return Progress::Digits(k, u16::from(b - b'0'));
     }
     Progress::Broken
 }
@@ -40,11 +31,10 @@ fn more_digits(k: usize, n: u16, b: u8) -> Progress
     if n == 0 {
         return Progress::Broken;
     }
-    let v = (n as u32) * 10 + ((b - b'0') as u32);
-    if v < 65536 {
-        return Progress::Digits(k, v as u16);
+    match u16::try_from(u32::from(n) * 10 + u32::from(b - b'0')) {
+        Ok(more) => Progress::Digits(k, more),
+        Err(_) => Progress::Broken,
     }
-    Progress::Broken
 }
 
 // The byte after number k, which is n: a comma or the line feed, as more numbers are due or not.
@@ -53,21 +43,17 @@ fn number_end(k: usize, n: u16, b: u8, out: &mut [u16]) -> Progress
     ensures { After result out.new (number_end (length out.old) (take k out.old) n b) }
 {
     let due = out.len() - k;
-    if b == b',' {
-        if 1 < due {
+    match b {
+        b',' if 1 < due => {
             out[k] = n;
-            return Progress::Start(k + 1);
+            Progress::Start(k + 1)
         }
-        return Progress::Broken;
-    }
-    if b == b'\n' {
-        if due == 1 {
+        b'\n' if due == 1 => {
             out[k] = n;
-            return Progress::Done;
+            Progress::Done
         }
-        return Progress::Broken;
+        _ => Progress::Broken,
     }
-    Progress::Broken
 }
 
 // One byte more.
@@ -77,25 +63,9 @@ fn read_byte(p: Progress, b: u8, out: &mut [u16]) -> Progress
 {
     match p {
         Progress::Start(k) => first_digit(k, b),
-        Progress::Digits(k, n) => {
-            if is_digit(b) {
-                return more_digits(k, n, b);
-            }
-            number_end(k, n, b, out)
-        }
-        Progress::Done => Progress::Broken,
-        Progress::Broken => Progress::Broken,
-    }
-}
-
-fn is_done(p: Progress, out: &[u16]) -> bool
-    ensures { answered result out.now ≡ numbers_outcome (partial_of p out.now) }
-{
-    match p {
-        Progress::Start(_) => false,
-        Progress::Digits(_, _) => false,
-        Progress::Done => true,
-        Progress::Broken => false,
+        Progress::Digits(k, n) if b.is_ascii_digit() => more_digits(k, n, b),
+        Progress::Digits(k, n) => number_end(k, n, b, out),
+        Progress::Done | Progress::Broken => Progress::Broken,
     }
 }
 
@@ -105,10 +75,8 @@ pub fn read_numbers(value: &[u8], out: &mut [u16]) -> bool
     ensures { answered result out.new ≡ numbers (length out.old) value.now }
 {
     let mut p = Progress::Start(0);
-    let mut i = 0;
-    while i < value.len() {
-        p = read_byte(p, value[i], out);
-        i += 1;
+    for b in value {
+        p = read_byte(p, *b, out);
     }
-    is_done(p, out)
+    matches!(p, Progress::Done)
 }

@@ -1,15 +1,8 @@
-use native.Mathlib.Omega.{arith}
-use Rattle.text.proofs.LineLaws.{length_at_feed, length_at_other, length_at_end}
-use borrow.Author.Rules.{rules}
+use Rattle.std.proofs.Common.{◌≤◌, length, arith, inl, inr}
+use Rattle.text.proofs.LineLaws.{length_at_end}
 use Rattle.text.proofs.lines.line_end.Goals as goal
 
-pub returns-then-text-i-eq10 : goal.returns-then-text-i-eq10
-returns-then-text-i-eq10 c =
-    omega (arith, length_at_feed c.args.text.now c.loop-i.i (search rules) c.if-text-i-eq10.true)
-
-pub loop-i-preserved : goal.loop-i-preserved
-loop-i-preserved c =
-    omega (arith, length_at_other c.args.text.now c.loop-i.i (search rules) c.if-text-i-eq10.false)
-
-pub returns : goal.returns
-returns c = omega (arith, length_at_end c.args.text.now c.loop-i.i (search rules))
+pub returns-in-None : goal.returns-in-None
+returns-in-None c =
+    let past : length c.args.text.now ≤ c.args.at = elim c.in-None.ensures.lookup.0 [ inl h ↦ omega arith | inr h ↦ omega arith ] in
+    omega (arith, length_at_end _ _ past)
