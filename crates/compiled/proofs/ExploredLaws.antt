@@ -1,7 +1,7 @@
 -- Successors that are kept.
 -- Assumes nothing.
-use Rattle.std.proofs.Common.{◌≡◌, ℕ, ◌<◌, List, Option, None, Some, length, get_or, set, replicate, sym, ◌∙◌, ap, arith}
-use native.Mathlib.Decide.{ℕ_discrete, dec_lt}
+use Rattle.std.proofs.Common.{◌≡◌, ℕ, ◌<◌, List, Option, None, Some, length, get_or, set, replicate, sym, ◌∙◌, ap}
+use native.Mathlib.Decide.{ℕ_discrete}
 use Rattle.std.proofs.Math.Seq.{get_or-set_same, get_or-set_other}
 use Rattle.limits.specs.Limits.{most_moves}
 use Rattle.laws.proofs.Lists.{replicate_default}
@@ -11,8 +11,8 @@ use Rattle.compiled.specs.Explored.{KeepsSuccessors}
 pub keeps_none : (D : Domain) (s : ℕ) → KeepsSuccessors D s (replicate most_moves None)
 keeps_none D s = record {
   own = λ m after e. (
-    let f : ◌≡◌ {A = Option (Option ℕ)} None (Some after) = sym (replicate_default {A = Option (Option ℕ)} None most_moves m) ∙ e in absurd (cc)
-  );
+      let f : ◌≡◌ {A = Option (Option ℕ)} None (Some after) = sym (replicate_default {A = Option (Option ℕ)} None most_moves m) ∙ e in absurd (cc)
+      );
 }
 
 -- one more

@@ -1,5 +1,6 @@
 pub mod AdjacencyLaws
 pub mod ExploredLaws
+pub mod LeadLaws
 pub mod IndexLaws
 pub mod WalkLaws
 pub mod StepWalk

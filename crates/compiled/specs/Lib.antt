@@ -6,3 +6,4 @@ pub mod Props
 pub mod Explored
 pub mod Successors
 pub mod Arrival
+pub mod Leads

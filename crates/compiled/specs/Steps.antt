@@ -1,13 +1,13 @@
 -- Steps as code reads them.
 use Rattle.std.specs.Prelude.{ℕ, Bool, true, false, not, List, get_or}
 use Rattle.semantics.specs.Label.{Label, noop, holds, fails, make}
-use Rattle.semantics.specs.CompilingTable.{label_in}
+use Rattle.compile.specs.Label as C
 use Rattle.semantics.specs.Path.{StepAt}
 use Rattle.compiled.specs.Adjacency.{steps_on, start_in}
 use Rattle.compiled.specs.declared.steps.OutStep.{OutStep}
 
 abbrev pub label_of : OutStep → Label
-label_of step = label_in step.kind step.arg
+label_of step = C.label_of step.label
 
 -- step k of a list
 abbrev pub IsStep : List ℕ → ℕ → OutStep → Type 0

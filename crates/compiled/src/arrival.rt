@@ -9,6 +9,7 @@ ghost use Rattle.compiled.specs.Successors.{Standing};
 ghost use Rattle.compiled.specs.Arrival.{arrival_of, Arrives};
 
 use crate::steps::OutStep;
+use compile::label::Label;
 use domain::Successor;
 use job::head::Head;
 use job::task::Task;
@@ -37,12 +38,12 @@ fn by_move(
     values: &[bool],
     cache: &mut [u16],
     state: u16,
-    step: OutStep,
+    m: u16,
+    to: u16,
 ) -> Arrival
     requires { Standing head rows.now values.now state cache.old }
-    ensures { Arrives (domain_in head rows.now) (make step.arg) state step.to result cache.new }
+    ensures { Arrives (domain_in head rows.now) (make m) state to result cache.new }
 {
-    let m = step.arg;
     if domain::moves::move_count(&Task { head, rows }) <= m {
         return Arrival::Nowhere;
     }
@@ -51,7 +52,7 @@ fn by_move(
         return Arrival::Nowhere;
     };
     let cost = domain::moves::cost(head, rows, values, m, state);
-    Arrival::At(next, step.to, cost)
+    Arrival::At(next, to, cost)
 }
 
 // A step, made in a state.
@@ -66,9 +67,9 @@ pub fn arrive(
     requires { Standing head rows.now values.now state cache.old }
     ensures { Arrives (domain_in head rows.now) (label_of step) state step.to result cache.new }
 {
-    if step.kind < 3 {
+    let Label::Make(m) = step.label else {
         let on = crate::steps::is_silent(values, step);
         return silently(on, state, step.to);
-    }
-    by_move(head, rows, values, cache, state, step)
+    };
+    by_move(head, rows, values, cache, state, m, step.to)
 }

@@ -1,14 +1,32 @@
 // The steps of a list.
 ghost use Rattle.std.specs.Prelude.{◌≡◌, ◌/◌, ◌<◌, length};
+ghost use Rattle.semantics.specs.PositionSets.{silent_in};
+ghost use Rattle.domain.specs.Domain.{domain_at};
 ghost use Rattle.compiled.specs.Adjacency.{start_in};
 ghost use Rattle.compiled.specs.Steps.{label_of, IsStep, silent_by};
+
+use compile::label::Label;
+use domain::world::World;
 
 // A step of the list, but for where it starts.
 #[derive(Clone, Copy)]
 pub struct OutStep {
-    pub kind: u16,
+    pub label: Label,
     pub to: u16,
-    pub arg: u16,
+}
+
+impl OutStep {
+    // Whether it can be made silently.
+    pub fn is_silent(&self, world: &World) -> bool
+        ensures { result ≡ silent_in (domain_at world.now.task) world.now.state (label_of self.now) }
+    {
+        match self.label {
+            Label::Free => true,
+            Label::Test(a) => world.holds(a),
+            Label::Fails(a) => !world.holds(a),
+            Label::Make(_) => false,
+        }
+    }
 }
 
 // Where step k of the list starts.
@@ -25,9 +43,8 @@ pub fn step_at(list: &[u16], k: usize) -> OutStep
     ensures { IsStep list.now k result }
 {
     OutStep {
-        kind: list[k * 4],
+        label: Label::of(list[k * 4], list[k * 4 + 3]),
         to: list[k * 4 + 2],
-        arg: list[k * 4 + 3],
     }
 }
 
@@ -35,11 +52,10 @@ pub fn step_at(list: &[u16], k: usize) -> OutStep
 pub fn is_silent(values: &[bool], step: OutStep) -> bool
     ensures { result ≡ silent_by values.now (label_of step) }
 {
-    let kind = step.kind;
-    match kind {
-        0 => true,
-        1 => domain::formulas::value_at(values, step.arg),
-        2 => !domain::formulas::value_at(values, step.arg),
-        _ => false,
+    match step.label {
+        Label::Free => true,
+        Label::Test(a) => domain::formulas::value_at(values, a),
+        Label::Fails(a) => !domain::formulas::value_at(values, a),
+        Label::Make(_) => false,
     }
 }

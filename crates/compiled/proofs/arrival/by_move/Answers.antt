@@ -9,7 +9,7 @@ returns-then-move_count-m c =
     let a = c.args in
     record {
       leads = arrives_nowhere _ _ _ _
-          (successor_past (task_of a.head a.rows.now) a.step.arg a.state (omega (arith, c.if-move_count-m.true, c.move_count.ensures)));
+          (successor_past (task_of a.head a.rows.now) a.m a.state (omega (arith, c.if-move_count-m.true, c.move_count.ensures)));
       cached = c.requires.successors;
     }
 

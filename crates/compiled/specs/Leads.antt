@@ -1,0 +1,9 @@
+-- Where a step leads, as the code's answer says it.
+use Rattle.std.specs.Prelude.{Option, None, Some}
+use Rattle.semantics.specs.Machine as M
+use Rattle.semantics.specs.StepVerdict.{Configuration, arrival}
+use Rattle.compiled.specs.declared.explored.Arrival.{Arrival}
+
+abbrev pub arrival_in : Option Arrival → Option (M.Arrival Configuration)
+arrival_in None = None
+arrival_in (Some a) = Some (arrival a.state a.position a.cost)
