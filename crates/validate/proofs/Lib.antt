@@ -1,4 +1,3 @@
-pub mod WantedLaws
 pub mod MarkLaws
 pub mod FollowLaws
 pub mod SetLaws

@@ -6,6 +6,7 @@ ghost use Rattle.compiled.specs.Adjacency.{steps_on, Indexed};
 ghost use Rattle.compiled.specs.Steps.{label_of, silent_by};
 ghost use Rattle.validate.specs.Positions.{Counted, CountedSet, wanted_by, Followed, Marking};
 
+use compile::label::Label;
 use compiled::steps::OutStep;
 use limits::POSITIONS;
 
@@ -25,17 +26,16 @@ pub enum Wanted {
     Move(u16),
 }
 
+#[tactic(auto, unfolding(crate::specs::Positions::wanted_by, semantics::specs::PositionSets::is_move))]
 fn is_wanted(wanted: Wanted, values: &[bool], step: OutStep) -> bool
     ensures { result ≡ wanted_by wanted values.now (label_of step) }
 {
     match wanted {
         Wanted::Silent => compiled::steps::is_silent(values, step),
-        Wanted::Move(m) => {
-            if step.kind < 3 {
-                return false;
-            }
-            step.arg == m
-        }
+        Wanted::Move(m) => match step.label {
+            Label::Make(a) => a == m,
+            _ => false,
+        },
     }
 }
 
