@@ -80,11 +80,12 @@ fn lay_out(
         let short = load::room::too_short(need);
         return SheetAnswer::Refused(short);
     }
-    compile::program::compile(&Task { head, rows }, list);
+    let task = Task { head, rows };
+    compile::program::compile(&task, list);
     let Verdict::Plan(_) = verdict else {
         return SheetAnswer::Said(verdict);
     };
-    layout::sheet::put_sheet(head, rows, plan, out);
+    layout::sheet::put_sheet(&task, plan, out);
     SheetAnswer::Laid(need)
 }
 

@@ -1,19 +1,15 @@
 -- Lines of a sheet, column by column.
 -- Assumes nothing.
-use Prim.Native.Nat.{ℕ, ◌+◌, ◌*◌, ◌≤◌, ◌<◌}
-use mathlib.Core.Path.{◌≡◌, refl, sym, ◌∙◌, ap}
-use mathlib.Core.List.{List, [], ◌∷◌, ◌++◌, append_assoc}
-use native.Mathlib.Omega.{arith}
-use lib.ListN.{length, set, length-append}
-use lib.Seq.{sets}
-use Rattle.laws.proofs.Lists.{sets_on}
+use Rattle.std.proofs.Common.{◌≡◌, ℕ, ◌+◌, ◌*◌, ◌≤◌, ◌<◌, List, [], ◌∷◌, ◌++◌, length, take, drop, set, get_or, sym, refl, ap, ◌∙◌, arith, append_assoc, length-append, drop-cons, suc, replicate, length-drop, length-take-le}
+use borrow.Rule.Slice.PartMut.{put_mid}
+use Rattle.std.proofs.lemmas.List.{take_at, drop_at, drop-drop, drop_all, set_at}
 use Rattle.limits.specs.Limits.{most_moves, most_cost, most_entries}
 use Rattle.text.specs.Written.{decimal}
 use Rattle.text.proofs.DecimalLaws.{decimal_short}
 use Rattle.layout.specs.Column.{spaces, column}
 use Rattle.layout.specs.Sheet.{line_size, line_bytes, FitsColumns, blank_line}
 use Rattle.layout.specs.declared.line.SheetLine.{SheetLine}
-use Rattle.layout.proofs.ColumnLaws.{spaces_length, column_length, column_wider}
+use Rattle.layout.proofs.ColumnLaws.{column_length, column_wider}
 
 -- a line's bytes, its line feed among them
 abbrev pub WholeLine : List ℕ → Type 0
@@ -31,6 +27,18 @@ within_fits {l} r m c t = record {
 -- two spaces and a column behind some bytes
 gap : (v : List ℕ) (width n : ℕ) → length (decimal n) ≤ width → v ++ spaces 2 ++ column width n ≡ v ++ column (2 + width) n
 gap v width n h = append_assoc v (spaces 2) (column width n) ∙ ap (λ (w : List ℕ). v ++ w) (column_wider width n h)
+
+-- a column that is written behind what is written
+column_behind : (v old l c : List ℕ) (p k n : ℕ) → length v ≡ p → p + k ≤ length old → l ≡ v ++ drop p old → c ≡ column (length (take k (drop p l))) n
+    → put_mid p k l c ≡ v ++ column k n ++ drop (p + k) old
+column_behind v old l c p k n h w e f =
+    let d : drop p l ≡ drop p old = ap (drop p) e ∙ drop_at v (drop p old) p h in
+    let m : length (take k (drop p l)) ≡ k = rw d (length-take-le k (drop p old) (omega (arith, length-drop p old))) in
+    rw (d, ap (take p) e ∙ take_at v (drop p old) p h, drop-drop k p old, f, m) (sym (append_assoc v (column k n) (drop (p + k) old)))
+
+-- a byte that is written behind what is written, and is the last
+last_behind : (v old : List ℕ) (n b : ℕ) → length v ≡ n → length old ≡ n + 1 → set (v ++ drop n old) n b ≡ v ++ (b ∷ [])
+last_behind v old n b h k = rw (drop-cons old n 0 (omega arith), drop_all (suc n) old (omega arith)) (set_at v (get_or old n 0) [] b n h)
 
 module _ (l : SheetLine) (f : FitsColumns l) where
   abbrev two : List ℕ
@@ -65,20 +73,23 @@ module _ (l : SheetLine) (f : FitsColumns l) where
   line_length_lem = ap length (sym as_written) ∙ length-append four (10 ∷ []) ∙ omega (arith, four_length)
 
   -- four columns and the line feed, one after another
-  pub line_laid : (old : List ℕ) (at : ℕ) {a b c d new : List ℕ} → a ≡ sets old at (column 5 l.row) → b ≡ sets a (at + 5) (column 5 l.action)
-      → c ≡ sets b (at + 10) (column 9 l.cost) → d ≡ sets c (at + 19) (column 11 l.total) → new ≡ set d (at + 30) 10
-      → new ≡ sets old at (line_bytes l)
-  line_laid old at ea eb ec ed en =
-      let x = sets_on old (column 5 l.row) (column 5 l.action) at (at + 5) ea (omega (arith, column_length 5 l.row f.row)) eb in
-      let y = sets_on old two (column 9 l.cost) at (at + 10) x (omega (arith, two_length)) ec in
-      let z = sets_on old three (column 11 l.total) at (at + 19) y (omega (arith, three_length)) ed in
-      sets_on old four (10 ∷ []) at (at + 30) z (omega (arith, four_length)) en ∙ ap (sets old at) as_written
+  pub line_put : (old a b c d : List ℕ) → WholeLine old → a ≡ column (length (take 5 old)) l.row
+      → b ≡ column (length (take 5 (drop 5 (a ++ drop 5 old)))) l.action
+      → c ≡ column (length (take 9 (drop 10 (put_mid 5 5 (a ++ drop 5 old) b)))) l.cost
+      → d ≡ column (length (take 11 (drop 19 (put_mid 10 9 (put_mid 5 5 (a ++ drop 5 old) b) c)))) l.total
+      → set (put_mid 19 11 (put_mid 10 9 (put_mid 5 5 (a ++ drop 5 old) b) c) d) 30 10 ≡ line_bytes l
+  line_put old a b c d w ea eb ec ed =
+      let first : a ++ drop 5 old ≡ column 5 l.row ++ drop 5 old = rw (ea, length-take-le 5 old (omega arith)) in
+      let second = column_behind (column 5 l.row) old _ b 5 5 l.action (column_length 5 l.row f.row) (omega arith) first eb in
+      let third = column_behind two old _ c 10 9 l.cost two_length (omega arith) second ec in
+      let fourth = column_behind three old _ d 19 11 l.total three_length (omega arith) third ed in
+      ap (λ (v : List ℕ). set v 30 10) fourth ∙ last_behind four old 30 10 four_length w ∙ as_written
 
 -- a line of spaces
 pub blank_length : WholeLine blank_line
 unfolding blank_line
 blank_length = refl
 
-pub blank_laid : (old : List ℕ) (at : ℕ) {a new : List ℕ} → a ≡ sets old at (spaces 30) → new ≡ set a (at + 30) 10 → new ≡ sets old at blank_line
+pub blank_put : (old spaced : List ℕ) → WholeLine old → spaced ≡ replicate (length old) 32 → set spaced 30 10 ≡ blank_line
 unfolding blank_line
-blank_laid old at ea en = sets_on old (spaces 30) (10 ∷ []) at (at + 30) ea (omega (arith, spaces_length 30)) en
+blank_put old spaced w e = rw (e, w)

@@ -1,5 +1,5 @@
 -- Numbers in columns: "numbers set right".
-use Rattle.std.specs.Prelude.{ℕ, ◌-◌, cond, List, ◌++◌, eqb, length, replicate}
+use Rattle.std.specs.Prelude.{ℕ, ◌-◌, List, ◌++◌, length, replicate}
 use Rattle.text.specs.Written.{decimal}
 
 -- so many spaces (byte 32)
@@ -9,8 +9,3 @@ spaces n = replicate n 32
 -- a number set right in so many bytes
 unfoldable pub column : ℕ → ℕ → List ℕ
 column width n = spaces (width - length (decimal n)) ++ decimal n
-
--- what stands in front of the last digit of a number whose tenth is `rest`: spaces where no digit
--- is left
-abbrev pub leading : ℕ → ℕ → List ℕ
-leading width rest = cond (eqb rest 0) (spaces width) (column width rest)

@@ -1,9 +1,8 @@
 // Lines of a sheet, each of 30 bytes and a line feed.
-ghost use Rattle.std.specs.Prelude.{◌≡◌, ◌+◌, ◌≤◌, length};
-ghost use Rattle.std.proofs.lemmas.List.Edits.{sets};
+ghost use Rattle.std.specs.Prelude.{◌≡◌, length};
 ghost use Rattle.layout.specs.Sheet.{line_size, line_bytes, FitsColumns, blank_line};
 
-use crate::column;
+use crate::column::column;
 
 // Bytes of a line, without its line feed and with it.
 const WIDTH: usize = 30;
@@ -20,22 +19,23 @@ pub struct SheetLine {
 }
 
 // A move's line. Two spaces and a number set right behind them are a column that is two wider.
-pub fn put_line(out: &mut [u8], at: usize, line: SheetLine)
-    requires { (at + line_size ≤ length out.old) × FitsColumns line }
-    ensures { out.new ≡ sets out.old at (line_bytes line) }
+pub fn put_line(out: &mut [u8], line: SheetLine)
+    requires size { length out.old ≡ line_size }
+    requires fits { FitsColumns line }
+    ensures { out.new ≡ line_bytes line }
 {
-    column::column(out, at, 5, line.row);
-    column::column(out, at + 5, 5, line.action);
-    column::column(out, at + 10, 9, line.cost);
-    column::column(out, at + 19, 11, line.total);
-    out[at + WIDTH] = 10;
+    column(&mut out[..5], line.row);
+    column(&mut out[5..10], line.action);
+    column(&mut out[10..19], line.cost);
+    column(&mut out[19..WIDTH], line.total);
+    out[WIDTH] = b'\n';
 }
 
 // A line of spaces.
-pub fn put_blank(out: &mut [u8], at: usize)
-    requires { at + line_size ≤ length out.old }
-    ensures { out.new ≡ sets out.old at blank_line }
+pub fn put_blank(out: &mut [u8])
+    requires { length out.old ≡ line_size }
+    ensures { out.new ≡ blank_line }
 {
-    column::spaces(out, at, WIDTH);
-    out[at + WIDTH] = 10;
+    out.fill(b' ');
+    out[WIDTH] = b'\n';
 }

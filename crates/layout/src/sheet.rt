@@ -3,14 +3,12 @@ ghost use Rattle.std.specs.Prelude.{◌≡◌, ◌-◌, ◌*◌, ◌≤◌, leng
 ghost use mathlib.Core.List.{map, flatten};
 ghost use Rattle.std.proofs.lemmas.List.Edits.{sets};
 ghost use Rattle.limits.specs.Limits.{most_entries};
-ghost use Rattle.job.specs.Stored.{Stored};
-ghost use Rattle.domain.specs.Domain.{domain_in};
+ghost use Rattle.domain.specs.Domain.{domain_at};
 ghost use Rattle.domain.specs.Entries.{EntriesBelow};
 ghost use Rattle.layout.specs.Sheet.{line_size, line_bytes, plan_lines, page_lines, blank_line, sheet_of, sheet_size};
 
 use crate::line::{LINE, SheetLine, put_blank, put_line};
-use domain::Successor;
-use job::head::Head;
+use domain::world::World;
 use job::task::Task;
 
 // Lines of a page.
@@ -24,7 +22,7 @@ fn page_lines(count: usize) -> usize
     requires { count ≤ most_entries }
     ensures { result ≡ page_lines count }
 {
-    (count + PAGE - 1) / PAGE * PAGE
+    count.next_multiple_of(PAGE)
 }
 
 // How many bytes the sheet of so many moves has.
@@ -36,57 +34,53 @@ pub fn sheet_size(count: usize) -> usize
 }
 
 // Writes a line for each move, up to the first that is not applicable, and answers how many.
-fn put_lines(head: Head, rows: &[u16], plan: &[u16], out: &mut [u8]) -> usize
-    requires stored { Stored head rows.now }
-    requires entries_below { EntriesBelow plan.now (domain_in head rows.now).moves × (length plan.now * line_size ≤ length out.old) }
-    ensures { (out.new ≡ sets out.old 0 (flatten (map line_bytes (plan_lines (domain_in head rows.now) plan.now))))
-        × (result ≡ length (plan_lines (domain_in head rows.now) plan.now)) × (result ≤ length plan.now) }
+fn put_lines(task: &Task, plan: &[u16], out: &mut [u8]) -> usize
+    requires entries_below { EntriesBelow plan.now (domain_at task.now).moves }
+    requires room { length plan.now * line_size ≤ length out.old }
+    ensures lines { out.new ≡ sets out.old 0 (flatten (map line_bytes (plan_lines (domain_at task.now) plan.now))) }
+    ensures count { result ≡ length (plan_lines (domain_at task.now) plan.now) }
+    ensures within { result ≤ length plan.now }
 {
-    let mut state = domain::states::start(&Task { head, rows });
-    let mut total: u64 = 0;
-    let mut i: usize = 0;
-    while i < plan.len() {
-        let m = plan[i];
-        let values = domain::formulas::formula_values(head, rows, state);
-        let spent = domain::moves::cost(head, rows, &values, m, state);
-        let after = domain::moves::successor(head, rows, &values, m, state);
-        total += spent;
-        let at = i * LINE;
-        i += 1;
+    let mut state = domain::states::start(task);
+    let mut total = 0;
+    for (i, &m) in plan.iter().enumerate() {
+        let world = World::at(task, state);
+        let cost = world.cost(m);
+        total += cost;
         let line = SheetLine {
-            row: i as u64,
+            row: i as u64 + 1,
             action: m as u64,
-            cost: spent,
-            total: total,
+            cost,
+            total,
         };
-        put_line(out, at, line);
-        let Successor::To(next) = after else {
-            return i;
+        let at = i * LINE;
+        put_line(&mut out[at..at + LINE], line);
+        let Some(next) = world.successor(m) else {
+            return i + 1;
         };
         state = next;
     }
-    i
+    plan.len()
 }
 
 // Fills the last page of so many lines with lines of spaces.
 fn fill_page(out: &mut [u8], count: usize)
-    requires { (count ≤ most_entries) × (sheet_size count ≤ length out.old) }
+    requires few { count ≤ most_entries }
+    requires room { sheet_size count ≤ length out.old }
     ensures { out.new ≡ sets out.old (count * line_size) (flatten (replicate (page_lines count - count) blank_line)) }
 {
-    let end = page_lines(count);
-    let mut i = count;
-    while i < end {
-        put_blank(out, i * LINE);
-        i += 1;
+    for i in count..page_lines(count) {
+        let at = i * LINE;
+        put_blank(&mut out[at..at + LINE]);
     }
 }
 
 // Writes the sheet of a plan over the front of the output.
-pub fn put_sheet(head: Head, rows: &[u16], plan: &[u16], out: &mut [u8])
-    requires stored { Stored head rows.now }
-    requires entries_below { EntriesBelow plan.now (domain_in head rows.now).moves × (sheet_size (length plan.now) ≤ length out.old) }
-    ensures { out.new ≡ sets out.old 0 (sheet_of (domain_in head rows.now) plan.now) }
+pub fn put_sheet(task: &Task, plan: &[u16], out: &mut [u8])
+    requires entries_below { EntriesBelow plan.now (domain_at task.now).moves }
+    requires room { sheet_size (length plan.now) ≤ length out.old }
+    ensures { out.new ≡ sets out.old 0 (sheet_of (domain_at task.now) plan.now) }
 {
-    let count = put_lines(head, rows, plan, out);
+    let count = put_lines(task, plan, out);
     fill_page(out, count);
 }

@@ -18,7 +18,7 @@ put_sheet-requires c =
     let o = c.args in
     let n = plan_need c.requires.sized.0 c.requires.entries_below o.list.now o.out.now v.result v.ensures
     c.bytes_needed-need.ensures c.in-Plan.is in
-    record { stored = c.requires.sized.0.stored; entries_below = (c.requires.entries_below, omega (arith, c.if-out-need.false, n)) }
+    record { entries_below = c.requires.entries_below; room = omega (arith, c.if-out-need.false, n) }
 
 pub returns : goal.returns
 returns c =
