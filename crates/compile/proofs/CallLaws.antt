@@ -6,9 +6,9 @@ use mathlib.Core.Path.{◌≡◌, refl, sym, ◌∙◌, ap, subst}
 use mathlib.Core.Bool.{true, ◌&&◌}
 use mathlib.Core.List.{List, ◌∷◌}
 use native.Mathlib.Omega.{arith}
-use lib.ListN.{length}
+use lib.ListN.{length, drop}
 use Rattle.laws.proofs.Tests.{and_left, and_right}
-use Rattle.limits.specs.Limits.{most_objects, most_positions}
+use Rattle.limits.specs.Limits.{most_objects, most_positions, most_program}
 use Rattle.job.specs.Store.{job_of}
 use Rattle.job.specs.Stored.{Stored}
 use Rattle.job.proofs.StoredLaws.{limited}
@@ -18,18 +18,16 @@ use Rattle.semantics.specs.Program.{Program, pick}
 use Rattle.semantics.specs.Scope.{scoped}
 use Rattle.compile.specs.Program.{row_program}
 use Rattle.compile.specs.Construct.{BaseRight, HasObject, program_in, RowSays}
-use Rattle.compile.specs.Env.{objects_from, EnvRight}
 use Rattle.compile.specs.Size.{size_algebra, sizes_of, sizes_in}
-use Rattle.compile.specs.Laid.{StepsLaid, RowLaid, Enough}
+use Rattle.compile.specs.Laid.{next, StepsLaid, RowLaid, Enough}
 use Rattle.compile.specs.declared.rows.Simple.{Simple}
 use Rattle.compile.specs.declared.rows.Guard.{Guard}
 use Rattle.compile.specs.declared.rows.Construct.{Construct}
 use Rattle.compile.specs.declared.rows.Construct.TheVariants.{Leaf, Any, Seq, Branch, Loop, Pick}
 use Rattle.compile.specs.declared.sizes.Sizes.{Sizes}
-use Rattle.compile.specs.declared.steps.Cursor.{Cursor}
+use Rattle.compile.specs.declared.writing.Cursor.{Cursor}
 use Rattle.compile.proofs.Shapes.{branch_scoped, loop_scoped, has_object, row_gives}
-use Rattle.compile.proofs.StepsLaidLaws.{next, wrote_end}
-use Rattle.compile.proofs.EnvLaws.{env_kept, env_behind}
+use Rattle.compile.proofs.StepsLaidLaws.{wrote_end}
 use Rattle.compile.proofs.PickLaws.{CopiesLaid, copied_none, copied_more, copy_room, copy_next}
 
 module _ (h : Head) (l : List ℕ) where
@@ -41,32 +39,23 @@ module _ (h : Head) (l : List ℕ) where
 
   -- what a call for row i asks, and one for a pick whose body is row a; it holds of the call that is
   -- being made
-  abbrev pub Fit : ℕ → Cursor → ℕ → List ℕ → ℕ → Type 0
-  Fit i from start env places =
-      ((i < h.counts.program) × EnvRight start env × (i < start)) × Enough h.counts (objects_from start env) (of i) from places
+  abbrev pub Fit : ℕ → Cursor → List ℕ → ℕ → Type 0
+  Fit i from env places = ((i < h.counts.program) × (length env + i < most_program)) × Enough h.counts env (of i) from places
 
-  abbrev pub PickFit : ℕ → Cursor → ℕ → List ℕ → ℕ → Type 0
-  PickFit a from start env places =
-      ((a < h.counts.program) × EnvRight start env × (a + 1 < start)) × Enough h.counts (objects_from start env) (pick (of a)) from places
-
-pub told : {f : ℕ → Program} {i : ℕ} {r k : Construct} → r ≡ k → RowSays f i r → RowSays f i k
-told {f} {i} {r} {k} e s = subst (λ (x : Construct). RowSays f i x) e s
+  abbrev pub PickFit : ℕ → Cursor → List ℕ → ℕ → Type 0
+  PickFit a from env places = ((a < h.counts.program) × (length env + a + 1 < most_program)) × Enough h.counts env (pick (of a)) from places
 
 -- what holds inside picks of some objects holds where these are the same
 pub in_env : {c : Counts} {e₁ e₂ : List ℕ} {σ : Program} {old new : List ℕ} {from to : Cursor} → e₂ ≡ e₁ → StepsLaid c e₂ σ old from new to
     → StepsLaid c e₁ σ old from new to
 in_env {c} {e₁} {e₂} {σ} {old} {new} {from} {to} e w = subst (λ (x : List ℕ). StepsLaid c x σ old from new to) e w
 
-module _ {h : Head} {l : List ℕ} {i t places start : ℕ} {from : Cursor} {env : List ℕ} (stored : Stored h l)
-    (p : (2 * i ≡ t) × Fit h l i from start env places) where
+module _ {h : Head} {l : List ℕ} {i t places : ℕ} {from : Cursor} {env : List ℕ} (stored : Stored h l) (p : (2 * i ≡ t) × Fit h l i from env places) where
   abbrev c : Counts
   c = h.counts
 
-  abbrev objects : List ℕ
-  objects = objects_from start env
-
   abbrev d : ℕ
-  d = length objects
+  d = length env
 
   -- the room that a row has, and that its variables have objects, by what it says
   room : (r : Construct) → RowSays (of h l) i r
@@ -79,23 +68,19 @@ module _ {h : Head} {l : List ℕ} {i t places start : ℕ} {from : Cursor} {env
   variables r s = rw s.is at p.1.1.variables
 
   -- a call for an earlier row, after others that have kept the objects
-  call : {j z : ℕ} {x : Cursor} {env₂ : List ℕ} → j < i → z ≡ places → length env₂ ≡ length env → objects_from start env₂ ≡ objects
-      → Enough c objects (of h l j) x places → (2 * j < t) × Fit h l j x start env₂ z
-  call {j} {z} {x} g e q k r = (
-    omega (arith, g, p.0),
-    ((omega (arith, g, p.1.0.0), env_kept p.1.0.1 q k, omega (arith, g, p.1.0.2)), rw (k, e) r),
-  )
+  call : {j z : ℕ} {x : Cursor} {env₂ : List ℕ} → j < i → z ≡ places → env₂ ≡ env → Enough c env (of h l j) x places → (2 * j < t) × Fit h l j x env₂ z
+  call {j} {z} {x} g e k r = (omega (arith, g, p.0), rw (k, e) ((omega (arith, g, p.1.0.0), omega (arith, g, p.1.0.1)), r))
 
   -- a position has one after it
   pub next_ok : from.position < 65535
   next_ok = omega (arith, p.1.1.positions)
 
-  pub leaf_object : {s : Simple} → RowSays (of h l) i (Leaf s) → HasObject objects s
-  leaf_object {s} x = has_object objects s (variables (Leaf s) x)
+  pub leaf_object : {s : Simple} → RowSays (of h l) i (Leaf s) → HasObject env s
+  leaf_object {s} x = has_object env s (variables (Leaf s) x)
 
   pub leaf_ok : {s : Simple} → RowSays (of h l) i (Leaf s)
-      → (EnvRight start env × BaseRight s × HasObject (objects_from start env) s) × ((from.at + 4 ≤ places) × (from.position < 65535))
-  leaf_ok {s} x = ((p.1.0.1, x.refers, leaf_object x), (omega (arith, (room (Leaf s) x).1), next_ok))
+      → (BaseRight s × HasObject env s) × ((from.at + 4 ≤ places) × (from.position < 65535))
+  leaf_ok {s} x = ((x.refers, leaf_object x), (omega (arith, (room (Leaf s) x).1), next_ok))
 
   pub any_ok : RowSays (of h l) i Any → (from.at + c.moves * 4 ≤ places) × (from.position < 65535)
   any_ok x = (omega (arith, (room Any x).1), next_ok)
@@ -109,42 +94,42 @@ module _ {h : Head} {l : List ℕ} {i t places start : ℕ} {from : Cursor} {env
     unfolding scoped
     seq_variables = both a b (variables (Seq a b) s)
 
-    pub seq_first : (2 * a < t) × Fit h l a from start env places
+    pub seq_first : (2 * a < t) × Fit h l a from env places
     seq_first =
         let q = room (Seq a b) s in
-        call s.refers.0 refl refl refl (record { variables = seq_variables.0; positions = omega (arith, q.0); room = omega (arith, q.1) })
+        call s.refers.0 refl refl (record { variables = seq_variables.0; positions = omega (arith, q.0); room = omega (arith, q.1) })
 
-    pub seq_second : {old mid env₂ : List ℕ} {x : Cursor} {z : ℕ} → z ≡ places → length env₂ ≡ length env
-        → RowLaid c (of h l a) start env old from mid x env₂ → (2 * b < t) × Fit h l b x start env₂ z
-    seq_second e n w =
+    pub seq_second : {old mid env₂ : List ℕ} {x : Cursor} {z : ℕ} → z ≡ places
+        → RowLaid c (of h l a) env old from mid x env₂ → (2 * b < t) × Fit h l b x env₂ z
+    seq_second e w =
         let q = room (Seq a b) s in
         let v = wrote_end seq_variables.0 w.steps in
-        call s.refers.1 e n w.kept (record { variables = seq_variables.1; positions = omega (arith, q.0, v.0); room = omega (arith, q.1, v.1) })
+        call s.refers.1 e w.kept (record { variables = seq_variables.1; positions = omega (arith, q.0, v.0); room = omega (arith, q.1, v.1) })
 
   module _ {g : Guard} {a b : ℕ} (s : RowSays (of h l) i (Branch g a b)) where
     branch_variables : (scoped d (of h l a) ≡ true) × (scoped d (of h l b) ≡ true)
     branch_variables = both a b (sym (branch_scoped d g (of h l a) (of h l b)) ∙ variables (Branch g a b) s)
 
-    pub branch_first : (2 * a < t) × Fit h l a (next from) start env places
+    pub branch_first : (2 * a < t) × Fit h l a (next from) env places
     branch_first =
         let q = room (Branch g a b) s in
-        call s.refers.0 refl refl refl (record { variables = branch_variables.0; positions = omega (arith, q.0); room = omega (arith, q.1) })
+        call s.refers.0 refl refl (record { variables = branch_variables.0; positions = omega (arith, q.0); room = omega (arith, q.1) })
 
-    module _ {old mid env₂ : List ℕ} {x : Cursor} (w : RowLaid c (of h l a) start env old (next from) mid x env₂) where
+    module _ {old mid env₂ : List ℕ} {x : Cursor} (w : RowLaid c (of h l a) env old (next from) mid x env₂) where
       abbrev first_end : (x.position ≡ from.position + 1 + (sizes h l a).positions) × (x.at ≡ from.at + (sizes h l a).steps * 4)
       first_end = wrote_end branch_variables.0 w.steps
 
       pub branch_next : x.position < 65535
       branch_next = omega (arith, (room (Branch g a b) s).0, first_end.0)
 
-      pub branch_second : {z : ℕ} → z ≡ places → length env₂ ≡ length env → (2 * b < t) × Fit h l b (next x) start env₂ z
-      branch_second e n =
+      pub branch_second : {z : ℕ} → z ≡ places → (2 * b < t) × Fit h l b (next x) env₂ z
+      branch_second e =
           let q = room (Branch g a b) s in
           let v = first_end in
-          call s.refers.1 e n w.kept
+          call s.refers.1 e w.kept
           (record { variables = branch_variables.1; positions = omega (arith, q.0, v.0); room = omega (arith, q.1, v.1) })
 
-      pub branch_ok : {new env₃ : List ℕ} {y : Cursor} {z : ℕ} → z ≡ places → RowLaid c (of h l b) start env₂ mid (next x) new y env₃
+      pub branch_ok : {new env₃ : List ℕ} {y : Cursor} {z : ℕ} → z ≡ places → RowLaid c (of h l b) env₂ mid (next x) new y env₃
           → (y.at + 16 ≤ z) × (from.position < 65535) × (x.position < 65535) × (y.position < 65535)
       branch_ok e u =
           let q = room (Branch g a b) s in
@@ -156,71 +141,56 @@ module _ {h : Head} {l : List ℕ} {i t places start : ℕ} {from : Cursor} {env
     loop_variables : scoped d (of h l a) ≡ true
     loop_variables = sym (loop_scoped d g (of h l a)) ∙ variables (Loop g a) s
 
-    pub loop_first : (2 * a < t) × Fit h l a (next from) start env places
+    pub loop_first : (2 * a < t) × Fit h l a (next from) env places
     loop_first =
         let q = room (Loop g a) s in
-        call s.refers refl refl refl (record { variables = loop_variables; positions = omega (arith, q.0); room = omega (arith, q.1) })
+        call s.refers refl refl (record { variables = loop_variables; positions = omega (arith, q.0); room = omega (arith, q.1) })
 
-    pub loop_ok : {old mid env₂ : List ℕ} {x : Cursor} {z : ℕ} → z ≡ places → RowLaid c (of h l a) start env old (next from) mid x env₂
+    pub loop_ok : {old mid env₂ : List ℕ} {x : Cursor} {z : ℕ} → z ≡ places → RowLaid c (of h l a) env old (next from) mid x env₂
         → (x.at + 12 ≤ z) × (from.position < 65535) × (x.position < 65535)
     loop_ok e w =
         let q = room (Loop g a) s in
         let v = wrote_end loop_variables w.steps in
         (omega (arith, e, q.1, v.1), next_ok, omega (arith, q.0, v.0))
 
-  pub pick_first : {a : ℕ} → RowSays (of h l) i (Pick a) → (2 * a + 1 < t) × PickFit h l a from start env places
-  pick_first s = (
-    omega (arith, s.refers, p.0),
-    ((omega (arith, s.refers, p.1.0.0), p.1.0.1, omega (arith, s.refers, p.1.0.2)), rw s.is at p.1.1),
-  )
+  pub pick_first : {a : ℕ} → RowSays (of h l) i (Pick a) → (2 * a + 1 < t) × PickFit h l a from env places
+  pick_first s = (omega (arith, s.refers, p.0), ((omega (arith, s.refers, p.1.0.0), omega (arith, s.refers, p.1.0.1)), rw s.is at p.1.1))
 
 -- the first o copies of the body of a pick are laid, and the objects are kept
-pub record Copied (c : Counts) (σ : Program) (start : ℕ) (env old : List ℕ) (from : Cursor) (o : ℕ) (list : List ℕ) (last : Cursor) (env₂ : List ℕ)
-    : Type 0 where
-  pub copies : CopiesLaid c (objects_from start env) σ old from o list last
-  pub size : length env₂ ≡ length env
-  pub kept : objects_from start env₂ ≡ objects_from start env
-
--- an object is put before those, at place `inside`
-abbrev Inside : ℕ → List ℕ → ℕ → ℕ → List ℕ → Type 0
-Inside start env₂ o inside env₃ = (objects_from inside env₃ ≡ o ∷ objects_from start env₂) × EnvRight inside env₃ × (inside + 1 ≡ start)
+pub record Copied (c : Counts) (σ : Program) (env old : List ℕ) (from : Cursor) (o : ℕ) (list : List ℕ) (last : Cursor) (env₂ : List ℕ) : Type 0 where
+  pub copies : CopiesLaid c env σ old from o list last
+  pub kept : env₂ ≡ env
 
 -- the calls of a pick whose body is row a
-module _ {h : Head} {l : List ℕ} {a t places start : ℕ} {from : Cursor} {env : List ℕ} (stored : Stored h l)
-    (p : (2 * a + 1 ≡ t) × PickFit h l a from start env places) where
+module _ {h : Head} {l : List ℕ} {a t places : ℕ} {from : Cursor} {env : List ℕ} (stored : Stored h l) (p : (2 * a + 1 ≡ t) × PickFit h l a from env places) where
   pub pick_next : from.position < 65535
   pick_next = omega (arith, p.1.1.positions)
 
-  module _ {old list env₂ : List ℕ} {last : Cursor} {o : ℕ} (k : Copied h.counts (of h l a) start env old from o list last env₂)
-      (g : o < h.counts.objects) where
-    pub inside_ok : EnvRight start env₂ × (0 < start) × (o < most_objects)
-    inside_ok = (env_kept p.1.0.1 k.size k.kept, omega (arith, p.1.0.2), omega (arith, g, (limited stored).objects))
+  module _ {old list env₂ : List ℕ} {last : Cursor} {o : ℕ} (k : Copied h.counts (of h l a) env old from o list last env₂) (g : o < h.counts.objects) where
+    pub enter_ok : (length env₂ < most_program) × (o < most_objects)
+    enter_ok = (rw k.kept (omega (arith, p.1.0.1)), omega (arith, g, (limited stored).objects))
 
-    module _ {env₃ : List ℕ} {inside : ℕ} (e : Inside start env₂ o inside env₃) where
-      inside_is : objects_from inside env₃ ≡ o ∷ objects_from start env
-      inside_is = e.0 ∙ ap (λ (x : List ℕ). o ∷ x) k.kept
+    module _ {env₃ : List ℕ} (e : env₃ ≡ o ∷ env₂) where
+      inside_is : env₃ ≡ o ∷ env
+      inside_is = e ∙ ap (λ (x : List ℕ). o ∷ x) k.kept
 
       -- the copy of an object
-      pub copy_first : length old ≡ places → (2 * a < t) × Fit h l a last inside env₃ (length list)
-      copy_first q = (
-        omega (arith, p.0),
-        ((p.1.0.0, e.1, omega (arith, e.2, p.1.0.2)), copy_room p.1.1 q k.copies g inside_is),
-      )
+      pub copy_first : length old ≡ places → (2 * a < t) × Fit h l a last env₃ (length list)
+      copy_first q = (omega (arith, p.0), ((p.1.0.0, rw inside_is (omega (arith, p.1.0.1))), copy_room p.1.1 q k.copies g inside_is))
 
-      module _ {new env₄ : List ℕ} {x : Cursor} (w : RowLaid h.counts (of h l a) inside env₃ list last new x env₄) where
+      module _ {new env₄ : List ℕ} {x : Cursor} (w : RowLaid h.counts (of h l a) env₃ list last new x env₄) where
         pub next_copy : length old ≡ places → x.position < 65535
         next_copy q = copy_next p.1.1 q k.copies g inside_is w.steps
 
-        pub one_copied : length new ≡ length list → length env₄ ≡ length env₂
-            → Copied h.counts (of h l a) start env old from (o + 1) new (next x) env₄
-        one_copied q n = record {
+        pub one_copied : {env₅ : List ℕ} → env₅ ≡ drop 1 env₄ → length new ≡ length list
+            → Copied h.counts (of h l a) env old from (o + 1) new (next x) env₅
+        one_copied n q = record {
           copies = copied_more k.copies g inside_is w.steps q;
-          size = n ∙ k.size;
-          kept = env_behind inside _ e.2 (w.kept ∙ inside_is);
+          kept = n ∙ ap (drop 1) (w.kept ∙ inside_is);
         }
 
-pub none_copied : {c : Counts} {σ : Program} {start : ℕ} {env old : List ℕ} {from : Cursor} → Copied c σ start env old from 0 old (next from) env
-none_copied = record { copies = copied_none; size = refl; kept = refl }
+pub none_copied : {c : Counts} {σ : Program} {env old : List ℕ} {from : Cursor} → Copied c σ env old from 0 old (next from) env
+none_copied = record { copies = copied_none; kept = refl }
 
 pub some_object : {objects : ℕ} → (objects ≡ 0 → ⊥) → 0 < objects
 some_object h = omega (arith, h)

@@ -23,7 +23,7 @@ use Rattle.compile.specs.Program.{row_program, program_of}
 use Rattle.compile.specs.CompiledJob.{steps_of, final_position_of, position_count, step_count, fits, program_scoped}
 use Rattle.compile.specs.Size.{sizes_of, capped}
 use Rattle.compile.specs.Laid.{StepsLaid, Enough}
-use Rattle.compile.specs.declared.steps.Cursor.{Cursor}
+use Rattle.compile.specs.declared.writing.Cursor.{Cursor}
 use Rattle.compile.proofs.SizeLaws.{has_sizes, Listed}
 
 pub few_positions : (j : Job) → fits j ≡ true → position_count j ≤ most_positions

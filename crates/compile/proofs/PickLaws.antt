@@ -16,11 +16,11 @@ use Rattle.semantics.specs.Scope.{scoped}
 use Rattle.semantics.proofs.FlatLaws.{flat_append, flat_length}
 use Rattle.compile.specs.Construct.{fold}
 use Rattle.compile.specs.Size.{sizes_of}
-use Rattle.compile.specs.Laid.{LaidOver, StepsLaid, Enough}
-use Rattle.compile.specs.declared.steps.Cursor.{Cursor}
+use Rattle.compile.specs.Laid.{next, LaidOver, StepsLaid, Enough}
+use Rattle.compile.specs.declared.writing.Cursor.{Cursor}
 use Rattle.compile.proofs.SizeLaws.{copy_of, start_at, body_count, has_sizes}
 use Rattle.compile.proofs.LaidLaws.{laid_append, laid_none, CopiesOver, copies_none, copies_more}
-use Rattle.compile.proofs.StepsLaidLaws.{next, wrote_end}
+use Rattle.compile.proofs.StepsLaidLaws.{wrote_end}
 
 -- how far apart the copies of a body start, where a pick is compiled from n, and where they do
 abbrev apart : Counts → Program → ℕ

@@ -14,18 +14,14 @@ use Rattle.semantics.specs.Scope.{scoped}
 use Rattle.semantics.proofs.FlatLaws.{flat_append, flat_length}
 use Rattle.compile.specs.Construct.{leaf_label, HasObject, first_label, second_label, loop_steps, RowSays}
 use Rattle.compile.specs.Size.{sizes_of}
-use Rattle.compile.specs.Laid.{LaidOver, StepsLaid}
+use Rattle.compile.specs.Laid.{next, LaidOver, StepsLaid}
 use Rattle.compile.specs.declared.rows.Simple.{Simple}
 use Rattle.compile.specs.declared.rows.Guard.{Guard}
 use Rattle.compile.specs.declared.rows.Construct.TheVariants.{Leaf, Any, Seq, Branch, Loop, Pick}
-use Rattle.compile.specs.declared.steps.Cursor.{Cursor}
+use Rattle.compile.specs.declared.writing.Cursor.{Cursor}
 use Rattle.compile.proofs.SizeLaws.{has_sizes}
 use Rattle.compile.proofs.LaidLaws.{laid_append}
 use Rattle.compile.proofs.Shapes.{row_steps, row_end, leaf_made, leaf_ends, branch_made, loop_made}
-
--- one position on
-abbrev pub next : Cursor → Cursor
-next c = record { position = c.position + 1; at = c.at }
 
 -- where a program's positions and steps end
 pub wrote_end : {c : Counts} {env : List ℕ} {σ : Program} {old new : List ℕ} {from to : Cursor} → scoped (length env) σ ≡ true

@@ -2,35 +2,30 @@
 use Rattle.std.specs.Prelude.{ℕ, ◌+◌, ◌*◌, ◌≤◌, ◌<◌, ◌≡◌, true, List, [], ◌∷◌, length}
 use Rattle.std.proofs.lemmas.List.Edits.{sets}
 use Rattle.limits.specs.Limits.{most_positions}
-use Rattle.semantics.specs.Label as L
-use Rattle.semantics.specs.Label.{noop}
 use Rattle.semantics.specs.Program.{Program}
-use Rattle.semantics.specs.CompilingTable.{Step, arc, end, steps, flat, kind_of, arg_of}
+use Rattle.semantics.specs.CompilingTable.{Step as Arc, arc, end, copies, steps, flat}
 use Rattle.semantics.specs.Scope.{scoped}
 use Rattle.job.specs.declared.head.Counts.{Counts}
-use Rattle.compile.specs.Construct.{first_label, second_label}
-use Rattle.compile.specs.Env.{objects_from}
+use Rattle.compile.specs.Label.{label_of}
 use Rattle.compile.specs.Size.{sizes_of}
-use Rattle.compile.specs.declared.rows.Guard.{Guard}
-use Rattle.compile.specs.declared.steps.Cursor.{Cursor}
-use Rattle.compile.specs.declared.steps.StepLabel.{StepLabel}
-use Rattle.compile.specs.declared.steps.Labels.{Labels}
-use Rattle.compile.specs.declared.steps.Spaced.{Spaced}
+use Rattle.compile.specs.declared.writing.Cursor.{Cursor}
+use Rattle.compile.specs.declared.writing.Step.{Step}
 
--- position number k of those that are so far apart
-abbrev pub position_at : Spaced → ℕ → ℕ
-position_at r k = r.first + r.apart * k
+-- a step as the code has it
+abbrev pub arc_of : Step → Arc
+arc_of s = arc (label_of s.0) s.1 s.2
 
--- a no-op from number k of some positions to number k of others
-abbrev pub link_steps : Spaced → Spaced → ℕ → List Step
-link_steps from to k = arc noop (position_at from k) (position_at to k) ∷ []
+-- one position on
+abbrev pub next : Cursor → Cursor
+next c = record { position = c.position + 1; at = c.at }
 
--- a label in the list, and those of two ways
-abbrev pub label_numbers : L.Label → StepLabel
-label_numbers l = record { kind = kind_of l; arg = arg_of l }
+-- one step for each number below a count
+abbrev pub each : ℕ → (ℕ → Arc) → List Arc
+each count g = copies count (λ k. g k ∷ [])
 
-abbrev pub guard_numbers : Guard → Labels
-guard_numbers g = record { first = kind_of (first_label g); second = kind_of (second_label g); arg = arg_of (first_label g) }
+-- each number below the count gives its step, where `post k s` says that it may give s
+abbrev pub Gives : (ℕ → Step → Type 0) → ℕ → (ℕ → Arc) → Type 0
+Gives post count g = (k : ℕ) (s : Step) → k < count → post k s → arc_of s ≡ g k
 
 -- v over the list from a place on; then comes the next place
 pub record LaidOver (v old : List ℕ) (at : ℕ) (new : List ℕ) (next : ℕ) : Type 0 where
@@ -43,11 +38,10 @@ pub record StepsLaid (c : Counts) (env : List ℕ) (σ : Program) (old : List �
   pub laid : LaidOver (flat (steps c.moves c.objects env σ from.position)) old from.at new to.at
   pub ends : to.position ≡ end c.objects σ from.position
 
--- the same inside picks whose objects stand in a list from a place on, which then holds the same
--- objects
-pub record RowLaid (c : Counts) (σ : Program) (start : ℕ) (env old : List ℕ) (from : Cursor) (new : List ℕ) (to : Cursor) (env₂ : List ℕ) : Type 0 where
-  pub steps : StepsLaid c (objects_from start env) σ old from new to
-  pub kept : objects_from start env₂ ≡ objects_from start env
+-- the same, where the objects of the picks are kept
+pub record RowLaid (c : Counts) (σ : Program) (env old : List ℕ) (from : Cursor) (new : List ℕ) (to : Cursor) (env₂ : List ℕ) : Type 0 where
+  pub steps : StepsLaid c env σ old from new to
+  pub kept : env₂ ≡ env
 
 -- its variables have their objects, and there are positions and places left for all of its steps
 pub record Enough (c : Counts) (env : List ℕ) (σ : Program) (from : Cursor) (places : ℕ) : Type 0 where

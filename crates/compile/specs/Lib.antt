@@ -1,5 +1,4 @@
 pub mod Program
-pub mod Env
 pub mod CompiledJob
 pub mod Size
 pub mod Construct

@@ -1,6 +1,6 @@
 // What a step is taken under.
 ghost use Rattle.std.specs.Prelude.{◌≡◌};
-ghost use Rattle.semantics.specs.CompilingTable.{label_in};
+ghost use Rattle.semantics.specs.CompilingTable.{kind_of, arg_of, label_in};
 ghost use Rattle.compile.specs.Label.{label_of};
 
 // Nothing, a formula that holds, one that fails, or a move that the step makes.
@@ -22,6 +22,26 @@ impl Label {
             1 => Label::Test(arg),
             2 => Label::Fails(arg),
             _ => Label::Make(arg),
+        }
+    }
+
+    pub fn kind(self) -> u16
+        ensures { result ≡ kind_of (label_of self) }
+    {
+        match self {
+            Label::Free => 0,
+            Label::Test(_) => 1,
+            Label::Fails(_) => 2,
+            Label::Make(_) => 3,
+        }
+    }
+
+    pub fn arg(self) -> u16
+        ensures { result ≡ arg_of (label_of self) }
+    {
+        match self {
+            Label::Free => 0,
+            Label::Test(a) | Label::Fails(a) | Label::Make(a) => a,
         }
     }
 }

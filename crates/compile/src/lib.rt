@@ -8,3 +8,4 @@ pub mod rows;
 pub mod scope;
 pub mod sizes;
 pub mod steps;
+pub mod writing;

@@ -1,4 +1,4 @@
-use Prim.Native.Nat.{◌+◌, ◌-◌, ◌*◌}
+use Rattle.std.proofs.Common.{◌+◌, ◌*◌}
 use Rattle.compile.proofs.CallLaws.{of, Copied}
 use Rattle.compile.proofs.program.+compile_pick_compile_row.Given as goal
 
@@ -10,7 +10,4 @@ decreases-compile_row l = 2 * l.i
 
 abbrev pub invariant-compile_pick-loop-o : goal.invariant-compile_pick-loop-o
 invariant-compile_pick-loop-o l =
-    Copied l.task.head.counts (of l.task.head l.task.rows.now l.a) l.start l.initial.env l.initial.list (record { position = l.n; at = l.first.at }) l.o l.list l.next l.env
-
-abbrev pub decreases-compile_pick-loop-o : goal.decreases-compile_pick-loop-o
-decreases-compile_pick-loop-o l = l.objects - l.o
+    Copied l.task.head.counts (of l.task.head l.task.rows.now l.a) l.initial.env l.initial.list l.from l.o l.list l.next l.env

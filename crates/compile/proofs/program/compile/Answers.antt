@@ -12,15 +12,11 @@ pub compile_row-requires : goal.compile_row-requires
 compile_row-requires c =
     let h = c.args.task.now.stored in
     let g = some_row h in
-    record {
-      bounds = (
-        omega (arith, g),
-        record { size = refl; within = omega arith; objects = λ k. omega arith },
-        omega (arith, g, (limited h).program),
-      );
+    rw c.new-env.ensures (record {
+      bounds = (omega (arith, g), omega (arith, g, (limited h).program));
       enough = all_fit c.args.task.now.head c.args.task.now.rows.now c.requires.scoped refl c.requires.fits.0 c.requires.fits.1;
-    }
+    })
 
 pub returns : goal.returns
 returns c =
-    all_written c.args.task.now.head c.args.task.now.rows.now refl c.compile_row.ensures.steps
+    all_written c.args.task.now.head c.args.task.now.rows.now c.new-env.ensures c.compile_row.ensures.steps

@@ -1,11 +1,9 @@
-use mathlib.Core.Path.{refl}
-use Rattle.compile.proofs.LaidLaws.{laid_append, branch_flat}
+use Rattle.std.proofs.Common.{add-one, refl}
+use Rattle.semantics.specs.CompilingTable.{branch_steps}
 use Rattle.compile.proofs.steps.branch_steps.Goals as goal
 
 pub returns : goal.returns
-returns c = (
-  rw (branch_flat c.args.guard _ c.guard_labels-x.ensures c.args.n c.args.p c.args.q)
-      (laid_append (laid_append (laid_append c.put_step-at1.ensures c.put_step-at2.ensures) c.put_step-at3.ensures)
-      c.put_step-at4.ensures),
-  refl,
-)
+unfolding branch_steps
+returns c =
+    let labels = c.guard_labels-first.ensures in
+    (rw (← labels.0, ← labels.1, ← (add-one c.args.n), ← (add-one c.args.p), ← (add-one c.args.from.position)) c.put_steps.ensures, refl)
