@@ -1,13 +1,13 @@
 -- What is read as a list is the text of a list within its ranges; so it is of plans and of costs.
 -- Assumes nothing.
-use Prim.Native.Nat.{ℕ, zero, suc, ◌+◌, ◌≤◌, ◌<◌}
-use mathlib.Core.Path.{◌≡◌, refl, sym, ◌∙◌, ap, subst}
-use mathlib.Core.List.{List, [], ◌∷◌, ◌++◌, map-append, flatten, append_assoc, append-nil}
-use Rattle.std.specs.Prelude.{Option, None, Some}
-use native.Mathlib.Omega.{arith}
+use Rattle.std.proofs.Common.{◌≡◌, ℕ, zero, suc, ◌+◌, ◌≤◌, ◌<◌, Option, None, Some, Result, Ok, Err, IfOk, List, [], ◌∷◌, ◌++◌, length, get_or, refl, sym, ◌∙◌, ap, subst, append_assoc, append-nil, arith}
+use Rattle.arrayvec.specs.ArrayVec.{ArrayVec, array_vec_len}
+use Rattle.lists.specs.CountedList.{ListOutcome}
+use Rattle.lists.specs.Listed.{listed_as}
+use mathlib.Core.List.{map-append, flatten}
 use native.Mathlib.Decide.{dec_lt}
 use lib.Dec.{eqb}
-use lib.ListN.{length, get_or, length-append, get_or-eq_default}
+use lib.ListN.{length-append, get_or-eq_default}
 use Rattle.laws.proofs.Lists.{every_more}
 use Rattle.laws.proofs.Tests.{cond_has}
 use Rattle.limits.specs.Limits.{most_class_cost}
@@ -15,13 +15,13 @@ use Rattle.text.specs.Lines.{lines}
 use Rattle.text.specs.Written.{line_text}
 use Rattle.text.proofs.LineLaws.{flatten_lines}
 use Rattle.text.proofs.LineText.{line_sound}
-use Rattle.lists.specs.CountedList.{listed, refused, bound_at, entry_in, count_in, read_entries, read_lines, read_list, entry_lines, list_text}
+use Rattle.lists.specs.CountedList.{bound_at, entry_in, count_in, read_entries, read_lines, read_list, entry_lines, list_text}
 use Rattle.lists.specs.PlanText.{plan_key, plan_ranges, read_plan, IsPlanText}
 use Rattle.lists.specs.CostsText.{costs_key, cost_key, cost_ranges, read_costs, IsCostsText}
 use Rattle.lists.specs.declared.counted.Ranges.{Ranges}
 use Rattle.lists.proofs.ListLaws.{entry_number, count_told, count_right, count_wrong, line_right, line_wrong}
 
-not_listed : {A : Type 0} (line : ℕ) (es : List ℕ) → refused line ≡ listed es → A
+not_listed : {A : Type 0} (line : ℕ) (es : List ℕ) → ◌≡◌ {A = ListOutcome} (Err line) (Ok es) → A
 not_listed line es e = let z : ◌≡◌ {A = ℕ} 0 1 = cc in absurd (omega arith)
 
 -- a line that is read as a number is its text
@@ -47,7 +47,7 @@ module _ (key : List ℕ) (bound : ℕ → ℕ) (es : List ℕ) where
     below : Below bound es
 
   abbrev Reads : List ℕ → ℕ → List (List ℕ) → Type 0
-  Reads got due ls = Below bound got → read_entries key bound got due ls ≡ listed es → Whole got due ls
+  Reads got due ls = Below bound got → read_entries key bound got due ls ≡ Ok es → Whole got due ls
 
   whole_by : (got : List ℕ) (due : ℕ) (line : List ℕ) (ls : List (List ℕ)) (o : Option ℕ) → entry_in key (bound (length got)) line ≡ o
       → ((v : ℕ) → Reads (got ++ (v ∷ [])) due ls)
@@ -74,7 +74,7 @@ module _ (key : List ℕ) (bound : ℕ → ℕ) (es : List ℕ) where
   whole (line ∷ ls) (suc due) got b e = whole_by got due line ls (entry_in key (bound (length got)) line) refl (λ v. whole ls due (got ++ (v ∷ []))) b e
 
 module _ (title key : List ℕ) (r : Ranges) (es : List ℕ) where
-  told_by : (line : List ℕ) (ls : List (List ℕ)) (o : Option ℕ) → count_in title r line ≡ o → read_lines title key r (line ∷ ls) ≡ listed es
+  told_by : (line : List ℕ) (ls : List (List ℕ)) (o : Option ℕ) → count_in title r line ≡ o → read_lines title key r (line ∷ ls) ≡ Ok es
       → IsListText title key r (flatten (line ∷ ls)) es
   unfolding flatten
   told_by line ls None h e = not_listed 1 es (sym (count_wrong title key r line ls h) ∙ e)
@@ -89,20 +89,26 @@ module _ (title key : List ℕ) (r : Ranges) (es : List ℕ) where
         written = rw (entry_text title line (suc r.most) count c.1, n, ← w.lines);
       }
 
-  told : (ls : List (List ℕ)) → read_lines title key r ls ≡ listed es → IsListText title key r (flatten ls) es
+  told : (ls : List (List ℕ)) → read_lines title key r ls ≡ Ok es → IsListText title key r (flatten ls) es
   unfolding read_lines
   told [] e = not_listed 1 es e
   told (line ∷ ls) e = told_by line ls (count_in title r line) refl e
 
-pub list_told : (title key : List ℕ) (r : Ranges) (text es : List ℕ) → read_list title key r text ≡ listed es → IsListText title key r text es
+pub list_told : (title key : List ℕ) (r : Ranges) (text es : List ℕ) → read_list title key r text ≡ Ok es → IsListText title key r text es
 unfolding read_list
 list_told title key r text es e = subst (λ t. IsListText title key r t es) (flatten_lines text) (told title key r es (lines text) e)
+
+-- as many numbers as there may be
+pub list_few : (title key : List ℕ) (r : Ranges) (text : List ℕ) (a : Result (ArrayVec ℕ) ℕ) → listed_as a ≡ read_list title key r text
+    → IfOk a (λ list. array_vec_len list ≤ r.most)
+list_few title key r text (Ok list) e = (list_told title key r text list.items (sym e)).few
+list_few title key r text (Err line) e = tt
 
 -- both bounds of a plan are one
 pub plan_bound : (bound i : ℕ) → bound_at (plan_ranges bound) i ≡ bound
 plan_bound bound i = cond_has (λ q. q ≡ bound) (eqb i 0) bound bound (λ e. refl) (λ e. refl)
 
-pub plan_told : (key : List ℕ) (bound : ℕ) (text entries : List ℕ) → read_plan key bound text ≡ listed entries → IsPlanText key bound text entries
+pub plan_told : (key : List ℕ) (bound : ℕ) (text entries : List ℕ) → read_plan key bound text ≡ Ok entries → IsPlanText key bound text entries
 plan_told key bound text entries e =
     let t = list_told plan_key key (plan_ranges bound) text entries e in
     record { few = t.few; each = λ i h. omega (arith, t.each i h, plan_bound bound i); written = t.written }
@@ -111,7 +117,7 @@ plan_told key bound text entries e =
 cost_bound : (class : ℕ) → bound_at cost_ranges class ≤ suc most_class_cost
 cost_bound class = cond_has (λ q. q ≤ suc most_class_cost) (eqb class 0) 1 (suc most_class_cost) (λ e. omega arith) (λ e. omega arith)
 
-pub costs_told : (text costs : List ℕ) → read_costs text ≡ listed costs → IsCostsText text costs
+pub costs_told : (text costs : List ℕ) → read_costs text ≡ Ok costs → IsCostsText text costs
 costs_told text costs e =
     let t = list_told costs_key cost_key cost_ranges text costs e in
     record {

@@ -1,16 +1,14 @@
 -- Texts of a counted list: a line `title=N`, then N lines `key=number`.
-use Rattle.std.specs.Prelude.{ℕ, zero, suc, ◌+◌, cond, eqb, ltb, leb, length, get_or}
-use mathlib.Core.List.{List, [], ◌∷◌, ◌++◌, map, flatten}
-use Rattle.std.specs.Prelude.{Option, None, Some}
+use Rattle.std.specs.Prelude.{ℕ, zero, suc, ◌+◌, cond, Option, None, Some, Result, Ok, Err, List, [], ◌∷◌, ◌++◌, map, eqb, ltb, leb, length, get_or}
+use mathlib.Core.List.{flatten}
 use Rattle.text.specs.Lines.{lines, value_of}
 use Rattle.text.specs.Numbers.{numbers}
 use Rattle.text.specs.Written.{line_text}
 use Rattle.lists.specs.declared.counted.Ranges.{Ranges}
 
 -- the numbers of a list, or the line at which its text is refused
-pub data ListOutcome : Type 0 where
-  listed : List ℕ → ListOutcome
-  refused : ℕ → ListOutcome
+abbrev pub ListOutcome : Type 0
+ListOutcome = Result (List ℕ) ℕ
 
 -- number i of a list is below this
 abbrev pub bound_at : Ranges → ℕ → ℕ
@@ -27,11 +25,11 @@ entry_in key bound line = below bound (numbers 1 (value_of key line))
 -- the lines after the first: the numbers read so far, and how many are due. "A missing line's place
 -- is one past the last."
 unfoldable pub read_entries : List ℕ → (ℕ → ℕ) → List ℕ → ℕ → List (List ℕ) → ListOutcome
-read_entries key bound got zero [] = listed got
-read_entries key bound got (suc due) [] = refused (length got + 2)
-read_entries key bound got zero (line ∷ rest) = refused (length got + 2)
+read_entries key bound got zero [] = Ok got
+read_entries key bound got (suc due) [] = Err (length got + 2)
+read_entries key bound got zero (line ∷ rest) = Err (length got + 2)
 read_entries key bound got (suc due) (line ∷ rest) = elim (entry_in key (bound (length got)) line) [
-  | None ↦ refused (length got + 2)
+  | None ↦ Err (length got + 2)
   | Some v ↦ read_entries key bound (got ++ (v ∷ [])) due rest
 ]
 
@@ -44,9 +42,9 @@ unfoldable pub count_in : List ℕ → Ranges → List ℕ → Option ℕ
 count_in title r line = at_least r.least (entry_in title (suc r.most) line)
 
 unfoldable pub read_lines : List ℕ → List ℕ → Ranges → List (List ℕ) → ListOutcome
-read_lines title key r [] = refused 1
+read_lines title key r [] = Err 1
 read_lines title key r (line ∷ rest) = elim (count_in title r line) [
-  | None ↦ refused 1
+  | None ↦ Err 1
   | Some count ↦ read_entries key (bound_at r) [] count rest
 ]
 

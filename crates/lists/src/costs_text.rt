@@ -1,10 +1,8 @@
 // Costs texts, read into a list of class costs.
-ghost use Rattle.std.specs.Prelude.{◌≡◌, length};
-ghost use Rattle.limits.specs.Limits.{class_count};
+ghost use Rattle.std.specs.Prelude.{◌≡◌};
 ghost use Rattle.lists.specs.CostsText.{read_costs};
-ghost use Rattle.lists.specs.Listed.{listed_as};
 
-use crate::counted::{ListAnswer, Ranges};
+use crate::counted::{Ranges, read_list};
 use limits::CLASSES;
 
 // What classes may cost: "Class 0 must cost 0."
@@ -15,10 +13,10 @@ const RANGES: Ranges = Ranges {
     rest: (limits::CLASS_COST as u32) + 1,
 };
 
-// Reads any bytes as a costs text, class 0 first. On a refusal nothing is said of the costs.
-pub fn read_costs(text: &[u8], costs: &mut [u16]) -> ListAnswer
-    requires { length costs.old ≡ class_count }
-    ensures { listed_as result costs.new ≡ read_costs text.now }
+// Reads any bytes as a costs text, class 0 first; or answers at which line it is refused.
+pub fn read_costs(text: &[u8]) -> Result<[u16; CLASSES], usize>
+    ensures { result ≡ read_costs text.now }
 {
-    crate::counted::read_list(text, b"costs", b"c", RANGES, costs)
+    let costs = read_list::<CLASSES>(text, b"costs", b"c", RANGES)?;
+    Ok(costs.into_inner().unwrap())
 }

@@ -1,22 +1,11 @@
 // Texts of a counted list: a line `title=N`, then N lines `key=number`.
-ghost use Rattle.std.specs.Prelude.{◌≡◌, [], ◌≤◌, length, drop};
+ghost use Rattle.std.specs.Prelude.{◌≡◌, ◌≤◌, [], length, drop, IfOk};
+ghost use Rattle.arrayvec.specs.ArrayVec.{array_vec_len};
 ghost use Rattle.text.specs.Lines.{lines};
-ghost use Rattle.lists.specs.CountedList.{bound_at, entry_in, read_entries, read_list};
-ghost use Rattle.lists.specs.Listed.{entry_of, listed_as, entry_count};
+ghost use Rattle.lists.specs.CountedList.{bound_at, entry_in, count_in, read_entries, read_list};
+ghost use Rattle.lists.specs.Listed.{listed_as};
 
-// How many numbers a list has; or the line at which its text is refused.
-#[derive(Clone, Copy)]
-pub enum ListAnswer {
-    Read(usize),
-    Refused(usize),
-}
-
-// The number of a line, where it is right.
-#[derive(Clone, Copy)]
-pub enum Entry {
-    Number(u16),
-    Wrong,
-}
+use arrayvec::ArrayVec;
 
 // How many numbers a list may have, from the least to the most; and what they may be: the first is
 // below one bound, the others below another.
@@ -32,83 +21,70 @@ pub struct Ranges {
 fn bound_at(ranges: Ranges, i: usize) -> u32
     ensures { result ≡ bound_at ranges i }
 {
-    if i == 0 {
-        return ranges.first;
-    }
-    ranges.rest
+    if i == 0 { ranges.first } else { ranges.rest }
 }
 
 // The one number of a line with this key, where it is below a bound.
-fn read_entry(line: &[u8], key: &[u8], bound: u32) -> Entry
-    ensures { entry_of result ≡ entry_in key.now bound line.now }
+fn read_entry(line: &[u8], key: &[u8], bound: u32) -> Option<u16>
+    ensures { result ≡ entry_in key.now bound line.now }
 {
-    let mut n = [0u16; 1];
+    let mut number = [0u16; 1];
     let value = text::lines::value(line, key);
-    if text::numbers::read_numbers(value, &mut n) {
-        let v = n[0];
-        if (v as u32) < bound {
-            return Entry::Number(v);
-        }
-        return Entry::Wrong;
+    if !text::numbers::read_numbers(value, &mut number) {
+        return None;
     }
-    Entry::Wrong
+    let v = number[0];
+    (u32::from(v) < bound).then_some(v)
 }
 
-// The lines from a place on, after the first line, which says how many there are.
-fn read_entries(
+// How many numbers the first line of a list says that there are, where it may have so many.
+fn read_count(line: &[u8], title: &[u8], ranges: Ranges) -> Option<u16>
+    ensures { result ≡ count_in title.now ranges line.now }
+{
+    let count = read_entry(line, title, u32::from(ranges.most) + 1)?;
+    (ranges.least <= count).then_some(count)
+}
+
+// The lines from a place on, after the first line, which says how many there are. A missing line is
+// read as an empty one, which has no number.
+fn read_entries<const N: usize>(
     text: &[u8],
     start: usize,
     key: &[u8],
     ranges: Ranges,
     count: usize,
-    list: &mut [u16],
-) -> ListAnswer
-    requires { count ≤ length list.old }
-    ensures { (listed_as result list.new ≡ read_entries key.now (bound_at ranges) [] count
-        (lines (drop start text.now))) × (entry_count result ≤ count) }
+) -> Result<ArrayVec<u16, N>, usize>
+    requires room { count ≤ N }
+    requires within { start ≤ length text.now }
+    ensures { listed_as result ≡ read_entries key.now (bound_at ranges) [] count (lines (drop start text.now)) }
 {
+    let mut list = ArrayVec::new();
     let mut at = start;
-    let mut n: usize = 0;
-    while at < text.len() {
-        if n == count {
-            return ListAnswer::Refused(count + 2);
-        }
-        let e = text::lines::line_end(text, at);
+    for n in 0..count {
+        let end = text::lines::line_end(text, at);
         let bound = bound_at(ranges, n);
-        let found = read_entry(&text[at..e], key, bound);
-        let Entry::Number(v) = found else {
-            return ListAnswer::Refused(n + 2);
-        };
-        list[n] = v;
-        n += 1;
-        at = e;
+        let number = read_entry(&text[at..end], key, bound).ok_or(n + 2)?;
+        list.push(number);
+        at = end;
     }
-    if n < count {
-        return ListAnswer::Refused(n + 2);
+    if at < text.len() {
+        return Err(count + 2);
     }
-    ListAnswer::Read(n)
+    Ok(list)
 }
 
-// Reads any bytes as a list, whose front then holds the numbers. On a refusal nothing is said of
-// the list.
-pub fn read_list(
+// Reads any bytes as a list; or answers at which line its text is refused.
+pub fn read_list<const N: usize>(
     text: &[u8],
     title: &[u8],
     key: &[u8],
     ranges: Ranges,
-    list: &mut [u16],
-) -> ListAnswer
-    requires { ranges.most ≤ length list.old }
-    ensures { (listed_as result list.new ≡ read_list title.now key.now ranges text.now) ×
-        (entry_count result ≤ ranges.most) }
+) -> Result<ArrayVec<u16, N>, usize>
+    requires { ranges.most ≤ N }
+    ensures is { listed_as result ≡ read_list title.now key.now ranges text.now }
+    ensures few { IfOk result (λ list. array_vec_len list ≤ ranges.most) }
 {
-    let e = text::lines::line_end(text, 0);
-    let first = read_entry(&text[0..e], title, (ranges.most as u32) + 1);
-    let Entry::Number(count) = first else {
-        return ListAnswer::Refused(1);
-    };
-    if count < ranges.least {
-        return ListAnswer::Refused(1);
-    }
-    read_entries(text, e, key, ranges, count as usize, list)
+    let end = text::lines::line_end(text, 0);
+    let count = read_count(&text[..end], title, ranges).ok_or(1usize)?;
+    read_entries(text, end, key, ranges, usize::from(count))
 }

@@ -1,6 +1,6 @@
 use Rattle.text.specs.Bytes.{bytes}
 use Rattle.lists.proofs.plan_text.read_plan.Goals as goal
 
-pub returns : goal.returns
+pub returns-clause-is : goal.returns-clause-is
 unfolding bytes
-returns c = c.read_list.ensures
+returns-clause-is c = rw (c.from.ensures, c.from-2.ensures) at c.read_list.ensures.is
