@@ -6,7 +6,7 @@ use Rattle.std.specs.Bool.{then_some}
 use lib.Dec.{ltb, leb}
 use lib.ListN.{drop_of_length-le, length-append, length-drop}
 use lib.Seq.{take-nil}
-use borrow.Author.Tests.{ltb-true, leb-true}
+use borrow.Author.Tests.{ltb-true, le-leb, leb-true}
 use Rattle.std.proofs.lemmas.Option.{none-some}
 use Rattle.laws.proofs.Tests.{cond_some}
 use Rattle.text.specs.Lines.{lines, line_length, has_key, value_of}
@@ -75,6 +75,9 @@ module _ (title : List ℕ) (r : Ranges) (line : List ℕ) where
     pub count_read : count_of ≡ Some n → then_some (leb r.least n) n ≡ count_in title r line
     unfolding count_in
     count_read e = some_by (leb r.least n) n ∙ sym (ap (at_least r.least) e)
+
+    pub count_enough : count_of ≡ Some n → r.least ≤ n → count_in title r line ≡ Some n
+    count_enough e h = sym (count_read e) ∙ rw (le-leb r.least n h)
 
     at_least_lem : (o : Option ℕ) → at_least r.least o ≡ Some n → (r.least ≤ n) × (o ≡ Some n)
     at_least_lem None h = let z : ◌≡◌ {A = ℕ} 0 1 = cc in absurd (omega arith)

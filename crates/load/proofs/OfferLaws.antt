@@ -6,21 +6,18 @@ use mathlib.Core.Bool.{Bool, true, false, cond}
 use mathlib.Core.List.{List, []}
 use native.Mathlib.Omega.{arith}
 use lib.ListN.{take}
+use Rattle.std.specs.Prelude.{Ok, Err}
 use Rattle.laws.proofs.Tests.{never}
 use Rattle.limits.specs.Limits.{most_entries}
 use Rattle.job.specs.Task.{Task}
 use Rattle.job.specs.Store.{job_of, task_of}
 use Rattle.job.specs.declared.head.Head.{Head}
-use Rattle.job.specs.declared.refusal.Refusal.{Refusal}
 use Rattle.domain.specs.Domain.{domain_in}
 use Rattle.compile.specs.CompiledJob.{step_count}
-use Rattle.lists.specs.CountedList as L
 use Rattle.lists.specs.CountedList.{ListOutcome}
 use Rattle.lists.specs.PlanText.{read_plan}
-use Rattle.lists.specs.Listed.{listed_as, entry_count}
-use Rattle.lists.specs.declared.counted.ListAnswer.{ListAnswer}
-use Rattle.load.specs.Refusals.{passed, refused, Offer, offered, key_for, bound_for, plan_in}
-use Rattle.load.specs.Loaded.{loaded_as, count_for, Measured, Fitting, list_refusal}
+use Rattle.load.specs.Refusals.{passed, Offer, offered, key_for, bound_for, plan_in}
+use Rattle.load.specs.Loaded.{loaded_as, count_for, Measured, Fitting}
 use Rattle.load.specs.declared.request.Request.{Request}
 use Rattle.load.specs.declared.request.Sort.{Sort}
 use Rattle.load.specs.declared.request.Sort.TheVariants.{Moves, Steps}
@@ -54,40 +51,34 @@ module _ (r : Request) (plan rows entries : List ℕ) (job : LoadedJob) (m : Mea
     (m.0, omega (arith, m.1)),
   )
 
-  module _ (f : r.plan ≡ true) {moves : ℕ} (d : moves ≡ (domain_in job.head rows).moves) (p : ListAnswer)
-      (read : (listed_as p entries ≡ read_plan (key_for r.sort) (count_for r.sort moves job.sizes.steps) plan) × (entry_count p ≤ most_entries)) where
-    offers : {o : ListOutcome} → listed_as p entries ≡ o → offered t o ≡ plan_in r plan t
-    offers e =
-        ap (offered t) (sym e ∙ read.0 ∙ ap (λ (b : ℕ). read_plan (key_for r.sort) b plan) (bound_of r.sort job.head rows d m.0.steps))
-        ∙ by_plan f
+  module _ (f : r.plan ≡ true) {moves : ℕ} (d : moves ≡ (domain_in job.head rows).moves) where
+    offers : {o : ListOutcome} → o ≡ read_plan (key_for r.sort) (count_for r.sort moves job.sizes.steps) plan → offered t o ≡ plan_in r plan t
+    offers e = ap (offered t) (e ∙ ap (λ (b : ℕ). read_plan (key_for r.sort) b plan) (bound_of r.sort job.head rows d m.0.steps)) ∙ by_plan f
 
-    pub offer_refused : {line : ℕ} {q : Refusal} → p ≡ ListAnswer.Refused line → q ≡ list_refusal p 5 → Post (Loaded.Refused q)
-    offer_refused k e = (
-      ap (λ (x : Refusal). refused x.number x.place) (e ∙ ap (λ (x : ListAnswer). list_refusal x 5) k)
-          ∙ offers (ap (λ (x : ListAnswer). listed_as x entries) k),
-      tt,
-    )
+    pub offer_refused : {line : ℕ} → Err line ≡ read_plan (key_for r.sort) (count_for r.sort moves job.sizes.steps) plan
+        → Post (Loaded.Refused (record { number = 5; place = line }))
+    offer_refused k = (offers k, tt)
 
-    pub offer_ready : {n : ℕ} → p ≡ ListAnswer.Read n
+    pub offer_ready : {n : ℕ} → Ok (take n entries) ≡ read_plan (key_for r.sort) (count_for r.sort moves job.sizes.steps) plan → n ≤ most_entries
         → Post (Loaded.Ready (record { head = job.head; sizes = job.sizes; states = job.states; entries = n }))
-    offer_ready k =
+    offer_ready k few =
         let s = m.0 in (
-          offers (ap (λ (x : ListAnswer). listed_as x entries) k),
-          (record { stored = s.stored; scoped = s.scoped; fit = s.fit; positions = s.positions; steps = s.steps; states = s.states }, rw k at read.1),
+          offers k,
+          (record { stored = s.stored; scoped = s.scoped; fit = s.fit; positions = s.positions; steps = s.steps; states = s.states }, few),
         )
 
 -- what is offered was read
 module _ (r : Request) (plan : List ℕ) (t : Task) (o : Offer) where
   pub plan_taken : r.plan ≡ true → plan_in r plan t ≡ passed o
-      → (t ≡ o.task) × (read_plan (key_for r.sort) (bound_for r.sort o.task.job) plan ≡ L.listed o.entries)
+      → (t ≡ o.task) × (read_plan (key_for r.sort) (bound_for r.sort o.task.job) plan ≡ Ok o.entries)
   plan_taken f e = by (read_plan (key_for r.sort) (bound_for r.sort t.job) plan) refl (rw f at e)
     where
       Taken : Offer → Type 0
-      Taken x = (t ≡ x.task) × (read_plan (key_for r.sort) (bound_for r.sort x.task.job) plan ≡ L.listed x.entries)
+      Taken x = (t ≡ x.task) × (read_plan (key_for r.sort) (bound_for r.sort x.task.job) plan ≡ Ok x.entries)
 
       by : (p : ListOutcome) → read_plan (key_for r.sort) (bound_for r.sort t.job) plan ≡ p → offered t p ≡ passed o → Taken o
-      by (L.listed es) g h = let z : record { task = t; entries = es } ≡ o = cc in subst Taken z (refl, g)
-      by (L.refused line) g h = never (cc)
+      by (Ok es) g h = let z : record { task = t; entries = es } ≡ o = cc in subst Taken z (refl, g)
+      by (Err line) g h = never (cc)
 
   pub plan_alone : r.plan ≡ false → plan_in r plan t ≡ passed o → record { task = t; entries = [] } ≡ o
   plan_alone f e = let g : passed (record { task = t; entries = [] }) ≡ passed o = rw f at e in cc

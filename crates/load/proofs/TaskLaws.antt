@@ -4,9 +4,9 @@ use Prim.Native.Nat.{ℕ}
 use mathlib.Core.Path.{◌≡◌, refl, sym, ◌∙◌, ap, subst}
 use mathlib.Core.Bool.{Bool, true, false, cond}
 use mathlib.Core.List.{List}
-use native.Mathlib.Omega.{arith}
-use lib.ListN.{length, take, length-take}
-use lib.Seq.{sets, take_all}
+use lib.ListN.{length}
+use lib.Seq.{sets}
+use Rattle.std.specs.Prelude.{Ok, Err}
 use Rattle.laws.proofs.Tests.{never}
 use Rattle.limits.specs.Limits.{class_count}
 use Rattle.job.specs.Job.{Job}
@@ -17,14 +17,11 @@ use Rattle.job.specs.Stored.{Stored}
 use Rattle.job.specs.declared.refusal.Refusal.{Refusal}
 use Rattle.job.proofs.CostLaws.{costs_put, job_kept, costs_stored}
 use Rattle.compile.specs.CompiledJob.{position_count, step_count, fits, program_scoped}
-use Rattle.lists.specs.CountedList as L
 use Rattle.lists.specs.CountedList.{ListOutcome}
-use Rattle.lists.specs.CostsText.{read_costs}
-use Rattle.lists.specs.Listed.{listed_as}
-use Rattle.lists.specs.declared.counted.ListAnswer.{ListAnswer}
+use Rattle.lists.specs.CostsText.{read_costs, IsCostsText}
 use Rattle.lists.proofs.ListTold.{costs_told}
-use Rattle.load.specs.Refusals.{Checked, passed, refused, next, job_in, with_costs, costs_in, task_in}
-use Rattle.load.specs.Loaded.{job_as, task_as, AtHouse, Measured, list_refusal}
+use Rattle.load.specs.Refusals.{Checked, passed, next, job_in, with_costs, costs_in, task_in}
+use Rattle.load.specs.Loaded.{job_as, task_as, AtHouse, Measured}
 use Rattle.load.specs.declared.request.Given.{Given}
 use Rattle.load.specs.declared.loaded.LoadedJob.{LoadedJob}
 use Rattle.load.specs.declared.loaded.Loaded.{Loaded}
@@ -36,19 +33,19 @@ module _ (g : Given) (costs : List ℕ) (j : Job) where
 
   -- costs that were given were read, and with none given they are the house's; the job stays
   module _ {t : Task} (e : costs_in g costs j ≡ passed t) where
-    given_taken : g.costs ≡ true → (t.job ≡ j) × (read_costs costs ≡ L.listed t.costs)
+    given_taken : g.costs ≡ true → (t.job ≡ j) × (read_costs costs ≡ Ok t.costs)
     given_taken f = by (read_costs costs) refl (costs_by_given f ∙ e)
       where
-        by : (o : ListOutcome) → read_costs costs ≡ o → with_costs j o ≡ passed t → (t.job ≡ j) × (read_costs costs ≡ L.listed t.costs)
-        by (L.listed cs) h k =
+        by : (o : ListOutcome) → read_costs costs ≡ o → with_costs j o ≡ passed t → (t.job ≡ j) × (read_costs costs ≡ Ok t.costs)
+        by (Ok cs) h k =
             let z : ◌≡◌ {A = Task} (record { job = j; costs = cs }) t = cc in
-            (sym (ap (λ (x : Task). x.job) z), h ∙ ap (λ (x : Task). L.listed x.costs) z)
-        by (L.refused line) h k = never (cc)
+            (sym (ap (λ (x : Task). x.job) z), h ∙ ap (λ (x : Task). Ok x.costs) z)
+        by (Err line) h k = never (cc)
 
     none_taken : g.costs ≡ false → at_house_costs j ≡ t
     none_taken f = let z : passed (at_house_costs j) ≡ passed t = costs_by_given f ∙ e in cc
 
-    pub costs_taken : g.costs ≡ true → read_costs costs ≡ L.listed t.costs
+    pub costs_taken : g.costs ≡ true → read_costs costs ≡ Ok t.costs
     costs_taken f = (given_taken f).1
 
     pub costs_house : g.costs ≡ false → t.costs ≡ house_costs
@@ -75,27 +72,23 @@ module _ (g : Given) (costs rows : List ℕ) (job : LoadedJob) (m : AtHouse (Loa
   pub costs_none : g.costs ≡ false → Post (Loaded.Ready job) rows
   costs_none f = (ap (λ (c : List ℕ). passed (record { job = j; costs = c })) m.1 ∙ costs_by_given g costs j f, m.0)
 
-  module _ (f : g.costs ≡ true) (a : ListAnswer) (read : List ℕ) (e : listed_as a read ≡ read_costs costs) where
-    reads : {o : ListOutcome} → listed_as a read ≡ o → with_costs j o ≡ costs_in g costs j
-    reads k = ap (with_costs j) (sym k ∙ e) ∙ costs_by_given g costs j f
+  module _ (f : g.costs ≡ true) where
+    reads : {o : ListOutcome} → o ≡ read_costs costs → with_costs j o ≡ costs_in g costs j
+    reads k = ap (with_costs j) k ∙ costs_by_given g costs j f
 
-    pub costs_refused : {line : ℕ} {q : Refusal} → a ≡ ListAnswer.Refused line → q ≡ list_refusal a 7 → Post (Loaded.Refused q) rows
-    costs_refused k h = (
-      ap (λ (x : Refusal). refused x.number x.place) (h ∙ ap (λ (x : ListAnswer). list_refusal x 7) k)
-          ∙ reads (ap (λ (x : ListAnswer). listed_as x read) k),
-      tt,
-    )
+    pub costs_refused : {line : ℕ} → Err line ≡ read_costs costs → Post (Loaded.Refused (record { number = 7; place = line })) rows
+    costs_refused k = (reads k, tt)
 
-    module _ {n : ℕ} (k : a ≡ ListAnswer.Read n) (sixteen : length read ≡ class_count) {after : List ℕ} (put : after ≡ sets rows costs_from read) where
-      listed : read_costs costs ≡ L.listed (take n read)
-      listed = sym e ∙ ap (λ (x : ListAnswer). listed_as x read) k
+    module _ {read : List ℕ} (k : Ok read ≡ read_costs costs) {after : List ℕ} (put : after ≡ sets rows costs_from read) where
+      told : IsCostsText costs read
+      told = costs_told costs read (sym k)
 
-      all : take n read ≡ read
-      all = take_all n read (omega (arith, length-take n read, (costs_told costs (take n read) listed).count))
+      sixteen : length read ≡ class_count
+      sixteen = told.count
 
       within : CostsWithin read
       unfolding class_cost
-      within = subst CostsWithin all (costs_told costs (take n read) listed).each
+      within = told.each
 
       right : WellFormed j
       right = m.0.0.stored.job
@@ -106,15 +99,15 @@ module _ (g : Given) (costs rows : List ℕ) (job : LoadedJob) (m : AtHouse (Loa
       same_job : job_of job.head after ≡ j
       same_job = ap (job_of job.head) put ∙ job_kept rows read sixteen size job.head right
 
-      same_costs : stored_costs after ≡ take n read
-      same_costs = ap stored_costs put ∙ costs_put rows read sixteen size ∙ sym all
+      same_costs : stored_costs after ≡ read
+      same_costs = ap stored_costs put ∙ costs_put rows read sixteen size
 
       pub costs_ready : Post (Loaded.Ready job) after
       costs_ready =
           let s = m.0.0 in (
             ap (λ (x : Job). passed (record { job = x; costs = stored_costs after })) same_job
                 ∙ ap (λ (c : List ℕ). passed (record { job = j; costs = c })) same_costs
-                ∙ reads (ap (λ (x : ListAnswer). listed_as x read) k),
+                ∙ reads k,
             (
               record {
                 stored = subst (Stored job.head) (sym put) (costs_stored rows read sixteen size job.head right within);

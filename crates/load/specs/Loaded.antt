@@ -8,7 +8,6 @@ use Rattle.job.specs.Stored.{Stored}
 use Rattle.job.specs.declared.refusal.Refusal.{Refusal}
 use Rattle.domain.specs.Domain.{domain_in}
 use Rattle.compile.specs.CompiledJob.{position_count, step_count, fits, program_scoped}
-use Rattle.lists.specs.declared.counted.ListAnswer.{ListAnswer}
 use Rattle.load.specs.Refusals as C
 use Rattle.load.specs.Refusals.{Handed, Checked, Offer, loading}
 use Rattle.load.specs.declared.request.Request.{Request}
@@ -76,8 +75,3 @@ count_for Steps moves steps = steps
 abbrev pub load_refusal : Loaded → Refusal
 load_refusal (Ready a) = record { number = 0; place = 0 }
 load_refusal (Refused r) = r
-
--- the same of a list's reader, by the number of its text's reason
-abbrev pub list_refusal : ListAnswer → ℕ → Refusal
-list_refusal (ListAnswer.Read n) number = record { number = 0; place = 0 }
-list_refusal (ListAnswer.Refused line) number = record { number = number; place = line }

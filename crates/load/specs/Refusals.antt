@@ -1,13 +1,12 @@
 -- The order of refusals: "The first bad line decides; on it, form before 2 before 3. Then 4, 5, 6."
 -- Reason 8 comes "before 4", reason 7 "after the job's refusals 1 to 4 and before 5".
-use Rattle.std.specs.Prelude.{ℕ, ◌*◌, cond, List, [], leb, length}
+use Rattle.std.specs.Prelude.{ℕ, ◌*◌, cond, Ok, Err, List, [], leb, length}
 use Rattle.job.specs.Job.{Job}
 use Rattle.job.specs.Task.{Task, at_house_costs}
 use Rattle.job.specs.ReadJob as R
 use Rattle.job.specs.ReadJob.{Outcome, read_job}
 use Rattle.domain.specs.Domain.{domain_of}
 use Rattle.compile.specs.CompiledJob.{position_count, step_count, fits, program_scoped}
-use Rattle.lists.specs.CountedList as L
 use Rattle.lists.specs.CountedList.{ListOutcome}
 use Rattle.lists.specs.CostsText.{read_costs}
 use Rattle.lists.specs.PlanText.{read_plan, move_key, step_key}
@@ -45,8 +44,8 @@ job_in text = compilable (read_job text)
 
 -- 7: "A bad cost text is refused as 7 with its line"
 abbrev pub with_costs : Job → ListOutcome → Checked Task
-with_costs j (L.listed costs) = passed (record { job = j; costs = costs })
-with_costs j (L.refused line) = refused 7 line
+with_costs j (Ok costs) = passed (record { job = j; costs = costs })
+with_costs j (Err line) = refused 7 line
 
 -- "The house numbers remain for those who hand in none."
 abbrev pub costs_in : Given → List ℕ → Job → Checked Task
@@ -63,8 +62,8 @@ pub record Offer : Type 0 where
 
 -- 5 "plan text of wrong form, K too large, entry not in job", at the plan's line
 abbrev pub offered : Task → ListOutcome → Checked Offer
-offered t (L.listed es) = passed (record { task = t; entries = es })
-offered t (L.refused line) = refused 5 line
+offered t (Ok es) = passed (record { task = t; entries = es })
+offered t (Err line) = refused 5 line
 
 -- "`m=move`, or `t=step` for step lists"
 abbrev pub key_for : Sort → List ℕ

@@ -1,11 +1,10 @@
 // What loading answers.
 ghost use Rattle.std.specs.Prelude.{◌≡◌};
-ghost use Rattle.load.specs.Loaded.{load_refusal, list_refusal};
+ghost use Rattle.load.specs.Loaded.{load_refusal};
 
 use compile::sizes::Sizes;
 use job::head::Head;
 use job::refusal::Refusal;
-use lists::counted::ListAnswer;
 
 // A job that nothing refuses so far: its head, whose rows and class costs are then stored, the
 // sizes of its compiled job, how many states it has, and how many entries of its plan are then
@@ -34,21 +33,5 @@ pub fn refusal(a: Loaded) -> Refusal
             place: 0,
         },
         Loaded::Refused(r) => r,
-    }
-}
-
-// The refusal by this number that a list's answer is; number 0 where it is none.
-pub fn list_refusal(a: ListAnswer, number: u8) -> Refusal
-    ensures { result ≡ list_refusal a number }
-{
-    match a {
-        ListAnswer::Read(_) => Refusal {
-            number: 0,
-            place: 0,
-        },
-        ListAnswer::Refused(line) => Refusal {
-            number: number,
-            place: line,
-        },
     }
 }

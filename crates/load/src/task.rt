@@ -6,13 +6,12 @@ ghost use Rattle.job.specs.Stored.{Stored};
 ghost use Rattle.load.specs.Refusals.{compilable, job_in, costs_in, task_in};
 ghost use Rattle.load.specs.Loaded.{job_as, task_as, AtHouse, Measured};
 
-use crate::loaded::{Loaded, LoadedJob, list_refusal};
+use crate::loaded::{Loaded, LoadedJob};
 use crate::request::Given;
 use job::head::Head;
 use job::refusal::Refusal;
 use job::task::Task;
-use limits::{CLASSES, POSITIONS, STEPS};
-use lists::counted::ListAnswer;
+use limits::{POSITIONS, STEPS};
 use reader::reading::Answer;
 
 // Reasons 8 and 4, for a job that was read from so many lines; no entries are stored.
@@ -67,13 +66,15 @@ fn load_costs(given: Given, costs: &[u8], job: LoadedJob, rows: &mut [u16]) -> L
         Measured result rows.new }
 {
     if given.costs {
-        let mut read = [0u16; CLASSES];
-        let answer = lists::costs_text::read_costs(costs, &mut read);
-        let ListAnswer::Read(_) = answer else {
-            let r = list_refusal(answer, 7);
-            return Loaded::Refused(r);
-        };
-        job::costs::put_costs(rows, read);
+        match lists::costs_text::read_costs(costs) {
+            Ok(read) => job::costs::put_costs(rows, read),
+            Err(line) => {
+                return Loaded::Refused(Refusal {
+                    number: 7,
+                    place: line,
+                });
+            }
+        }
     }
     Loaded::Ready(job)
 }

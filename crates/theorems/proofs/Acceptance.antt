@@ -19,7 +19,7 @@ use Rattle.job.specs.WellFormed.{WellFormed}
 use Rattle.job.proofs.CostLaws.{house_within}
 use Rattle.reader.proofs.ReadLaws.{read_well_formed, read_lines_lem}
 use Rattle.compile.proofs.FitLaws.{few_positions, few_steps}
-use Rattle.lists.specs.CountedList.{listed}
+use Rattle.std.specs.Prelude.{Ok}
 use Rattle.lists.specs.PlanText.{read_plan}
 use Rattle.load.specs.Refusals.{Handed, Checked, passed, next, compilable, job_in, with_costs, costs_in, task_in}
 use Rattle.load.specs.Refusals.{Offer, offered, key_for, bound_for, plan_in, texts_in}
@@ -73,7 +73,7 @@ module _ (sort : Sort) (j : Job) (plan entries : List ℕ) where
     bound_small Moves = omega (arith, accepted.right.moves)
     bound_small Steps = omega (arith, accepted.steps)
 
-    pub plan_iff : (read_plan (key_for sort) (bound_for sort j) plan ≡ listed entries) ↔ AcceptedPlan sort j plan entries
+    pub plan_iff : (read_plan (key_for sort) (bound_for sort j) plan ≡ Ok entries) ↔ AcceptedPlan sort j plan entries
     plan_iff = plan_text_iff (key_for sort) (bound_for sort j) plan entries (entry_key_plain sort) (bound_small sort)
 
 -- of a job text and a costs text: reasons 1 to 4, 8 and 7

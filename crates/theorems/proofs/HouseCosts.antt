@@ -11,7 +11,7 @@ use lib.ListN.{length}
 use Rattle.job.specs.Job.{Job}
 use Rattle.job.specs.Task.{Task, house_costs, at_house_costs, class_cost}
 use Rattle.job.proofs.CostLaws.{house_within}
-use Rattle.lists.specs.CountedList.{listed}
+use Rattle.std.specs.Prelude.{Ok}
 use Rattle.lists.specs.CostsText.{read_costs, costs_text}
 use Rattle.load.specs.Refusals.{Handed, Checked, passed, refused, next, job_in, with_costs, costs_in, task_in, Offer, plan_in, texts_in, loading}
 use Rattle.load.specs.View.{View, view_in}
@@ -35,7 +35,7 @@ use Rattle.theorems.specs.HouseCosts.{with_house_text, house_texts}
 use Rattle.theorems.proofs.ListTexts.{costs_text_iff}
 
 -- the house's costs are read from their text
-house_read : read_costs (costs_text house_costs) ≡ listed house_costs
+house_read : read_costs (costs_text house_costs) ≡ Ok house_costs
 unfolding class_cost
 house_read = (costs_text_iff (costs_text house_costs) house_costs).1 (record { count = refl; free = refl; each = house_within; written = refl })
 

@@ -4,7 +4,7 @@ use Prim.Native.Nat.{ℕ, ◌+◌, ◌≤◌}
 use mathlib.Core.Path.{◌≡◌, refl, subst}
 use mathlib.Core.Bool.{true, cond}
 use mathlib.Core.List.{List, [], ◌∷◌}
-use Rattle.std.specs.Prelude.{Option, None, Some}
+use Rattle.std.specs.Prelude.{Ok, Err, Option, None, Some}
 use native.Mathlib.Omega.{arith}
 use lib.Dec.{eqb, leb}
 use lib.ListN.{get_or}
@@ -21,7 +21,6 @@ use Rattle.job.specs.declared.line.Line.{Line}
 use Rattle.job.specs.declared.line.Line.TheVariants.{One, Of, End}
 use Rattle.job.proofs.FaultLaws.{range_reason}
 use Rattle.text.specs.Lines.{lines}
-use Rattle.lists.specs.CountedList as L
 use Rattle.lists.specs.CountedList.{ListOutcome}
 use Rattle.lists.specs.CostsText.{read_costs}
 use Rattle.lists.specs.PlanText.{read_plan}
@@ -100,16 +99,16 @@ module _ (h : Handed) where
   ByText = RefusedBy (TextNumber h)
 
   costed_refuses : (j : Job) → h.request.given.costs ≡ true → (o : ListOutcome) → ByText (with_costs j o)
-  costed_refuses j f (L.listed cs) = λ a b e. never (cc)
-  costed_refuses j f (L.refused line) = λ a b e. let y : 7 ≡ a = cc in subst (TextNumber h) y (of_costs f)
+  costed_refuses j f (Ok cs) = λ a b e. never (cc)
+  costed_refuses j f (Err line) = λ a b e. let y : 7 ≡ a = cc in subst (TextNumber h) y (of_costs f)
 
   costs_refuse : (j : Job) → ByText (costs_in h.request.given h.costs j)
   costs_refuse j =
       cond_has ByText h.request.given.costs _ (passed (at_house_costs j)) (λ z. costed_refuses j z (read_costs h.costs)) (λ z a b e. never (cc))
 
   offered_refuses : (t : Task) → h.request.plan ≡ true → (o : ListOutcome) → ByText (offered t o)
-  offered_refuses t f (L.listed es) = λ a b e. never (cc)
-  offered_refuses t f (L.refused line) = λ a b e. let y : 5 ≡ a = cc in subst (TextNumber h) y (of_plan f)
+  offered_refuses t f (Ok es) = λ a b e. never (cc)
+  offered_refuses t f (Err line) = λ a b e. let y : 5 ≡ a = cc in subst (TextNumber h) y (of_plan f)
 
   plan_refuses : (t : Task) → ByText (plan_in h.request h.plan t)
   plan_refuses t =

@@ -1,21 +1,19 @@
+use Rattle.std.proofs.Common.{◌≡◌, Ok, ◌∙◌, ap, arith}
+use Rattle.std.proofs.Math.Seq.{take-append_seam}
 use Rattle.load.proofs.OfferLaws.{offer_none, offer_refused, offer_ready}
 use Rattle.load.proofs.offer.load_plan.Goals as goal
 
-pub read_plan-read-requires : goal.read_plan-read-requires
-read_plan-read-requires c =
-    c.requires.1 c.if-request.true
+pub returns-in-Err : goal.returns-in-Err
+returns-in-Err c =
+    offer_refused c.args.request c.args.plan.now c.args.rows.now c.args.entries.now c.args.job c.requires.0 c.if-request.true
+    c.move_count-moves.ensures c.in-Err.ensures.is
 
-pub returns-in_default : goal.returns-in_default
-returns-in_default c =
-    offer_refused c.args.request c.args.plan.now c.args.rows.now _ c.args.job c.requires.0 c.if-request.true
-    c.move_count-moves.ensures
-    c.read_plan-read.result c.read_plan-read.ensures c.in_default.is c.list_refusal-r.ensures
-
-pub returns-then-request : goal.returns-then-request
-returns-then-request c =
-    offer_ready c.args.request c.args.plan.now c.args.rows.now _ c.args.job c.requires.0 c.if-request.true
-    c.move_count-moves.ensures
-    c.read_plan-read.result c.read_plan-read.ensures c.in-Read.is
+pub returns-in-Ok : goal.returns-in-Ok
+returns-in-Ok c =
+    let same : c.copy_from_slice.new.self ≡ c.in-Ok.read.items = c.copy_from_slice.ensures.after ∙ c.as_slice.ensures.value in
+    offer_ready c.args.request c.args.plan.now c.args.rows.now _ c.args.job c.requires.0 c.if-request.true c.move_count-moves.ensures
+    (ap Ok (rw (same, c.len-n.ensures.value) (take-append_seam _ _)) ∙ c.in-Ok.ensures.is)
+    (omega (arith, c.len-n.ensures.value, c.in-Ok.ensures.few))
 
 pub returns : goal.returns
 returns c =

@@ -1,12 +1,10 @@
 use Rattle.text.specs.Bytes.{bytes}
 use Rattle.load.proofs.offer.read_plan.Goals as goal
 
-pub returns-in-Moves : goal.returns-in-Moves
+pub returns-in-Moves-clause-is : goal.returns-in-Moves-clause-is
 unfolding bytes
-returns-in-Moves c =
-    rw c.in-Moves.is c.read_plan.ensures
+returns-in-Moves-clause-is c = rw c.in-Moves.is c.read_plan.ensures.is
 
-pub returns-in-Steps : goal.returns-in-Steps
+pub returns-in-Steps-clause-is : goal.returns-in-Steps-clause-is
 unfolding bytes
-returns-in-Steps c =
-    rw c.in-Steps.is c.read_plan-in-Steps.ensures
+returns-in-Steps-clause-is c = rw c.in-Steps.is c.read_plan-in-Steps.ensures.is
