@@ -1,17 +1,16 @@
 -- Numbers laid over a list, one part after another.
 -- Assumes nothing.
-use Rattle.std.proofs.Common.{ℕ, zero, suc, ◌+◌, ◌*◌, ◌≤◌, ◌<◌, ◌≡◌, refl, sym, ◌∙◌, ap, subst, List, [], ◌∷◌, ◌++◌, map, take, drop, get_or, length, length-append, arith, add-one}
+use Rattle.std.proofs.Common.{ℕ, zero, suc, ◌+◌, ◌*◌, ◌≤◌, ◌<◌, ◌≡◌, refl, sym, ◌∙◌, ap, List, [], ◌∷◌, ◌++◌, map, take, drop, get_or, length, length-append, arith, add-one}
 use Rattle.std.proofs.lemmas.List.{map_more, append_assoc, drop-drop}
 use Rattle.std.proofs.lemmas.List.Edits.{sets-eq}
 use borrow.Rule.Slice.PartMut.{put_mid}
 use Rattle.std.proofs.Math.Seq.{sets}
 use Rattle.laws.proofs.Lists.{sets_append}
 use Rattle.semantics.specs.Label as L
-use Rattle.semantics.proofs.FlatLaws.{flat_append, flat_length}
+use Rattle.semantics.proofs.FlatLaws.{flat_append}
 use Rattle.semantics.specs.CompilingTable.{Step as Arc, arc, copies, flat, move_steps, pick_steps}
 use Rattle.compile.specs.Laid.{arc_of, each, LaidOver}
 use Rattle.compile.specs.declared.writing.Step.{Step}
-use Rattle.compile.proofs.SizeLaws.{copies_count}
 
 pub laid_none : (l : List ℕ) (at : ℕ) → LaidOver [] l at l at
 laid_none l at = record { list = refl; place = omega arith }

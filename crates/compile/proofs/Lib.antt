@@ -1,6 +1,6 @@
 pub mod ProgramLaws
 pub mod Shapes
-pub mod RowTable
+pub mod FoldLaws
 pub mod SizeLaws
 pub mod PickNeeds
 pub mod EnvLaws

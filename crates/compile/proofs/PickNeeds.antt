@@ -1,23 +1,16 @@
--- A program's variables have their picks just where it asks for no enclosing pick; what a row asks
--- for, from what earlier rows do.
+-- A program's variables have their picks just where it asks for no enclosing pick.
 -- Assumes nothing.
-use Prim.Native.Nat.{ℕ, suc, ◌+◌, ◌-◌, ◌<◌, max}
+use Prim.Native.Nat.{ℕ, suc, ◌-◌, max}
 use mathlib.Core.Path.{◌≡◌, sym, ◌∙◌, ap₂}
 use mathlib.Core.Bool.{◌&&◌}
-use mathlib.Core.List.{List}
 use native.Mathlib.Omega.{arith}
 use lib.Dec.{leb, leb-zero, eqb}
-use lib.ListN.{length, get_or, set}
 use borrow.Author.Tests.{leb-true, le-leb, eqb-true, eq-eqb}
 use Rattle.laws.proofs.Tests.{and_left, and_right, and_both, tests_equal}
-use Rattle.job.specs.Job.{Row}
 use Rattle.semantics.specs.Program.{Program}
 use Rattle.semantics.specs.Scope.{scoped}
-use Rattle.compile.specs.Program.{row_program}
-use Rattle.compile.specs.Construct.{by_shape, fold, pick_algebra, picks_in, RowSays}
-use Rattle.compile.specs.declared.rows.Construct.{Construct}
-use Rattle.compile.proofs.Shapes.{leaf_scoped, branch_scoped, loop_scoped, fold_leaf, fold_branch, fold_loop, row_gives, same_fold}
-use Rattle.compile.proofs.RowTable.{Tabled, tabled_more}
+use Rattle.compile.specs.Construct.{by_shape, fold, pick_algebra}
+use Rattle.compile.proofs.Shapes.{leaf_scoped, branch_scoped, loop_scoped, fold_leaf, fold_branch, fold_loop}
 
 -- how many enclosing picks a program asks for
 abbrev pub picks_needed : Program → ℕ
@@ -48,13 +41,3 @@ none_needed σ =
     tests_equal _ (leb (picks_needed σ) 0)
     (λ h. le-leb (picks_needed σ) 0 (omega (arith, eqb-true (picks_needed σ) 0 h))) (λ h. eq-eqb (picks_needed σ) 0 (omega (arith, leb-true (picks_needed σ) 0 h)))
     ∙ sym (scoped_needed σ 0)
-
-module _ (program : List Row) where
-  -- what each of the rows before row i asks for stands in a list
-  abbrev pub PicksTabled : ℕ → List ℕ → Type 0
-  PicksTabled = Tabled (λ k. picks_needed (row_program program k))
-
-  -- one row more
-  pub picks_more : (i : ℕ) (l : List ℕ) (r : Construct) (v : ℕ) → PicksTabled i l → RowSays (row_program program) i r
-      → v ≡ picks_in (λ k. get_or l k 0) r → i < length l → PicksTabled (i + 1) (set l i v)
-  picks_more i l r v s e q h = tabled_more _ i l v s (q ∙ same_fold pick_algebra s r e.refers ∙ sym (row_gives pick_algebra e)) h

@@ -1,33 +1,28 @@
 -- Sizes of programs by their shape, and a row's sizes from those of earlier rows.
 -- Assumes nothing.
-use Prim.Native.Nat.{ℕ, zero, suc, ◌+◌, ◌*◌, ◌≤◌, ◌<◌}
-use mathlib.Core.Path.{◌≡◌, refl, sym, ◌∙◌, ap, ap₂}
+use Prim.Native.Nat.{ℕ, zero, suc, ◌+◌, ◌*◌, ◌≤◌}
+use mathlib.Core.Path.{◌≡◌, refl, sym, ◌∙◌, ap}
 use mathlib.Core.Bool.{true, ◌&&◌}
 use mathlib.Core.List.{List, [], ◌∷◌}
 use native.Mathlib.Omega.{arith}
 use native.Mathlib.Decide.{dec_lt}
 use native.Mathlib.Nat.{mul-le-mul_right}
-use lib.ListN.{length, set, length-append}
+use lib.ListN.{length, length-append}
 use Rattle.laws.proofs.Tests.{and_left, and_right}
 use Rattle.limits.specs.Limits.{most_steps}
-use Rattle.job.specs.Job.{Row}
 use Rattle.job.specs.declared.head.Counts.{Counts}
 use Rattle.semantics.specs.Label.{noop}
 use Rattle.semantics.specs.Program.{Program, any, seq, pick}
 use Rattle.semantics.specs.CompilingTable.{Step, arc, copy_start, end, copies, steps, move_steps, branch_steps, while_steps, star_steps, pick_steps}
 use Rattle.semantics.specs.Scope.{scoped}
-use Rattle.compile.specs.Program.{row_program}
-use Rattle.compile.specs.Construct.{simple, branch, loop, loop_steps, by_shape, fold, Refers, RowSays}
-use Rattle.compile.specs.Size.{sizes_sum, nothing, copies_size, size_algebra, sizes_of, sizes_in, sized, capped, capped_sizes, listed}
+use Rattle.compile.specs.Construct.{simple, branch, loop, loop_steps, by_shape, fold}
+use Rattle.compile.specs.Size.{sizes_sum, nothing, copies_size, size_algebra, sizes_of, capped, capped_sizes, capped_algebra}
 use Rattle.compile.specs.declared.rows.Simple.{Simple}
 use Rattle.compile.specs.declared.rows.Guard.{Guard}
 use Rattle.compile.specs.declared.rows.Guard.TheVariants.{Free, On}
-use Rattle.compile.specs.declared.rows.Construct.{Construct}
-use Rattle.compile.specs.declared.rows.Construct.TheVariants as C
 use Rattle.compile.specs.declared.sizes.Sizes.{Sizes}
 use Rattle.compile.proofs.Shapes.{leaf_made, leaf_ends, branch_made, loop_made, branch_scoped, loop_scoped, has_object}
-use Rattle.compile.proofs.Shapes.{fold_leaf, fold_branch, fold_loop, row_gives}
-use Rattle.compile.proofs.RowTable.{Tabled, tabled_more}
+use Rattle.compile.proofs.Shapes.{fold_leaf, fold_branch, fold_loop}
 
 pub moves_count : (count a n : ℕ) → length (move_steps count a n) ≡ count
 unfolding move_steps
@@ -155,34 +150,12 @@ module _ (c : Counts) where
       let f : capped (O * (capped x.steps + 2)) ≡ capped (O * (x.steps + 2)) = omega (arith, capped_times O x.steps 2 0) in
       rw (e, capped_times O x.positions 1 1, f)
 
-  module _ (program : List Row) where
-    abbrev of : ℕ → Sizes
-    of k = sizes_of c (row_program program k)
-
-    -- the capped sizes of the rows before row i stand in two lists
-    pub record Listed (i : ℕ) (positions steps : List ℕ) : Type 0 where
-      pub positions_of_lem : Tabled (λ k. capped (of k).positions) i positions
-      pub steps_of_lem : Tabled (λ k. capped (of k).steps) i steps
-
-    module _ {i : ℕ} {positions steps : List ℕ} (s : Listed i positions steps) where
-      listed_at : (k : ℕ) → k < i → listed positions steps k ≡ capped_sizes (of k)
-      listed_at k h = ap₂ sized (s.positions_of_lem k h) (s.steps_of_lem k h)
-
-      row_capped : (r : Construct) → Refers i r → capped_sizes (sizes_in c (listed positions steps) r) ≡ capped_sizes (sizes_in c of r)
-      row_capped (C.Leaf l) e = refl
-      row_capped C.Any e = refl
-      row_capped (C.Seq a b) e = capped_parts (of a) (of b) _ _ 0 0 (listed_at a e.0) (listed_at b e.1)
-      row_capped (C.Branch g a b) e = capped_parts (of a) (of b) _ _ 3 4 (listed_at a e.0) (listed_at b e.1)
-      row_capped (C.Loop g a) e = capped_parts (of a) nothing _ nothing 2 3 (listed_at a e) refl
-      row_capped (C.Pick a) e = capped_copies c.objects (of a) _ (listed_at a e)
-
-      -- one row more
-      pub listed_more : (r : Construct) (v : Sizes) → RowSays (row_program program) i r
-          → v ≡ capped_sizes (sizes_in c (listed positions steps) r) → i < length positions → i < length steps
-          → Listed (i + 1) (set positions i v.positions) (set steps i v.steps)
-      listed_more r v e q h g =
-          let own : v ≡ capped_sizes (of i) = q ∙ row_capped r e.refers ∙ ap capped_sizes (sym (row_gives (size_algebra c) e)) in
-          record {
-            positions_of_lem = tabled_more _ i positions _ s.positions_of_lem (ap (λ (z : Sizes). z.positions) own) h;
-            steps_of_lem = tabled_more _ i steps _ s.steps_of_lem (ap (λ (z : Sizes). z.steps) own) g;
-          }
+  -- what a program gives by capped sizes are its sizes, capped
+  pub fold_capped : (σ : Program) → fold (capped_algebra c) σ ≡ capped_sizes (sizes_of c σ)
+  unfolding fold
+  fold_capped = by_shape (λ σ. fold (capped_algebra c) σ ≡ capped_sizes (sizes_of c σ))
+      (λ s. rw (fold_leaf (capped_algebra c) s, fold_leaf (size_algebra c) s)) refl
+      (λ a b u v. capped_parts (sizes_of c a) (sizes_of c b) _ _ 0 0 u v)
+      (λ g a b u v. rw (fold_branch (capped_algebra c) g a b, fold_branch (size_algebra c) g a b) (capped_parts (sizes_of c a) (sizes_of c b) _ _ 3 4 u v))
+      (λ g a u. rw (fold_loop (capped_algebra c) g a, fold_loop (size_algebra c) g a) (capped_parts (sizes_of c a) nothing _ nothing 2 3 u refl))
+      (λ a u. capped_copies c.objects (sizes_of c a) _ u)

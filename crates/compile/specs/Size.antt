@@ -1,5 +1,5 @@
 -- Sizes of programs, by the compiling table.
-use Rattle.std.specs.Prelude.{ℕ, suc, ◌+◌, ◌*◌, min, List, get_or}
+use Rattle.std.specs.Prelude.{ℕ, suc, ◌+◌, ◌*◌, min}
 use Rattle.limits.specs.Limits.{most_steps}
 use Rattle.job.specs.declared.head.Counts.{Counts}
 use Rattle.semantics.specs.Program.{Program}
@@ -46,6 +46,15 @@ capped n = min n (suc most_steps)
 abbrev pub capped_sizes : Sizes → Sizes
 capped_sizes s = sized (capped s.positions) (capped s.steps)
 
--- the sizes of a row in two lists
-abbrev pub listed : List ℕ → List ℕ → ℕ → Sizes
-listed positions steps k = sized (get_or positions k 0) (get_or steps k 0)
+-- each shape's sizes, capped
+abbrev pub capped_algebra : Counts → Algebra Sizes
+capped_algebra c =
+    let A = size_algebra c in
+    record {
+      leaf = λ s. capped_sizes (A.leaf s);
+      any = capped_sizes A.any;
+      seq = λ x y. capped_sizes (A.seq x y);
+      branch = λ g x y. capped_sizes (A.branch g x y);
+      loop = λ g x. capped_sizes (A.loop g x);
+      pick = λ x. capped_sizes (A.pick x);
+    }

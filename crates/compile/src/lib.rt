@@ -2,6 +2,7 @@
 #![tactic(auto)]
 
 pub mod env;
+pub mod fold;
 pub mod label;
 pub mod program;
 pub mod rows;

@@ -1,9 +1,8 @@
 // Program rows of a job.
-ghost use Rattle.std.specs.Prelude.{◌≡◌, ◌<◌};
-ghost use Rattle.job.specs.Store.{row_in};
+ghost use Rattle.std.specs.Prelude.{◌<◌};
 ghost use Rattle.job.specs.StoredTask.{stored_job};
 ghost use Rattle.compile.specs.Program.{row_program};
-ghost use Rattle.compile.specs.Construct.{construct_of, RowSays};
+ghost use Rattle.compile.specs.Construct.{RowSays};
 
 use job::stored::ProgramRow;
 use job::task::Task;
@@ -42,24 +41,29 @@ pub enum Construct {
 }
 
 // What a row says, by its kind.
-fn construct_of(row: ProgramRow) -> Construct
-    ensures { result ≡ construct_of (row_in row) }
-{
-    let kind = row.kind;
-    match kind {
-        0 => Construct::Leaf(Simple::Nil),
-        1 => Construct::Leaf(Simple::Move(row.a)),
-        2 => Construct::Any,
-        3 => Construct::Leaf(Simple::Test(row.a)),
-        4 => Construct::Seq(row.a, row.b),
-        5 => Construct::Branch(Guard::On(row.a), row.b, row.c),
-        6 => Construct::Branch(Guard::Free, row.a, row.b),
-        7 => Construct::Loop(Guard::On(row.a), row.b),
-        8 => Construct::Loop(Guard::Free, row.a),
-        9 => Construct::Pick(row.a),
-        10 => Construct::Leaf(Simple::ObjectMove(row.a, row.b)),
-        11 => Construct::Leaf(Simple::ObjectTest(row.a, row.b)),
-        _ => Construct::Leaf(Simple::Nil), // no row is of another kind
+impl From<ProgramRow> for Construct {
+    ghost use Rattle.std.specs.Prelude.{◌≡◌};
+    ghost use Rattle.job.specs.Store.{row_in};
+    ghost use Rattle.compile.specs.Construct.{construct_of};
+
+    ghost from_gives = { λ row construct. construct ≡ construct_of (row_in row) };
+
+    fn from(row: ProgramRow) -> Construct {
+        match row.kind {
+            0 => Construct::Leaf(Simple::Nil),
+            1 => Construct::Leaf(Simple::Move(row.a)),
+            2 => Construct::Any,
+            3 => Construct::Leaf(Simple::Test(row.a)),
+            4 => Construct::Seq(row.a, row.b),
+            5 => Construct::Branch(Guard::On(row.a), row.b, row.c),
+            6 => Construct::Branch(Guard::Free, row.a, row.b),
+            7 => Construct::Loop(Guard::On(row.a), row.b),
+            8 => Construct::Loop(Guard::Free, row.a),
+            9 => Construct::Pick(row.a),
+            10 => Construct::Leaf(Simple::ObjectMove(row.a, row.b)),
+            11 => Construct::Leaf(Simple::ObjectTest(row.a, row.b)),
+            _ => Construct::Leaf(Simple::Nil), // no row is of another kind
+        }
     }
 }
 
@@ -68,5 +72,5 @@ pub fn construct_at(task: &Task, i: u16) -> Construct
     requires { i < task.now.head.counts.program }
     ensures { RowSays (row_program (stored_job task.now).program) i result }
 {
-    construct_of(job::stored::program_row_at(task.head, task.rows, i))
+    Construct::from(job::stored::program_row_at(task.head, task.rows, i))
 }

@@ -29,7 +29,7 @@ impl Cursor {
     }
 }
 
-pub fn put_step(list: &mut [u16], at: usize, step: Step) -> usize
+pub(crate) fn put_step(list: &mut [u16], at: usize, step: Step) -> usize
     requires { at + 4 ≤ length list.old }
     ensures { LaidOver (flat (arc_of step ∷ [])) list.old at list.new result }
 {
@@ -39,7 +39,7 @@ pub fn put_step(list: &mut [u16], at: usize, step: Step) -> usize
     at + 4
 }
 
-pub fn put_steps(list: &mut [u16], at: usize, steps: &[Step]) -> usize
+pub(crate) fn put_steps(list: &mut [u16], at: usize, steps: &[Step]) -> usize
     requires { at + length steps.now * 4 ≤ length list.old }
     ensures { LaidOver (flat (map arc_of steps.now)) list.old at list.new result }
 {
@@ -51,7 +51,12 @@ pub fn put_steps(list: &mut [u16], at: usize, steps: &[Step]) -> usize
 }
 
 // The step that each number below a count gives.
-pub fn put_each<F: Fn(u16) -> Step>(list: &mut [u16], at: usize, count: u16, step: F) -> usize
+pub(crate) fn put_each<F: Fn(u16) -> Step>(
+    list: &mut [u16],
+    at: usize,
+    count: u16,
+    step: F,
+) -> usize
     requires callable { (k : ℕ) → k < count → F.pre step k }
     requires room { at + count * 4 ≤ length list.old }
     ensures laid { (g : ℕ → Arc) → Gives (F.post step) count g → LaidOver (flat (each count g)) list.old at list.new result }
