@@ -20,6 +20,7 @@ pub struct Arrival {
     pub cost: u64,
 }
 
+#[derive(Drop)]
 pub struct Explored<'t> {
     pub world: World<'t>,
     kept: [Option<Option<u16>>; MOVES],

@@ -10,6 +10,7 @@ use limits::{POSITIONS, STEPS};
 
 // For each position the last step from it, and for each step the one before it from the same
 // position; counted from 1, and 0 for none.
+#[derive(Drop)]
 pub struct StepIndex<'a> {
     pub list: &'a [u16],
     last: [u16; POSITIONS],

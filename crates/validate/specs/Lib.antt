@@ -1,2 +1,4 @@
+pub mod Counted
+pub mod Wanted
 pub mod Positions
 pub mod Verdict

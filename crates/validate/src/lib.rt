@@ -5,3 +5,4 @@ pub mod moves;
 pub mod position_set;
 pub mod steps;
 pub mod verdict;
+pub mod wanted;

@@ -1,13 +1,15 @@
 // The set of positions that a program may be at.
+ghost use Rattle.std.proofs.Props.{props};
 ghost use Rattle.std.specs.Prelude.{◌≡◌, true, false, ◌<◌, get_or, set, replicate};
 ghost use Rattle.limits.specs.Limits.{most_positions};
-ghost use Rattle.semantics.specs.PositionSets.{closure, spread, is_move};
-ghost use Rattle.compiled.specs.Adjacency.{steps_on, Indexed};
-ghost use Rattle.compiled.specs.Steps.{label_of, silent_by};
-ghost use Rattle.validate.specs.Positions.{Counted, CountedSet, wanted_by, Followed, Marking};
+ghost use Rattle.semantics.specs.PositionSets.{closure, spread, silent_in, is_move};
+ghost use Rattle.domain.specs.Domain.{domain_at};
+ghost use Rattle.compiled.specs.Adjacency.{steps_on};
+ghost use Rattle.validate.specs.Counted.{Counted};
 
-use compile::label::Label;
-use compiled::steps::OutStep;
+use crate::wanted::Wanted;
+use compiled::index::StepIndex;
+use domain::world::World;
 use limits::POSITIONS;
 
 // One mark a position, how many are set, and the marked positions in the order in which they were
@@ -17,158 +19,93 @@ pub struct PositionSet {
     pub marks: [bool; POSITIONS],
     pub members: [u16; POSITIONS],
     pub count: usize,
-}
-
-// Which steps are followed: silent ones that can be made, or those that make a move.
-#[derive(Clone, Copy)]
-pub enum Wanted {
-    Silent,
-    Move(u16),
-}
-
-#[tactic(auto, unfolding(crate::specs::Positions::wanted_by, semantics::specs::PositionSets::is_move))]
-fn is_wanted(wanted: Wanted, values: &[bool], step: OutStep) -> bool
-    ensures { result ≡ wanted_by wanted values.now (label_of step) }
-{
-    match wanted {
-        Wanted::Silent => compiled::steps::is_silent(values, step),
-        Wanted::Move(m) => match step.label {
-            Label::Make(a) => a == m,
-            _ => false,
-        },
-    }
-}
-
-// Marks position q, where that is wanted; answers how many are marked then.
-fn mark(marks: &mut [bool], members: &mut [u16], count: usize, wanted: bool, q: u16) -> usize
-    requires { Counted marks.old members.old count × (q < most_positions) }
-    ensures { Marking wanted q marks.old members.old count marks.new members.new result }
-{
-    if wanted {
-        let i = q as usize;
-        if marks[i] {
-            return count;
-        }
-        marks[i] = true;
-        members[count] = q;
-        return count + 1;
-    }
-    count
-}
-
-// Marks the ends of the wanted steps from position p.
-fn follow(
-    marks: &mut [bool],
-    members: &mut [u16],
-    count: usize,
-    list: &[u16],
-    adjacency: &[u16],
-    values: &[bool],
-    wanted: Wanted,
-    p: u16,
-) -> usize
-    requires counted { Counted marks.old members.old count × (p < most_positions) }
-    requires indexed { Indexed list.now adjacency.now }
-    ensures { Followed (wanted_by wanted values.now) (steps_on list.now) p
-        marks.old members.old count marks.new members.new result }
-{
-    let mut n = count;
-    let mut h = compiled::adjacency::link_at(adjacency, p as usize);
-    while 0 < h {
-        let k = h - 1;
-        let step = compiled::steps::step_at(list, k);
-        let on = is_wanted(wanted, values, step);
-        n = mark(marks, members, n, on, step.to);
-        h = compiled::adjacency::link_at(adjacency, POSITIONS + k);
-    }
-    n
+    pub ghost counted: { Counted marks members count } by { Prim.hlevel props },
 }
 
 impl PositionSet {
-    // Position 0 alone.
-    pub fn start() -> PositionSet
-        ensures { (result.marks ≡ set (replicate most_positions false) 0 true) × CountedSet result }
+    ghost use Rattle.validate.specs.Wanted.{wanted_by};
+    ghost use Rattle.validate.specs.Positions.{Marking, Followed};
+
+    // No position.
+    fn empty() -> PositionSet
+        ensures marks { result.marks ≡ replicate most_positions false }
+        ensures count { result.count ≡ 0 }
     {
-        let mut marks = [false; POSITIONS];
-        marks[0] = true;
         PositionSet {
-            marks: marks,
-            members: [0u16; POSITIONS],
-            count: 1,
+            marks: [false; POSITIONS],
+            members: [0; POSITIONS],
+            count: 0,
         }
     }
 
-    // All that silent steps lead to, by the formulas' values.
-    pub fn closed(self, list: &[u16], adjacency: &[u16], values: &[bool]) -> PositionSet
-        requires counted_set { CountedSet self }
-        requires indexed { Indexed list.now adjacency.now }
-        ensures { (result.marks ≡ closure (silent_by values.now) (steps_on list.now) self.marks) × CountedSet result }
+    // Position 0 alone.
+    pub fn start() -> PositionSet
+        ensures { result.marks ≡ set (replicate most_positions false) 0 true }
     {
-        let mut marks = self.marks;
-        let mut members = self.members;
-        let mut count = self.count;
-        let mut at: usize = 0;
-        while at < count {
-            let p = members[at];
-            count = follow(
-                &mut marks,
-                &mut members,
-                count,
-                list,
-                adjacency,
-                values,
-                Wanted::Silent,
-                p,
-            );
+        let mut set = PositionSet::empty();
+        set.mark(0);
+        set
+    }
+
+    fn mark(&mut self, q: u16)
+        requires { q < most_positions }
+        ensures { Marking q self.old self.new }
+    {
+        let i = q as usize;
+        if self.marks[i] {
+            return;
+        }
+        self.marks[i] = true;
+        self.members[self.count] = q;
+        self.count += 1;
+    }
+
+    // Marks the ends of the wanted steps from position p.
+    fn follow(&mut self, index: &StepIndex, wanted: Wanted, p: u16)
+        requires { p < most_positions }
+        ensures { Followed (wanted_by wanted.entry) (steps_on index.now.list.now) p self.old self.new }
+    {
+        let mut next = index.last_from(p as usize);
+        while let Some(k) = next {
+            let step = index.step(k);
+            if wanted.takes(step) {
+                self.mark(step.to);
+            }
+            next = index.before(k);
+        }
+    }
+
+    // All that silent steps lead to, in a world.
+    pub fn closed(self, index: &StepIndex, world: &World) -> PositionSet
+        ensures { result.marks
+            ≡ closure (silent_in (domain_at world.now.task) world.now.state) (steps_on index.now.list.now) self.marks }
+    {
+        let mut set = self;
+        let mut at = 0;
+        // A while: the set grows as it is walked.
+        while at < set.count {
+            let p = set.members[at];
+            set.follow(index, Wanted::Silent(world), p);
             at += 1;
         }
-        PositionSet {
-            marks: marks,
-            members: members,
-            count: count,
-        }
+        set
     }
 
     // The positions that move m leads to, before any silent step.
-    pub fn advanced(self, list: &[u16], adjacency: &[u16], m: u16) -> PositionSet
-        requires counted_set { CountedSet self }
-        requires indexed { Indexed list.now adjacency.now }
-        ensures { (result.marks ≡ spread (is_move m) (steps_on list.now) self.marks (replicate most_positions false)) × CountedSet result }
+    pub fn advanced(self, index: &StepIndex, m: u16) -> PositionSet
+        ensures { result.marks ≡ spread (is_move m) (steps_on index.now.list.now) self.marks (replicate most_positions false) }
     {
-        let old = self.members;
-        let n = self.count;
-        // no formula is looked at
-        let values = [false; 1];
-        let mut marks = [false; POSITIONS];
-        let mut members = [0u16; POSITIONS];
-        let mut count: usize = 0;
-        let mut i: usize = 0;
-        while i < n {
-            let p = old[i];
-            count = follow(
-                &mut marks,
-                &mut members,
-                count,
-                list,
-                adjacency,
-                &values,
-                Wanted::Move(m),
-                p,
-            );
-            i += 1;
+        let mut next = PositionSet::empty();
+        for p in &self.members[..self.count] {
+            next.follow(index, Wanted::Move(m), *p);
         }
-        PositionSet {
-            marks: marks,
-            members: members,
-            count: count,
-        }
+        next
     }
 
     // Whether position q is in the set.
     pub fn has(self, q: u16) -> bool
         ensures { result ≡ get_or self.marks q false }
     {
-        let marks = self.marks;
-        domain::formulas::value_at(&marks, q)
+        self.marks.get(q as usize).copied().unwrap_or(false)
     }
 }

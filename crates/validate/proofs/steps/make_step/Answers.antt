@@ -1,15 +1,14 @@
-use mathlib.Core.Path.{sym, ◌∙◌}
-use Rattle.compiled.proofs.SuccessorLaws.{cached_none}
+use Rattle.std.proofs.Common.{sym, ◌∙◌}
+use Rattle.domain.specs.Domain.{domain_at}
+use Rattle.semantics.proofs.FlatLaws.{steps_at}
 use Rattle.validate.proofs.StepLaws.{made_here, made_nowhere}
 use Rattle.validate.proofs.steps.make_step.Goals as goal
 
-pub arrive-requires : goal.arrive-requires
-arrive-requires c =
-    record { stored = c.requires.stored; told = c.formula_values-values.ensures; inside = c.requires.i_in_bounds.1; successors = cached_none _ _ }
-
 pub returns-then-start_at-position : goal.returns-then-start_at-position
 returns-then-start_at-position c =
-    made_here _ _ _ c.step_at-step.ensures (sym c.start_at.ensures ∙ c.if-start_at-position.true) c.arrive.ensures.leads
+    made_nowhere _ _ _ (steps_at _ _ _ c.requires.i_in_bounds) (λ e. c.if-start_at-position.true (c.start_at.ensures ∙ e))
 
 pub returns : goal.returns
-returns c = made_nowhere _ _ _ c.step_at-step.ensures (λ e. c.if-start_at-position.false (c.start_at.ensures ∙ e))
+returns c =
+    let here = rw (c.at.ensures.0, c.at.ensures.1) at c.arrive.ensures.leads in
+    made_here (domain_at c.args.job.now.task) c.args.state c.args.position c.step_at.ensures (sym c.start_at.ensures ∙ c.if-start_at-position.false) here
