@@ -8,8 +8,10 @@ ghost use Rattle.load.specs.View.{view_of};
 ghost use Rattle.jesmovit.specs.Checking.{Says, Checks};
 
 use crate::preparing::prepare;
+use compiled::CompiledJob;
 use job::refusal::Refusal;
 use job::rows::STORE;
+use job::task::Task;
 use limits::ENTRIES;
 use load::loaded::{Loaded, LoadedJob};
 use load::request::{Given, Request, Sort};
@@ -24,18 +26,28 @@ pub enum CheckAnswer {
 }
 
 // The verdict on the entries of a plan; the list holds the compiled job's steps and nothing else.
-fn verdict(sort: Sort, job: LoadedJob, rows: &[u16], list: &[u16], plan: &[u16]) -> Verdict
+fn verdict<'a>(
+    sort: Sort,
+    job: LoadedJob,
+    rows: &'a [u16],
+    list: &'a [u16],
+    plan: &[u16],
+) -> Verdict
     requires ready { Ready job.head rows.now list.now job.sizes.positions }
     requires entries_below { EntriesBelow plan.now (bound_for sort (job_of job.head rows.now)) }
     ensures { Says sort (view_of (record { task = task_of job.head rows.now; entries = plan.now })) (verdict_of result) }
 {
+    let compiled = CompiledJob {
+        task: Task {
+            head: job.head,
+            rows: rows,
+        },
+        list: list,
+        positions: job.sizes.positions,
+    };
     match sort {
-        Sort::Moves => {
-            validate::moves::check_moves(job.head, rows, list, job.sizes.positions, plan)
-        }
-        Sort::Steps => {
-            validate::steps::check_steps(job.head, rows, list, job.sizes.positions, plan)
-        }
+        Sort::Moves => validate::moves::check_moves(&compiled, plan),
+        Sort::Steps => validate::steps::check_steps(&compiled, plan),
     }
 }
 

@@ -11,9 +11,11 @@ ghost use Rattle.jesmovit.specs.Outcomes.{least_outcome, judgement_of};
 ghost use Rattle.jesmovit.specs.Judging.{lowest_of, CostsLeast, compared, Found, Judges};
 
 use crate::preparing::prepare;
+use compiled::CompiledJob;
 use job::head::Head;
 use job::refusal::Refusal;
 use job::rows::STORE;
+use job::task::Task;
 use limits::ENTRIES;
 use load::loaded::Loaded;
 use load::request::{Given, Request, Sort};
@@ -108,11 +110,11 @@ fn compare(cost: u64, least: u64) -> Judgement
 
 // What the entries of a plan are, and the cost table filled if they are a plan. The list holds the
 // compiled job's steps and nothing else.
-fn judge_entries(
+fn judge_entries<'a>(
     table: &mut [u64],
     head: Head,
-    rows: &[u16],
-    list: &[u16],
+    rows: &'a [u16],
+    list: &'a [u16],
     grid: Grid,
     plan: &[u16],
 ) -> Judgement
@@ -122,7 +124,12 @@ fn judge_entries(
     ensures { Found (view_of (record { task = task_of head rows.now; entries = plan.now })) (judgement_of result)
         table.old table.new }
 {
-    let verdict = validate::moves::check_moves(head, rows, list, grid.positions, plan);
+    let compiled = CompiledJob {
+        task: Task { head, rows },
+        list: list,
+        positions: grid.positions,
+    };
+    let verdict = validate::moves::check_moves(&compiled, plan);
     let Verdict::Plan(cost) = verdict else {
         return Judgement::Other(verdict);
     };

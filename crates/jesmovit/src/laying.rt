@@ -13,6 +13,7 @@ ghost use Rattle.jesmovit.specs.Outcomes.{sheet_outcome};
 ghost use Rattle.jesmovit.specs.Checking.{Says};
 ghost use Rattle.jesmovit.specs.Writing.{Writes, bytes_for, SheetIs, Sheets};
 
+use compiled::CompiledJob;
 use job::refusal::Refusal;
 use job::rows::STORE;
 use job::task::Task;
@@ -41,9 +42,14 @@ fn move_verdict(job: LoadedJob, rows: &[u16], plan: &[u16]) -> Verdict
     let head = job.head;
     let need = load::room::list_need(job);
     let mut list = [0u16; LIST];
-    compile::program::compile(&Task { head, rows }, &mut list);
-    let steps = front(&list, need);
-    validate::moves::check_moves(head, rows, steps, job.sizes.positions, plan)
+    let task = Task { head, rows };
+    compile::program::compile(&task, &mut list);
+    let compiled = CompiledJob {
+        task: task,
+        list: front(&list, need),
+        positions: job.sizes.positions,
+    };
+    validate::moves::check_moves(&compiled, plan)
 }
 
 // How many bytes the output needs after the verdict on so many moves: none for what is no plan.

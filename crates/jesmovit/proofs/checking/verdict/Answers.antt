@@ -2,12 +2,10 @@ use Rattle.jesmovit.proofs.SaysLaws.{move_entries, says_moves, step_entries, say
 use Rattle.jesmovit.proofs.checking.verdict.Goals as goal
 
 pub check_moves-requires : goal.check_moves-requires
-check_moves-requires c =
-    record { ready = c.requires.ready; entries_below = move_entries _ _ _ c.in-Moves.is c.requires.entries_below }
+check_moves-requires c = move_entries _ _ _ c.in-Moves.is c.requires.entries_below
 
 pub check_steps-requires : goal.check_steps-requires
-check_steps-requires c =
-    record { ready = c.requires.ready; entries_below = step_entries _ _ _ c.in-Steps.is c.requires.entries_below }
+check_steps-requires c = step_entries _ _ _ c.in-Steps.is c.requires.entries_below
 
 pub returns-in-Moves : goal.returns-in-Moves
 returns-in-Moves c =
