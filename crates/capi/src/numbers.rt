@@ -1,5 +1,6 @@
 // Answers as numbers, as include/jesmovit.h has them.
 ghost use Rattle.std.specs.Prelude.{◌≡◌};
+ghost use Rattle.job.specs.Refusal.{number_of};
 ghost use Rattle.validate.specs.Verdict.{verdict_of};
 ghost use Rattle.jesmovit.specs.Outcomes.{judgement_of};
 ghost use Rattle.capi.specs.Numbers.{verdict_code, judgement_code, code_numbers, refusal_numbers};
@@ -72,10 +73,10 @@ pub fn of_judgement(g: Judgement) -> Coded
 }
 
 pub fn of_refusal(r: Refusal) -> Numbers
-    ensures { result ≡ refusal_numbers r.number r.place }
+    ensures { result ≡ refusal_numbers (number_of r.reason) r.place }
 {
     Numbers {
-        number: r.number as u32,
+        number: u32::from(u8::from(r.reason)),
         values: [r.place as u64, 0, 0, 0, 0],
     }
 }

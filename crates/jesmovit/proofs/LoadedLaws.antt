@@ -8,6 +8,7 @@ use mathlib.Core.List.{List, []}
 use lib.ListN.{length, take}
 use Rattle.job.specs.Store.{job_of, task_of}
 use Rattle.job.specs.Stored.{Stored}
+use Rattle.job.specs.Refusal.{number_of}
 use Rattle.job.specs.declared.refusal.Refusal.{Refusal}
 use Rattle.domain.specs.Domain.{domain_in}
 use Rattle.domain.specs.Entries.{EntriesBelow}
@@ -27,9 +28,9 @@ use Rattle.jesmovit.proofs.AnswerLaws.{viewed, answer_refused}
 use Rattle.jesmovit.proofs.FrontLaws.{front_ready}
 
 module _ {h : Handed} {rows entries : List ℕ} {a : Loaded} (e : Loads h a rows entries) where
-  pub load_refusal_lem : {q r : Refusal} → a ≡ Loaded.Refused q → r ≡ load_refusal a → refused r.number r.place ≡ loading h
+  pub load_refusal_lem : {q r : Refusal} → a ≡ Loaded.Refused q → r ≡ load_refusal a → refused (number_of r.reason) r.place ≡ loading h
   load_refusal_lem g f =
-      ap (λ (x : Refusal). refused x.number x.place) (f ∙ ap load_refusal g) ∙ ap (λ (x : Loaded). loaded_as x rows entries) (sym g) ∙ e.is
+      ap (λ (x : Refusal). refused (number_of x.reason) x.place) (f ∙ ap load_refusal g) ∙ ap (λ (x : Loaded). loaded_as x rows entries) (sym g) ∙ e.is
 
   module _ {l : LoadedJob} (g : a ≡ Loaded.Ready l) where
     abbrev o : Offer
@@ -91,7 +92,7 @@ module _ {h : Handed} {a : Loaded} {rows entries list after : List ℕ} (e : Pre
   -- whatever is lent beside the list
   pub prepared_refused : {B C : Type 0} {Does : View → B → C → C → Type 0} (lent : List ℕ → C)
       → {q r : Refusal} → a ≡ Loaded.Refused q → r ≡ load_refusal a
-      → Answers Does (lent list) (view_in h) (refused r.number r.place) (lent after)
+      → Answers Does (lent list) (view_in h) (refused (number_of r.reason) r.place) (lent after)
   prepared_refused lent g f =
       let x = load_refusal_lem e.loads g f in
       let kept : after ≡ list = e.holds ∙ sym (ap (filled list) x) in rw kept (answer_refused h x)

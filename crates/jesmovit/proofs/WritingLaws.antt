@@ -8,6 +8,8 @@ use native.Mathlib.Omega.{arith}
 use lib.ListN.{length}
 use lib.Seq.{sets}
 use Rattle.job.specs.Store.{task_of}
+use Rattle.job.specs.Refusal.{number_of}
+use Rattle.job.specs.declared.refusal.Reason.TheVariants.{Room}
 use Rattle.job.specs.declared.refusal.Refusal.{Refusal}
 use Rattle.semantics.specs.Verdict as S
 use Rattle.semantics.proofs.VerdictLaws.{plan_leads}
@@ -81,6 +83,6 @@ module _ {l : LoadedJob} {rows plan : List ℕ} (sized : Sized l rows) (entries 
       lay_sheet h f g = rw (f, g, ← sheet_need) (writes planned refl (omega (arith, sheet_need)))
 
     -- only a plan needs any bytes
-    pub lay_short : length out < need → {r : Refusal} → r ≡ record { number = 6; place = need }
-        → Writes SheetIs (record { list = list; output = out }) (passed view) (refused r.number r.place) (record { list = list; output = out })
+    pub lay_short : length out < need → {r : Refusal} → r ≡ record { reason = Room; place = need }
+        → Writes SheetIs (record { list = list; output = out }) (passed view) (refused (number_of r.reason) r.place) (record { list = list; output = out })
     lay_short h f = rw f (elim (plan_or_none v (length plan)) [ inl x ↦ short_plan x.1 h | inr z ↦ absurd (omega (arith, h, n, z)) ])

@@ -2,6 +2,7 @@
 -- place".
 use Rattle.std.specs.Prelude.{ℕ}
 use Rattle.std.specs.Prelude.{Option, None, Some}
+use Rattle.job.specs.Refusal.{number_of}
 use Rattle.job.specs.declared.head.Counts.{Counts}
 use Rattle.semantics.specs.Verdict as S
 use Rattle.semantics.specs.Judgement as J
@@ -19,23 +20,23 @@ use Rattle.jesmovit.specs.declared.laying.SheetAnswer as Sheet
 -- reading: the job's counts
 abbrev pub read_outcome : Read.ReadAnswer → Checked Counts
 read_outcome (Read.TheVariants.Read counts) = passed counts
-read_outcome (Read.TheVariants.Refused r) = refused r.number r.place
+read_outcome (Read.TheVariants.Refused r) = refused (number_of r.reason) r.place
 
 -- compiling: how many positions and steps there are
 abbrev pub compile_outcome : Compile.CompileAnswer → Checked Sizes
 compile_outcome (Compile.TheVariants.Compiled positions steps) = passed (record { positions = positions; steps = steps })
-compile_outcome (Compile.TheVariants.Refused r) = refused r.number r.place
+compile_outcome (Compile.TheVariants.Refused r) = refused (number_of r.reason) r.place
 
 -- a check: one of the verdicts, with its values
 abbrev pub check_outcome : Check.CheckAnswer → Checked S.Verdict
 check_outcome (Check.TheVariants.Said v) = passed (verdict_of v)
-check_outcome (Check.TheVariants.Refused r) = refused r.number r.place
+check_outcome (Check.TheVariants.Refused r) = refused (number_of r.reason) r.place
 
 -- the least cost: "the cost, or none"
 abbrev pub least_outcome : Least.LeastAnswer → Checked (Option ℕ)
 least_outcome (Least.TheVariants.Costs cost) = passed (Some cost)
 least_outcome Least.TheVariants.NoPlan = passed None
-least_outcome (Least.TheVariants.Refused r) = refused r.number r.place
+least_outcome (Least.TheVariants.Refused r) = refused (number_of r.reason) r.place
 
 -- "least or dearer with both costs; for others … the check's verdict"
 abbrev pub judgement_of : Judgement.Judgement → J.Judgement
@@ -51,7 +52,7 @@ pub record SizedJudgement : Type 0 where
 abbrev pub judge_outcome : Judge.JudgeAnswer → Checked SizedJudgement
 judge_outcome (Judge.TheVariants.Judged positions steps g) =
     passed (record { sizes = record { positions = positions; steps = steps }; judgement = judgement_of g })
-judge_outcome (Judge.TheVariants.Refused r) = refused r.number r.place
+judge_outcome (Judge.TheVariants.Refused r) = refused (number_of r.reason) r.place
 
 -- how much is written for a plan; of a list that isn't a plan the verdict
 pub data WriteOutcome : Type 0 where
@@ -61,4 +62,4 @@ pub data WriteOutcome : Type 0 where
 abbrev pub sheet_outcome : Sheet.SheetAnswer → Checked WriteOutcome
 sheet_outcome (Sheet.TheVariants.Laid bytes) = passed (wrote bytes)
 sheet_outcome (Sheet.TheVariants.Said v) = passed (said (verdict_of v))
-sheet_outcome (Sheet.TheVariants.Refused r) = refused r.number r.place
+sheet_outcome (Sheet.TheVariants.Refused r) = refused (number_of r.reason) r.place

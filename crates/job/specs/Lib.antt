@@ -10,3 +10,4 @@ pub mod Store
 pub mod Stored
 pub mod Props
 pub mod StoredTask
+pub mod Refusal

@@ -18,6 +18,8 @@ use Rattle.job.specs.Store.{costs_from, store_size, job_of, stored_costs}
 use Rattle.job.specs.WellFormed.{WellFormed}
 use Rattle.job.specs.Stored.{Stored}
 use Rattle.job.specs.declared.head.Head.{Head}
+use Rattle.job.specs.Refusal.{number_of}
+use Rattle.job.specs.declared.refusal.Reason.TheVariants.{Size, Pick}
 use Rattle.job.specs.declared.refusal.Refusal.{Refusal}
 use Rattle.job.proofs.CostLaws.{house_within, costs_put, job_kept, costs_stored}
 use Rattle.reader.specs.Reading as S
@@ -55,7 +57,7 @@ module _ (text rows : List ℕ) where
       → Post (Loaded.Refused r)
   unfolding job_in
   load_refused {a} {q} {r} g f e = (
-    ap (λ (x : Refusal). refused x.number x.place) (f ∙ ap S.read_refusal g)
+    ap (λ (x : Refusal). refused (number_of x.reason) x.place) (f ∙ ap S.read_refusal g)
         ∙ ap compilable (ap (λ (x : Answer). outcome_of x rows) (sym g) ∙ e),
     tt,
   )
@@ -92,21 +94,21 @@ module _ {h : Head} {rows : List ℕ} (n : ℕ) (stored : Stored h rows) where
   abbrev Told : Loaded → Type 0
   Told answer = (job_as answer rows ≡ compilable (R.read n j)) × Measured answer rows
 
-  pub load_unscoped : program_scoped j ≡ false → Told (Loaded.Refused (record { number = 8; place = n }))
+  pub load_unscoped : program_scoped j ≡ false → Told (Loaded.Refused (record { reason = Pick; place = n }))
   load_unscoped v = (rw v refl, tt)
 
   module _ (v : program_scoped j ≡ true) (s : Sizes) (m : (s.positions ≡ capped (position_count j)) × (s.steps ≡ capped (step_count j))) where
     limited : (b : Bool) → fits j ≡ b → cond b (passed j) (refused 4 n) ≡ compilable (R.read n j)
     limited b f = rw (v, f) refl
 
-    pub load_positions : most_positions < s.positions → Told (Loaded.Refused (record { number = 4; place = n }))
+    pub load_positions : most_positions < s.positions → Told (Loaded.Refused (record { reason = Size; place = n }))
     load_positions k = (limited false (unfit_positions j (omega (arith, m.0))), tt)
 
     module _ (k : s.positions ≤ most_positions) where
       few : position_count j ≤ most_positions
       few = omega (arith, m.0, k)
 
-      pub load_steps : most_steps < s.steps → Told (Loaded.Refused (record { number = 4; place = n }))
+      pub load_steps : most_steps < s.steps → Told (Loaded.Refused (record { reason = Size; place = n }))
       load_steps l = (limited false (unfit_steps j few (omega (arith, m.1))), tt)
 
       pub load_ready : s.steps ≤ most_steps → {states : ℕ} → states ≡ (domain_in h rows).states

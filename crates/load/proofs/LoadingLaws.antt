@@ -8,6 +8,8 @@ use mathlib.Core.Logic.{◌↔◌}
 use lib.ListN.{take}
 use Rattle.job.specs.Task.{Task}
 use Rattle.job.specs.Store.{task_of}
+use Rattle.job.specs.Refusal.{number_of}
+use Rattle.job.specs.declared.refusal.Reason.TheVariants.{Room}
 use Rattle.job.specs.declared.refusal.Refusal.{Refusal}
 use Rattle.load.specs.Refusals.{Handed, Checked, passed, refused, next, task_in, Offer, plan_in, texts_in}
 use Rattle.load.specs.Refusals.{long_enough, list_need, table_need, loading}
@@ -77,8 +79,8 @@ module _ (h : Handed) (rows entries : List ℕ) where
   abbrev Post : Loaded → Type 0
   Post answer = Loads h answer rows entries
 
-  short : {r : Refusal} {need : ℕ} → r ≡ record { number = 6; place = need } → refused 6 need ≡ loading h → Post (Loaded.Refused r)
-  short f e = record { is = ap (λ (x : Refusal). refused x.number x.place) f ∙ e; fitting = tt }
+  short : {r : Refusal} {need : ℕ} → r ≡ record { reason = Room; place = need } → refused 6 need ≡ loading h → Post (Loaded.Refused r)
+  short f e = record { is = ap (λ (x : Refusal). refused (number_of x.reason) x.place) f ∙ e; fitting = tt }
 
   module _ (a : Loaded) (e : task_as a rows ≡ task_in h.request.given h.job h.costs) where
     pub task_refused : {q : Refusal} → a ≡ Loaded.Refused q → Post a
@@ -106,14 +108,14 @@ module _ (h : Handed) (rows entries : List ℕ) where
             need : places ≡ list_need o.task.job
             need = l ∙ ap (λ (n : ℕ). n * 4) fitting.0.steps
 
-            pub list_refused : h.request.places < places → {r : Refusal} → r ≡ record { number = 6; place = places } → Post (Loaded.Refused r)
+            pub list_refused : h.request.places < places → {r : Refusal} → r ≡ record { reason = Room; place = places } → Post (Loaded.Refused r)
             list_refused x f = short f (ap (λ (n : ℕ). refused 6 n) need ∙ list_short h texts (rw need at x))
 
             module _ (x : places ≤ h.request.places) {cells : ℕ} (t : cells ≡ cond h.request.table (offer.states * offer.sizes.positions) 0) where
               cell_need : cells ≡ table_need h.request o.task
               cell_need = rw (fitting.0.states, fitting.0.positions) at t
 
-              pub table_refused : h.request.cells < cells → {r : Refusal} → r ≡ record { number = 6; place = cells } → Post (Loaded.Refused r)
+              pub table_refused : h.request.cells < cells → {r : Refusal} → r ≡ record { reason = Room; place = cells } → Post (Loaded.Refused r)
               table_refused y f = short f (ap (λ (n : ℕ). refused 6 n) cell_need ∙ table_short h texts (rw need at x) (rw cell_need at y))
 
               pub all_ready : cells ≤ h.request.cells → Post (Loaded.Ready offer)

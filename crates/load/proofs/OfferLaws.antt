@@ -12,6 +12,7 @@ use Rattle.limits.specs.Limits.{most_entries}
 use Rattle.job.specs.Task.{Task}
 use Rattle.job.specs.Store.{job_of, task_of}
 use Rattle.job.specs.declared.head.Head.{Head}
+use Rattle.job.specs.declared.refusal.Reason.TheVariants.{Plan}
 use Rattle.domain.specs.Domain.{domain_in}
 use Rattle.compile.specs.CompiledJob.{step_count}
 use Rattle.lists.specs.CountedList.{ListOutcome}
@@ -56,7 +57,7 @@ module _ (r : Request) (plan rows entries : List ℕ) (job : LoadedJob) (m : Mea
     offers e = ap (offered t) (e ∙ ap (λ (b : ℕ). read_plan (key_for r.sort) b plan) (bound_of r.sort job.head rows d m.0.steps)) ∙ by_plan f
 
     pub offer_refused : {line : ℕ} → Err line ≡ read_plan (key_for r.sort) (count_for r.sort moves job.sizes.steps) plan
-        → Post (Loaded.Refused (record { number = 5; place = line }))
+        → Post (Loaded.Refused (record { reason = Plan; place = line }))
     offer_refused k = (offers k, tt)
 
     pub offer_ready : {n : ℕ} → Ok (take n entries) ≡ read_plan (key_for r.sort) (count_for r.sort moves job.sizes.steps) plan → n ≤ most_entries

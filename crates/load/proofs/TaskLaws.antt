@@ -14,6 +14,8 @@ use Rattle.job.specs.Task.{Task, house_costs, at_house_costs, class_cost, CostsW
 use Rattle.job.specs.Store.{costs_from, store_size, job_of, stored_costs}
 use Rattle.job.specs.WellFormed.{WellFormed}
 use Rattle.job.specs.Stored.{Stored}
+use Rattle.job.specs.Refusal.{number_of}
+use Rattle.job.specs.declared.refusal.Reason.TheVariants.{Costs}
 use Rattle.job.specs.declared.refusal.Refusal.{Refusal}
 use Rattle.job.proofs.CostLaws.{costs_put, job_kept, costs_stored}
 use Rattle.compile.specs.CompiledJob.{position_count, step_count, fits, program_scoped}
@@ -76,7 +78,7 @@ module _ (g : Given) (costs rows : List ℕ) (job : LoadedJob) (m : AtHouse (Loa
     reads : {o : ListOutcome} → o ≡ read_costs costs → with_costs j o ≡ costs_in g costs j
     reads k = ap (with_costs j) k ∙ costs_by_given g costs j f
 
-    pub costs_refused : {line : ℕ} → Err line ≡ read_costs costs → Post (Loaded.Refused (record { number = 7; place = line })) rows
+    pub costs_refused : {line : ℕ} → Err line ≡ read_costs costs → Post (Loaded.Refused (record { reason = Costs; place = line })) rows
     costs_refused k = (reads k, tt)
 
     module _ {read : List ℕ} (k : Ok read ≡ read_costs costs) {after : List ℕ} (put : after ≡ sets rows costs_from read) where

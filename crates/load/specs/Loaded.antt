@@ -5,6 +5,9 @@ use Rattle.job.specs.Job.{Job}
 use Rattle.job.specs.Task.{Task, house_costs}
 use Rattle.job.specs.Store.{job_of, stored_costs, task_of}
 use Rattle.job.specs.Stored.{Stored}
+use Rattle.job.specs.Refusal.{number_of}
+use Rattle.job.specs.declared.refusal.Reason.{Reason}
+use Rattle.job.specs.declared.refusal.Reason.TheVariants.{Form}
 use Rattle.job.specs.declared.refusal.Refusal.{Refusal}
 use Rattle.domain.specs.Domain.{domain_in}
 use Rattle.compile.specs.CompiledJob.{position_count, step_count, fits, program_scoped}
@@ -20,17 +23,17 @@ use Rattle.load.specs.declared.loaded.Loaded.TheVariants.{Ready, Refused}
 -- the task and the plan's entries that are stored, or the refusal's number and place
 abbrev pub loaded_as : Loaded → List ℕ → List ℕ → Checked Offer
 loaded_as (Ready a) rows entries = C.passed (record { task = task_of a.head rows; entries = take a.entries entries })
-loaded_as (Refused r) rows entries = C.refused r.number r.place
+loaded_as (Refused r) rows entries = C.refused (number_of r.reason) r.place
 
 -- the task without entries
 abbrev pub task_as : Loaded → List ℕ → Checked Task
 task_as (Ready a) rows = C.passed (task_of a.head rows)
-task_as (Refused r) rows = C.refused r.number r.place
+task_as (Refused r) rows = C.refused (number_of r.reason) r.place
 
 -- the job alone
 abbrev pub job_as : Loaded → List ℕ → Checked Job
 job_as (Ready a) rows = C.passed (job_of a.head rows)
-job_as (Refused r) rows = C.refused r.number r.place
+job_as (Refused r) rows = C.refused (number_of r.reason) r.place
 
 -- a stored task whose variables have their picks and whose compiled job is within the limits, and its
 -- sizes
@@ -73,5 +76,5 @@ count_for Steps moves steps = steps
 
 -- the refusal that an answer is
 abbrev pub load_refusal : Loaded → Refusal
-load_refusal (Ready a) = record { number = 0; place = 0 }
+load_refusal (Ready a) = record { reason = Form; place = 0 }
 load_refusal (Refused r) = r

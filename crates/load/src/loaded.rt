@@ -4,7 +4,7 @@ ghost use Rattle.load.specs.Loaded.{load_refusal};
 
 use compile::sizes::Sizes;
 use job::head::Head;
-use job::refusal::Refusal;
+use job::refusal::{Reason, Refusal};
 
 // A job that nothing refuses so far: its head, whose rows and class costs are then stored, the
 // sizes of its compiled job, how many states it has, and how many entries of its plan are then
@@ -23,13 +23,13 @@ pub enum Loaded {
     Refused(Refusal),
 }
 
-// The refusal that an answer is; number 0 where it is none.
+// The refusal that an answer is; at place 0 where it is none.
 pub fn refusal(a: Loaded) -> Refusal
     ensures { result ≡ load_refusal a }
 {
     match a {
         Loaded::Ready(_) => Refusal {
-            number: 0,
+            reason: Reason::Form,
             place: 0,
         },
         Loaded::Refused(r) => r,

@@ -11,7 +11,7 @@ ghost use Rattle.load.specs.Loaded.{loaded_as, Measured, Fitting, EntryRoom, cou
 use crate::loaded::{Loaded, LoadedJob};
 use crate::request::{Request, Sort};
 use arrayvec::ArrayVec;
-use job::refusal::Refusal;
+use job::refusal::{Reason, Refusal};
 use job::task::Task;
 use limits::ENTRIES;
 
@@ -57,7 +57,7 @@ pub fn load_plan(
             }
             Err(line) => {
                 return Loaded::Refused(Refusal {
-                    number: 5,
+                    reason: Reason::Plan,
                     place: line,
                 });
             }

@@ -2,14 +2,14 @@
 ghost use Rattle.std.specs.Prelude.{◌≡◌, cond, ◌*◌, take};
 
 use crate::loaded::LoadedJob;
-use job::refusal::Refusal;
+use job::refusal::{Reason, Refusal};
 
 // The refusal of a list, a table or an output that is shorter than it has to be.
 pub fn too_short(need: usize) -> Refusal
-    ensures { result ≡ record { number = 6; place = need } }
+    ensures { result ≡ record { reason = Reason.Room; place = need } }
 {
     Refusal {
-        number: 6,
+        reason: Reason::Room,
         place: need,
     }
 }

@@ -9,7 +9,7 @@ ghost use Rattle.load.specs.Loaded.{job_as, task_as, AtHouse, Measured};
 use crate::loaded::{Loaded, LoadedJob};
 use crate::request::Given;
 use job::head::Head;
-use job::refusal::Refusal;
+use job::refusal::{Reason, Refusal};
 use job::task::Task;
 use limits::{POSITIONS, STEPS};
 use reader::reading::Answer;
@@ -22,13 +22,13 @@ fn load_read(head: Head, rows: &[u16], lines: usize) -> Loaded
     let task = Task { head, rows };
     if !compile::scope::program_scoped(&task) {
         return Loaded::Refused(Refusal {
-            number: 8,
+            reason: Reason::Pick,
             place: lines,
         });
     }
     let sizes = compile::sizes::measure(&task);
     let large = Refusal {
-        number: 4,
+        reason: Reason::Size,
         place: lines,
     };
     if POSITIONS < (sizes.positions as usize) {
@@ -70,7 +70,7 @@ fn load_costs(given: Given, costs: &[u8], job: LoadedJob, rows: &mut [u16]) -> L
             Ok(read) => job::costs::put_costs(rows, read),
             Err(line) => {
                 return Loaded::Refused(Refusal {
-                    number: 7,
+                    reason: Reason::Costs,
                     place: line,
                 });
             }

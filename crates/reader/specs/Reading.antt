@@ -1,10 +1,12 @@
 -- What the reader's states and answers stand for.
 use Rattle.std.specs.Prelude.{ℕ, ◌+◌, List}
 use Rattle.job.specs.Job.{Scalars, scalars, counts}
+use Rattle.job.specs.Refusal.{number_of}
 use Rattle.job.specs.ReadJob.{Reading, on, scalars_after, Outcome, read, refused}
 use Rattle.job.specs.Store.{moves_from, effects_from, program_from, job_of}
 use Rattle.job.specs.declared.head.Counts.{Counts}
 use Rattle.job.specs.declared.head.Head.{Head}
+use Rattle.job.specs.declared.refusal.Reason.TheVariants.{Form}
 use Rattle.job.specs.declared.refusal.Refusal.{Refusal}
 use Rattle.job.specs.declared.line.Heading.{Heading}
 use Rattle.job.specs.declared.line.RowSort.{RowSort}
@@ -43,9 +45,9 @@ reading_of s l = on s.next s.due s.effects (job_of s.head l)
 -- document 01's number and values for each case of the answer, with the rows as they are stored
 abbrev pub outcome_of : Answer → List ℕ → Outcome
 outcome_of (Read n h) l = read n (job_of h l)
-outcome_of (Refused r) l = refused r.number r.place
+outcome_of (Refused r) l = refused (number_of r.reason) r.place
 
 -- the refusal that an answer is
 abbrev pub read_refusal : Answer → Refusal
-read_refusal (Read n h) = record { number = 0; place = 0 }
+read_refusal (Read n h) = record { reason = Form; place = 0 }
 read_refusal (Refused r) = r

@@ -1,14 +1,15 @@
 // Reading a job text, line by line.
-ghost use Rattle.std.specs.Prelude.{◌≡◌, List, ℕ, ◌^◌, ◌<◌, length};
+ghost use Rattle.std.specs.Prelude.{◌≡◌, List, ℕ, ◌^◌, ◌<◌, ◌≤◌, length};
 ghost use Rattle.job.specs.ReadJob.{begun, ended, read_job};
 ghost use Rattle.job.specs.ReadJob.{is_end as at_end};
+ghost use Rattle.job.specs.Refusal.{number_of};
 ghost use Rattle.job.specs.Store.{store_size};
 ghost use Rattle.reader.specs.Reading.{reading_of, outcome_of, read_refusal};
 
 use crate::taking::ReaderState;
 use job::head::{Counts, Head};
 use job::line::{Heading, Line};
-use job::refusal::Refusal;
+use job::refusal::{Reason, Refusal};
 
 // The number of lines and the head of the job, whose rows are then stored; or the refusal.
 #[derive(Clone, Copy)]
@@ -17,23 +18,37 @@ pub enum Answer {
     Refused(Refusal),
 }
 
-fn refused(number: u8, place: usize) -> Answer
-    ensures { result ≡ Answer.Refused (record { number = number; place = place }) }
+fn refused(reason: Reason, place: usize) -> Answer
+    ensures { result ≡ Answer.Refused (record { reason = reason; place = place }) }
 {
     let r = Refusal {
-        number: number,
+        reason: reason,
         place: place,
     };
     Answer::Refused(r)
 }
 
-// The refusal that an answer is; number 0 where it is none.
+// The reason that refuses a line, by its number.
+fn line_reason(number: u8) -> Reason
+    requires { (1 ≤ number) × (number ≤ 3) }
+    ensures { number_of result ≡ number }
+{
+    if number == 1 {
+        return Reason::Form;
+    }
+    if number == 2 {
+        return Reason::Range;
+    }
+    Reason::Reference
+}
+
+// The refusal that an answer is; at place 0 where it is none.
 pub fn refusal(a: Answer) -> Refusal
     ensures { result ≡ read_refusal a }
 {
     match a {
         Answer::Read(_, _) => Refusal {
-            number: 0,
+            reason: Reason::Form,
             place: 0,
         },
         Answer::Refused(r) => r,
@@ -84,7 +99,7 @@ fn finish(s: ReaderState, n: usize) -> Answer
     if is_end(next) {
         return Answer::Read(n, h);
     }
-    refused(1, n + 1)
+    refused(Reason::Form, n + 1)
 }
 
 // Reads a text as a job, whose rows are stored.
@@ -104,7 +119,7 @@ pub fn read_job(text: &[u8], rows: &mut [u16]) -> Answer
         n += 1;
         let reason = job::fault::reason(next, numbers, counts);
         if reason != 0 {
-            return refused(reason, n);
+            return refused(line_reason(reason), n);
         }
         s = crate::taking::take_line(s, numbers, rows);
         at = e;

@@ -10,6 +10,7 @@ use lib.Seq.{drop-cons, sets}
 use Rattle.laws.proofs.Lists.{sets_append}
 use Rattle.text.specs.Bytes.{bytes}
 use Rattle.text.specs.Written.{decimal, written}
+use Rattle.job.specs.Refusal.{number_of}
 use Rattle.job.specs.declared.refusal.Refusal.{Refusal}
 use Rattle.report.specs.Put.{Put}
 use Rattle.report.specs.Printout.{step_line, step_lines, refused_line}
@@ -21,7 +22,7 @@ unfolding bytes written
 step_text k f t a = simp append_assoc
 
 -- as the code writes it
-pub refused_text : (r : Refusal) → bytes "refused=" ++ decimal r.number ++ (bytes "," ++ written (r.place ∷ [])) ≡ refused_line r.number r.place
+pub refused_text : (r : Refusal) → bytes "refused=" ++ decimal (number_of r.reason) ++ (bytes "," ++ written (r.place ∷ [])) ≡ refused_line (number_of r.reason) r.place
 unfolding bytes written
 refused_text r = simp append_assoc
 

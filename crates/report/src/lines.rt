@@ -5,6 +5,7 @@ ghost use Rattle.text.specs.Written.{decimal, written};
 ghost use Rattle.report.specs.Put.{Put};
 ghost use Rattle.semantics.specs.Verdict.{plan};
 ghost use Rattle.validate.specs.Verdict.{verdict_of};
+ghost use Rattle.job.specs.Refusal.{number_of};
 ghost use Rattle.report.specs.Printout.{step_line, step_lines, refused_line, verdict_lines};
 
 use crate::put;
@@ -58,10 +59,10 @@ pub(crate) fn steps(out: &mut [u8], at: usize, list: &[u16]) -> usize
 
 pub(crate) fn refusal(out: &mut [u8], at: usize, r: Refusal) -> usize
     requires { at + 64 ≤ length out.old }
-    ensures { Put 64 (refused_line r.number r.place) out.old at out.new result }
+    ensures { Put 64 (refused_line (number_of r.reason) r.place) out.old at out.new result }
 {
     let a = put::text(out, at, b"refused=");
-    let b = put::number(out, a, r.number as u64);
+    let b = put::number(out, a, u64::from(u8::from(r.reason)));
     line(out, b, b",", r.place as u64)
 }
 

@@ -4,8 +4,12 @@
 use Prim.Native.Nat.{ℕ}
 use mathlib.Core.Path.{◌≡◌, refl, sym, ◌∙◌, ap, subst}
 use Rattle.std.specs.Prelude.{Option, Some}
-use mathlib.Core.List.{List}
+use mathlib.Core.List.{List, [], ◌∷◌}
+use lib.ListN.{get_or}
 use Rattle.laws.proofs.Tests.{never}
+use Rattle.job.specs.Refusal.{number_of}
+use Rattle.job.specs.declared.refusal.Reason.{Reason}
+use Rattle.job.specs.declared.refusal.Reason.TheVariants.{Form, Range, Reference, Size, Plan, Room, Costs, Pick}
 use Rattle.job.specs.declared.refusal.Refusal.{Refusal}
 use Rattle.semantics.specs.Verdict.{Verdict}
 use Rattle.semantics.specs.Judgement as J
@@ -71,9 +75,27 @@ one_judged v g h x y p q =
       lent_same (p.list ∙ sym q.list) (one_table_for v g.judgement _ _ _ p.found.table (rw (← e) at q.found.table)),
     )
 
+-- a number has one reason
+reason_of : ℕ → Reason
+reason_of n = get_or (Form ∷ Form ∷ Range ∷ Reference ∷ Size ∷ Plan ∷ Room ∷ Costs ∷ Pick ∷ []) n Form
+
+reason_numbered : (r : Reason) → reason_of (number_of r) ≡ r
+unfolding reason_of
+reason_numbered Form = refl
+reason_numbered Range = refl
+reason_numbered Reference = refl
+reason_numbered Size = refl
+reason_numbered Plan = refl
+reason_numbered Room = refl
+reason_numbered Costs = refl
+reason_numbered Pick = refl
+
+reason_same : (r q : Reason) → number_of r ≡ number_of q → r ≡ q
+reason_same r q e = sym (reason_numbered r) ∙ ap reason_of e ∙ reason_numbered q
+
 -- one answer has an outcome
-pub refusal_same : {B : Type 0} (r q : Refusal) → ◌≡◌ {A = Checked B} (refused r.number r.place) (refused q.number q.place) → r ≡ q
-refusal_same r q e = let f : r.number ≡ q.number = cc in let g : r.place ≡ q.place = cc in rw (f, g)
+pub refusal_same : {B : Type 0} (r q : Refusal) → ◌≡◌ {A = Checked B} (refused (number_of r.reason) r.place) (refused (number_of q.reason) q.place) → r ≡ q
+refusal_same r q e = let f : r.reason ≡ q.reason = reason_same r.reason q.reason (cc) in let g : r.place ≡ q.place = cc in rw (f, g)
 
 read_injective : (a b : R.ReadAnswer) → read_outcome a ≡ read_outcome b → a ≡ b
 read_injective (R.TheVariants.Read c) (R.TheVariants.Read d) e = ap R.TheVariants.Read (cc)

@@ -4,22 +4,18 @@ use Prim.Native.Nat.{ℕ, ◌+◌, ◌≤◌}
 use mathlib.Core.Path.{◌≡◌, refl, subst}
 use mathlib.Core.Bool.{true, cond}
 use mathlib.Core.List.{List, [], ◌∷◌}
-use Rattle.std.specs.Prelude.{Ok, Err, Option, None, Some}
+use Rattle.std.specs.Prelude.{Ok, Err}
 use native.Mathlib.Omega.{arith}
 use lib.Dec.{eqb, leb}
-use lib.ListN.{get_or}
 use borrow.Author.Tests.{eqb-false}
 use Rattle.laws.proofs.Tests.{never, cond_has}
 use Rattle.job.specs.Job.{Job, counts_of}
 use Rattle.job.specs.Task.{Task, at_house_costs}
 use Rattle.job.specs.Line.{line_numbers}
-use Rattle.job.specs.Fault.{range_of, is_in, criteria, reason_of, fault}
+use Rattle.job.specs.Fault.{fault}
 use Rattle.job.specs.ReadJob as R
 use Rattle.job.specs.ReadJob.{Reading, Outcome, is_end, ended, read_from, begun, read_job}
-use Rattle.job.specs.declared.head.Counts.{Counts}
-use Rattle.job.specs.declared.line.Line.{Line}
-use Rattle.job.specs.declared.line.Line.TheVariants.{One, Of, End}
-use Rattle.job.proofs.FaultLaws.{range_reason}
+use Rattle.job.proofs.FaultLaws.{fault_small}
 use Rattle.text.specs.Lines.{lines}
 use Rattle.lists.specs.CountedList.{ListOutcome}
 use Rattle.lists.specs.CostsText.{read_costs}
@@ -38,18 +34,6 @@ RefusedBy P c = (number place : ℕ) → c ≡ refused number place → P number
 -- reasons 1, 2 and 3
 abbrev Ranged : Outcome → Type 0
 Ranged o = (number place : ℕ) → o ≡ R.refused number place → UpTo 3 number
-
-reason_small : (next : Line) (c : Counts) (r : List ℕ) → reason_of next c r ≤ 3
-reason_small (One h) c r = cond_has (λ n. n ≤ 3) (is_in (range_of h c) (get_or r 0 0)) 0 _ (λ e. omega arith) (λ e. (range_reason h c).1)
-reason_small (Of k) c r =
-    cond_has (λ n. n ≤ 3) (criteria k c r).range _ 2 (λ f. cond_has (λ n. n ≤ 3) (criteria k c r).fields 0 3 (λ g. omega arith) (λ g. omega arith))
-    (λ f. omega arith)
-reason_small End c r = omega arith
-
-fault_small : (next : Line) (c : Counts) (o : Option (List ℕ)) → fault next c o ≤ 3
-unfolding fault
-fault_small next c None = omega arith
-fault_small next c (Some r) = reason_small next c r
 
 reading_refuses : (n : ℕ) (s : Reading) (ls : List (List ℕ)) → Ranged (read_from n s ls)
 unfolding read_from ended

@@ -1,4 +1,5 @@
 use mathlib.Core.Path.{sym, ◌∙◌, ap}
+use Rattle.job.specs.Refusal.{number_of}
 use Rattle.job.proofs.StoreLaws.{counts_of_lem}
 use Rattle.reader.specs.Reading.{outcome_of, read_refusal}
 use Rattle.load.specs.Refusals.{passed, refused}
@@ -9,7 +10,7 @@ pub returns-in_default : goal.returns-in_default
 returns-in_default c =
     let g = c.in_default.is in
     let t = c.read_job-answer.new.rows in
-    ap (λ r. refused r.number r.place) (c.refusal-r.ensures ∙ ap read_refusal g) ∙ sym (ap (λ a. counts_in (outcome_of a t)) g)
+    ap (λ r. refused (number_of r.reason) r.place) (c.refusal-r.ensures ∙ ap read_refusal g) ∙ sym (ap (λ a. counts_in (outcome_of a t)) g)
     ∙ ap counts_in c.read_job-answer.ensures
 
 pub returns : goal.returns

@@ -4,6 +4,8 @@ use native.Mathlib.Omega.{arith}
 use lib.ListN.{drop}
 use Rattle.text.specs.Lines.{lines}
 use Rattle.text.proofs.LineLaws.{line_within}
+use Rattle.job.specs.Store.{numbers_of}
+use Rattle.job.proofs.FaultLaws.{fault_small}
 use Rattle.job.specs.ReadJob.{refused, read_from, read_job}
 use Rattle.reader.specs.Reading.{reading_of, outcome_of}
 use Rattle.reader.proofs.FormedLaws.{FormedSoFar, taken_formed, begun_formed}
@@ -41,13 +43,20 @@ pub shape_of-rows-then-reason-ne0 : goal.shape_of-rows-then-reason-ne0
 shape_of-rows-then-reason-ne0 c =
     omega (arith, c.loop-at.invariant.2, c.requires)
 
+pub line_reason-requires : goal.line_reason-requires
+line_reason-requires c =
+    let e = fault_small c.loop-at.s.next c.loop-at.s.head.counts (numbers_of c.loop-at.s.next c.read_line-numbers.result) in
+    let g = c.reason-reason.ensures in
+    let z = c.if-reason-ne0.true in
+    (omega arith, omega (arith, g, e))
+
 pub returns-then-reason-ne0 : goal.returns-then-reason-ne0
 returns-then-reason-ne0 c =
     let l = c.loop-at in
     let t = c.args.text.now in
     let e = reason_of_lem l.s l.rows _ c.read_line-numbers.result c.read_line-numbers.ensures in
     let g = c.reason-reason.ensures ∙ e in
-    ap (λ a. outcome_of a l.rows) c.refused.ensures ∙ ap (λ k. refused k (l.n + 1)) g
+    ap (λ a. outcome_of a l.rows) c.refused.ensures ∙ ap (λ k. refused k (l.n + 1)) (c.line_reason.ensures ∙ g)
     ∙ sym (read_refused t l.at _ l.n (reading_of l.s l.rows) c.loop-at-test.true
     c.line_end-e.ensures l.invariant.4 (λ z. c.if-reason-ne0.true (g ∙ z)))
 
