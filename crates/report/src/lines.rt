@@ -62,7 +62,8 @@ pub(crate) fn refusal(out: &mut [u8], at: usize, r: Refusal) -> usize
     ensures { Put 64 (refused_line (number_of r.reason) r.place) out.old at out.new result }
 {
     let a = put::text(out, at, b"refused=");
-    let b = put::number(out, a, u64::from(u8::from(r.reason)));
+    let number = u8::from(r.reason);
+    let b = put::number(out, a, number as u64);
     line(out, b, b",", r.place as u64)
 }
 

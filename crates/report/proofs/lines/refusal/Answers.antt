@@ -7,5 +7,5 @@ use Rattle.report.proofs.lines.refusal.Goals as goal
 pub returns : goal.returns
 unfolding bytes
 returns c =
-    put_as 64 (refused_text c.args.r) (omega arith)
+    put_as 64 (refused_text c.args.r c.from-number.ensures) (omega arith)
     (put_append (put_append c.text-a.ensures c.number-b.ensures) c.line.ensures)
