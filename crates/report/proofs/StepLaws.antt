@@ -24,7 +24,7 @@ step_text k f t a = simp append_assoc
 -- as the code writes it
 pub refused_text : (r : Refusal) {n : ℕ} → n ≡ number_of r.reason → bytes "refused=" ++ decimal n ++ (bytes "," ++ written (r.place ∷ [])) ≡ refused_line (number_of r.reason) r.place
 unfolding bytes written
-refused_text r e = rw e (simp append_assoc)
+refused_text r e = ap (λ (m : ℕ). bytes "refused=" ++ decimal m ++ (bytes "," ++ written (r.place ∷ []))) e ∙ simp append_assoc
 
 few : (l : List ℕ) → length l < 4 → step_lines l ≡ []
 unfolding step_lines
