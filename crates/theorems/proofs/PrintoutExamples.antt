@@ -6,6 +6,7 @@ use mathlib.Core.List.{List, [], ◌∷◌}
 use Rattle.text.specs.Bytes.{bytes}
 use Rattle.text.specs.Written.{digits_within, written}
 use Rattle.job.specs.declared.head.Counts.{Counts}
+use Rattle.job.specs.declared.refusal.Reason.TheVariants.{Room}
 use Rattle.validate.specs.declared.verdict.Verdict.TheVariants.{Plan, Blocked, Unfinished, Missed}
 use Rattle.jesmovit.specs.declared.judging.Judgement.TheVariants.{Least, Dearer, Other}
 use Rattle.jesmovit.specs.declared.judging.JudgeAnswer.TheVariants.{Judged, Refused}
@@ -44,7 +45,7 @@ unfolding bytes digits_within written step_lines sample_list
 judged_missed = refl
 
 -- "A refusal prints only `refused=number,place`."
-judged_refused : judge_printout (Refused (record { number = 6; place = 12 })) sample_list ≡ bytes "refused=6,12\n"
+judged_refused : judge_printout (Refused (record { reason = Room; place = 12 })) sample_list ≡ bytes "refused=6,12\n"
 unfolding bytes digits_within written
 judged_refused = refl
 
