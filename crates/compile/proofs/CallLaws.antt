@@ -162,7 +162,8 @@ pub record Copied (c : Counts) (σ : Program) (env old : List ℕ) (from : Curso
   pub kept : env₂ ≡ env
 
 -- the calls of a pick whose body is row a
-module _ {h : Head} {l : List ℕ} {a t places : ℕ} {from : Cursor} {env : List ℕ} (stored : Stored h l) (p : (2 * a + 1 ≡ t) × PickFit h l a from env places) where
+module _ {h : Head} {l : List ℕ} {a t places : ℕ} {from : Cursor} {env : List ℕ} (stored : Stored h l)
+    (p : (2 * a + 1 ≡ t) × PickFit h l a from env places) where
   pub pick_next : from.position < 65535
   pick_next = omega (arith, p.1.1.positions)
 

@@ -63,7 +63,8 @@ module _ (h : Head) (l : List ℕ) where
     pub measured : {s r : Sizes} → s ≡ fold (capped_algebra c) (program_of j) → r ≡ capped_sizes (sized (s.positions + 1) s.steps)
         → (r.positions ≡ capped (position_count j)) × (r.steps ≡ capped (step_count j))
     measured {s} {r} e f =
-        let k : s ≡ capped_sizes (sizes_of c (row_program j.program last)) = e ∙ fold_capped c (program_of j) ∙ ap (λ (σ : Program). capped_sizes (sizes_of c σ)) (last_row h l) in
+        let k : s ≡ capped_sizes (sizes_of c (row_program j.program last)) =
+        e ∙ fold_capped c (program_of j) ∙ ap (λ (σ : Program). capped_sizes (sizes_of c σ)) (last_row h l) in
         rw (f, k) (omega (arith, final_is), omega (arith, step_count_lem))
 
     abbrev start : Cursor

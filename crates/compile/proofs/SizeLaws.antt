@@ -131,7 +131,8 @@ module _ (c : Counts) where
       (λ g a b u v. rw (fold_branch _ g a b) (branch_sized u v g)) (λ g a u. rw (fold_loop _ g a) (loop_sized u g)) (λ a u. pick_sized u)
 
   -- sums of capped sizes, capped, are capped sums
-  capped_parts : (x y x₁ y₁ : Sizes) (p q : ℕ) → x₁ ≡ capped_sizes x → y₁ ≡ capped_sizes y → capped_sizes (sizes_sum x₁ y₁ p q) ≡ capped_sizes (sizes_sum x y p q)
+  capped_parts : (x y x₁ y₁ : Sizes) (p q : ℕ) → x₁ ≡ capped_sizes x → y₁ ≡ capped_sizes y
+      → capped_sizes (sizes_sum x₁ y₁ p q) ≡ capped_sizes (sizes_sum x y p q)
   capped_parts x y x₁ y₁ p q e f =
       let g : capped (capped x.positions + capped y.positions + p) ≡ capped (x.positions + y.positions + p) = omega arith in
       let h : capped (capped x.steps + capped y.steps + q) ≡ capped (x.steps + y.steps + q) = omega arith in

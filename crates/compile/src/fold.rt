@@ -49,7 +49,8 @@ fn row_value<S: Shapes>(shapes: &S, construct: Construct, values: &[S::Value]) -
     }
 }
 
-// What the last row gives, which is the program; the list is lent for what each row gives.
+// What the last row gives, which is the program. The list for what each row gives is lent: that an array
+// of any type's values fits in memory isn't known here.
 pub(crate) fn fold_program<S: Shapes>(shapes: &S, task: &Task, values: &mut [S::Value]) -> S::Value
     requires { task.now.head.counts.program ≤ length values.old }
     ensures { result ≡ fold (S.algebra shapes.now) (program_of (stored_job task.now)) }

@@ -21,11 +21,6 @@ pub struct Sizes {
     pub steps: u16,
 }
 
-const NOTHING: Sizes = Sizes {
-    positions: 0,
-    steps: 0,
-};
-
 fn capped(positions: usize, steps: usize) -> Sizes
     ensures { result ≡ capped_sizes (sized positions steps) }
 {
@@ -57,11 +52,11 @@ impl Shapes for CappedSizes {
     ghost algebra = { λ shapes. capped_algebra shapes.counts };
 
     fn leaf(&self, _simple: Simple) -> Sizes {
-        capped_sum(NOTHING, NOTHING, 1, 1)
+        capped_sum(Sizes::default(), Sizes::default(), 1, 1)
     }
 
     fn any(&self) -> Sizes {
-        capped_sum(NOTHING, NOTHING, 1, self.counts.moves)
+        capped_sum(Sizes::default(), Sizes::default(), 1, self.counts.moves)
     }
 
     fn seq(&self, x: Sizes, y: Sizes) -> Sizes {
@@ -73,7 +68,7 @@ impl Shapes for CappedSizes {
     }
 
     fn repeat(&self, _guard: Guard, x: Sizes) -> Sizes {
-        capped_sum(x, NOTHING, 2, 3)
+        capped_sum(x, Sizes::default(), 2, 3)
     }
 
     // A copy for each object, with the steps to and from it.
@@ -94,7 +89,7 @@ pub fn measure(task: &Task) -> Sizes
     let shapes = CappedSizes {
         counts: task.head.counts,
     };
-    let mut sizes = [NOTHING; PROGRAM_ROWS];
+    let mut sizes = [Sizes::default(); PROGRAM_ROWS];
     let added = fold_program(&shapes, task, &mut sizes);
     capped(usize::from(added.positions) + 1, usize::from(added.steps))
 }

@@ -9,7 +9,8 @@ use crate::label::Label;
 #[derive(Clone, Copy)]
 pub struct Step(pub Label, pub u16, pub u16);
 
-// From which position the next part is compiled, and where in the list its steps begin.
+// From which position the next part is compiled, and where in the list its steps begin. The list stays
+// beside it: a struct that holds a lent list has to promise in each method that it holds the same one.
 #[derive(Clone, Copy)]
 pub struct Cursor {
     pub position: u16,

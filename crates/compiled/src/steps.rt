@@ -43,7 +43,7 @@ pub fn step_at(list: &[u16], k: usize) -> OutStep
     ensures { IsStep list.now k result }
 {
     OutStep {
-        label: Label::of(list[k * 4], list[k * 4 + 3]),
+        label: Label::from((list[k * 4], list[k * 4 + 3])),
         to: list[k * 4 + 2],
     }
 }

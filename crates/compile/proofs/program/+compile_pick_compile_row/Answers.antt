@@ -18,16 +18,19 @@ compile_pick-enter-requires t c =
 
 pub compile_pick-compile_row-x-requires : goal.compile_pick-compile_row-x-requires
 compile_pick-compile_row-x-requires t c =
-    copy_first c.args.task.now.stored (c.decreases, (c.requires.bounds, c.requires.enough)) c.loop-o.invariant c.loop-o-test.true c.enter.ensures refl
+    copy_first c.args.task.now.stored (c.decreases, (c.requires.bounds, c.requires.enough)) c.loop-o.invariant
+    c.loop-o-test.true c.enter.ensures refl
 
 pub compile_pick-next-next-requires : goal.compile_pick-next-next-requires
 compile_pick-next-next-requires t c =
-    next_copy c.args.task.now.stored (c.decreases, (c.requires.bounds, c.requires.enough)) c.loop-o.invariant c.loop-o-test.true c.enter.ensures c.compile_row-x.ensures refl
+    next_copy c.args.task.now.stored (c.decreases, (c.requires.bounds, c.requires.enough)) c.loop-o.invariant
+    c.loop-o-test.true c.enter.ensures c.compile_row-x.ensures refl
 
 pub compile_pick-loop-o-preserved : goal.compile_pick-loop-o-preserved
 compile_pick-loop-o-preserved t c =
     rw c.next-next.ensures
-    (one_copied c.args.task.now.stored (c.decreases, (c.requires.bounds, c.requires.enough)) c.loop-o.invariant c.loop-o-test.true c.enter.ensures c.compile_row-x.ensures c.leave.ensures c.compile_row-x.auto.list)
+    (one_copied c.args.task.now.stored (c.decreases, (c.requires.bounds, c.requires.enough)) c.loop-o.invariant c.loop-o-test.true
+    c.enter.ensures c.compile_row-x.ensures c.leave.ensures c.compile_row-x.auto.list)
 
 pub compile_pick-overflow_sub-apart : goal.compile_pick-overflow_sub-apart
 compile_pick-overflow_sub-apart t c =
@@ -59,10 +62,13 @@ pub compile_row-compile_row-x-requires : goal.compile_row-compile_row-x-requires
 compile_row-compile_row-x-requires t c = seq_first c.args.task.now.stored (c.decreases, (c.requires.bounds, c.requires.enough)) c.in-Seq.ensures
 
 pub compile_row-compile_row-requires : goal.compile_row-compile_row-requires
-compile_row-compile_row-requires t c = seq_second c.args.task.now.stored (c.decreases, (c.requires.bounds, c.requires.enough)) c.in-Seq.ensures c.compile_row-x.auto.list c.compile_row-x.ensures
+compile_row-compile_row-requires t c =
+    seq_second c.args.task.now.stored (c.decreases, (c.requires.bounds, c.requires.enough)) c.in-Seq.ensures
+    c.compile_row-x.auto.list c.compile_row-x.ensures
 
 pub compile_row-compile_row-x-requires-in-Branch : goal.compile_row-compile_row-x-requires-in-Branch
-compile_row-compile_row-x-requires-in-Branch t c = rw c.next.ensures (branch_first c.args.task.now.stored (c.decreases, (c.requires.bounds, c.requires.enough)) c.in-Branch.ensures)
+compile_row-compile_row-x-requires-in-Branch t c =
+    rw c.next.ensures (branch_first c.args.task.now.stored (c.decreases, (c.requires.bounds, c.requires.enough)) c.in-Branch.ensures)
 
 pub compile_row-next-requires-in-Branch : goal.compile_row-next-requires-in-Branch
 compile_row-next-requires-in-Branch t c =
@@ -72,7 +78,8 @@ compile_row-next-requires-in-Branch t c =
 pub compile_row-compile_row-y-requires : goal.compile_row-compile_row-y-requires
 compile_row-compile_row-y-requires t c =
     let x = rw c.next.ensures at c.compile_row-x-in-Branch.ensures in
-    rw c.next-in-Branch.ensures (branch_second c.args.task.now.stored (c.decreases, (c.requires.bounds, c.requires.enough)) c.in-Branch.ensures x c.compile_row-x-in-Branch.auto.list)
+    rw c.next-in-Branch.ensures
+    (branch_second c.args.task.now.stored (c.decreases, (c.requires.bounds, c.requires.enough)) c.in-Branch.ensures x c.compile_row-x-in-Branch.auto.list)
 
 pub compile_row-branch_steps-requires : goal.compile_row-branch_steps-requires
 compile_row-branch_steps-requires t c =
@@ -96,7 +103,8 @@ compile_row-compile_pick-requires t c = pick_first c.args.task.now.stored (c.dec
 pub compile_row-returns-in-Leaf : goal.compile_row-returns-in-Leaf
 compile_row-returns-in-Leaf t c =
     let s = c.in-Leaf.ensures in
-    record { steps = wrote_leaf s (leaf_object c.args.task.now.stored (c.decreases, (c.requires.bounds, c.requires.enough)) s) c.leaf_step.ensures; kept = refl }
+    let object = leaf_object c.args.task.now.stored (c.decreases, (c.requires.bounds, c.requires.enough)) s in
+    record { steps = wrote_leaf s object c.leaf_step.ensures; kept = refl }
 
 pub compile_row-returns-in-Any : goal.compile_row-returns-in-Any
 compile_row-returns-in-Any t c = record { steps = wrote_any c.in-Any.ensures c.any_steps.ensures; kept = refl }
