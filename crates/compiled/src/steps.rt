@@ -17,6 +17,7 @@ pub struct OutStep {
 
 impl OutStep {
     // Whether it can be made silently.
+    #[tactic(auto, unfolding(semantics::specs::PositionSets::silent_in))]
     pub fn is_silent(&self, world: &World) -> bool
         ensures { result ≡ silent_in (domain_at world.now.task) world.now.state (label_of self.now) }
     {
