@@ -164,9 +164,6 @@ pub record Copied (c : Counts) (σ : Program) (env old : List ℕ) (from : Curso
 -- the calls of a pick whose body is row a
 module _ {h : Head} {l : List ℕ} {a t places : ℕ} {from : Cursor} {env : List ℕ} (stored : Stored h l)
     (p : (2 * a + 1 ≡ t) × PickFit h l a from env places) where
-  pub pick_next : from.position < 65535
-  pick_next = omega (arith, p.1.1.positions)
-
   module _ {old list env₂ : List ℕ} {last : Cursor} {o : ℕ} (k : Copied h.counts (of h l a) env old from o list last env₂) (g : o < h.counts.objects) where
     pub enter_ok : (length env₂ < most_program) × (o < most_objects)
     enter_ok = (rw k.kept (omega (arith, p.1.0.1)), omega (arith, g, (limited stored).objects))
