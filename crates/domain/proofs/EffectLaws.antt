@@ -1,46 +1,31 @@
 -- Effects of a move: one more, the same by values that tell the same, and what the sets of facts that
 -- get 0 and 1 say of a conflict and of the state after.
 -- Assumes nothing.
-use Prim.Native.Nat.{ℕ, ◌+◌, ◌^◌, ◌<◌}
+use Prim.Native.Nat.{ℕ, ◌+◌, ◌^◌, ◌≤◌, ◌<◌}
 use mathlib.Core.Path.{◌≡◌, refl, sym, ◌∙◌, ap, ap₂}
-use mathlib.Core.Bool.{Bool, true, false, cond, ◌&&◌, ◌||◌, xor, or_assoc, or-true, or-false}
-use mathlib.Core.List.{List, [], ◌∷◌, ◌++◌}
+use mathlib.Core.Bool.{Bool, true, false, cond, not, ◌&&◌, ◌||◌, or-true}
+use mathlib.Core.List.{List, [], ◌∷◌}
 use native.Mathlib.Omega.{arith}
-use native.Mathlib.Numerals.{add-one}
 use lib.Dec.{eqb}
 use lib.ListN.{length, get_or, take, drop, length-drop}
-use lib.Seq.{take-suc, get_or-drop}
+use lib.Seq.{get_or-drop}
 use lib.Pow.{pow_pos}
-use lib.Bits.{bit_and, bit_or, bit_xor, and_le_l, or_lt, xor_lt}
+use lib.Bits.{bit_and, bit_or, and_le_l, or_lt}
+use Rattle.std.specs.Int.{w16, bit_not}
+use Rattle.limits.specs.Limits.{most_facts, most_states}
 use borrow.Author.Tests.{eqb-true}
 use Rattle.laws.proofs.Tests.{never, and_left, and_right, and_both, or_either, tests_equal}
 use Rattle.job.specs.Job.{Effect, effect_of}
 use Rattle.domain.specs.State.{fact, HasFacts}
-use Rattle.domain.specs.Effects.{any_of, gives, gets, conflicts, fact_after, affected, ChangesAre}
-use Rattle.domain.proofs.FactLaws.{fact_and, fact_or, fact_xor, no_fact, worth_below, worth_fact}
+use Rattle.std.specs.List.{list_any}
+use Rattle.std.proofs.lemmas.List.Folds.{list_any_more, list_any_none}
+use Rattle.domain.specs.Effects.{gives, gets, conflicts, fact_after, affected, ChangesAre}
+use Rattle.domain.proofs.FactLaws.{count_within, fact_and, fact_or, fact_without, no_fact, worth_below, worth_fact}
 use Rattle.domain.proofs.StateLaws.{state_only, state_same, facts_decide}
-use Rattle.domain.proofs.ValueLaws.{Same}
 
-module _ {A : Type 0} (p : A → Bool) where
-  any_append : (k l : List A) → any_of p (k ++ l) ≡ any_of p k || any_of p l
-  unfolding any_of
-  any_append [] l = refl
-  any_append (a ∷ k) l = rw (any_append k l) (sym (or_assoc (p a) (any_of p k) (any_of p l)))
-
-  any_none : ((a : A) → p a ≡ false) → (l : List A) → any_of p l ≡ false
-  unfolding any_of
-  any_none h [] = refl
-  any_none h (a ∷ l) = rw (h a) (any_none h l)
-
-  any_same : (q : A → Bool) → ((a : A) → p a ≡ q a) → (l : List A) → any_of p l ≡ any_of q l
-  unfolding any_of
-  any_same q h [] = refl
-  any_same q h (a ∷ l) = rw (h a, any_same q h l) refl
-
-  any_so : (q : A → Bool) → ((a : A) → p a ≡ true → q a ≡ true) → (l : List A) → any_of p l ≡ true → any_of q l ≡ true
-  unfolding any_of
-  any_so q h [] e = e
-  any_so q h (a ∷ l) e = or_either (p a) (any_of p l) (λ d. rw (h a d) refl) (λ d. rw (any_so q h l d) (or-true (q a))) e
+any_so : {A : Type 0} (p q : A → Bool) → ((a : A) → p a ≡ true → q a ≡ true) → (l : List A) → list_any p l ≡ true → list_any q l ≡ true
+any_so p q h [] e = e
+any_so p q h (a ∷ l) e = or_either (p a) (list_any p l) (λ d. rw (h a d) refl) (λ d. rw (any_so p q h l d) (or-true (q a))) e
 
 -- no effects, and one more of those from number `first` on
 module _ (n : ℕ) (vs : List Bool) (es : List Effect) (first : ℕ) where
@@ -48,22 +33,15 @@ module _ (n : ℕ) (vs : List Bool) (es : List Effect) (first : ℕ) where
   up_to k = take k (drop first es)
 
   pub changed_none : ChangesAre n vs (up_to 0) 0 0
-  unfolding gets any_of
+  unfolding gets
   changed_none = record { cleared = record { below = pow_pos n; facts = no_fact }; set = record { below = pow_pos n; facts = no_fact } }
 
   module _ (k : ℕ) (h : first + k < length es) {e : Effect} (is : e ≡ get_or es (first + k) (effect_of [])) (small : e.fact < n) where
     gets_more : (v i : ℕ) → gets vs (up_to (k + 1)) v i ≡ gets vs (up_to k) v i || gives vs v i e
-    unfolding gets any_of
+    unfolding gets
     gets_more v i =
         let g : k < length (drop first es) = simp length-drop (omega arith) in
-        rw (
-          add-one k,
-          take-suc (drop first es) k (effect_of []) g,
-          any_append (gives vs v i) (up_to k) (get_or (drop first es) k (effect_of []) ∷ []),
-          get_or-drop first es k (effect_of []),
-          ← is,
-          or-false (gives vs v i e),
-        ) refl
+        rw (list_any_more (gives vs v i) (drop first es) k (effect_of []) g, get_or-drop first es k (effect_of []), ← is) refl
 
     module _ {on : Bool} (on-is : on ≡ get_or vs e.cond false) where
       facts_more : (v w x : ℕ) → HasFacts n (gets vs (up_to k) v) w → x ≡ cond (on && eqb e.value v) (2 ^ e.fact) 0
@@ -85,10 +63,6 @@ module _ (n : ℕ) (vs : List Bool) (es : List Effect) (first : ℕ) where
           → y ≡ cond (on && eqb e.value 1) (2 ^ e.fact) 0 → ChangesAre n vs (up_to (k + 1)) (bit_or c x) (bit_or s y)
       changed_more c s x y g f d = record { cleared = facts_more 0 c x g.cleared f; set = facts_more 1 s y g.set d }
 
-pub gets_same : (vs us : List Bool) → Same vs us → (es : List Effect) (v i : ℕ) → gets vs es v i ≡ gets us es v i
-unfolding gets gives
-gets_same vs us s es v i = any_same (gives vs v i) (gives us v i) (λ e. rw (s e.cond) refl) es
-
 -- the set of facts that are cleared, and that of those that are set
 module _ (vs : List Bool) (es : List Effect) (n : ℕ) {c s : ℕ} (g : ChangesAre n vs es c s) where
   common : (i : ℕ) → fact (bit_and c s) i ≡ gets vs es 0 i && gets vs es 1 i
@@ -96,7 +70,7 @@ module _ (vs : List Bool) (es : List Effect) (n : ℕ) {c s : ℕ} (g : ChangesA
 
   pub no_conflict : bit_and c s ≡ 0 → conflicts vs es ≡ false
   unfolding conflicts
-  no_conflict z = any_none _ (λ e. sym (common e.fact) ∙ ap (λ (x : ℕ). fact x e.fact) z ∙ no_fact e.fact) es
+  no_conflict z = list_any_none _ es (λ k d h. let e = get_or es k d in sym (common e.fact) ∙ ap (λ (x : ℕ). fact x e.fact) z ∙ no_fact e.fact)
 
 -- a fact that is cleared and set is a conflict
 pub cleared_and_set_conflicts : (vs : List Bool) (es : List Effect) (i : ℕ) → gets vs es 0 i ≡ true → gets vs es 1 i ≡ true → conflicts vs es ≡ true
@@ -108,9 +82,8 @@ cleared_and_set_conflicts vs es i a b = any_so (gives vs 0 i) (λ e. gets vs es 
         let f : e.fact ≡ i = eqb-true e.fact i (and_right (get_or vs e.cond false && eqb e.value 0) (eqb e.fact i) h) in
         rw f (and_both _ _ a b)
 
-kept_cleared_set : (w c s : Bool) → xor (w || c) c || s ≡ cond s true (cond c false w)
-unfolding xor
-kept_cleared_set w c true = or-true (xor (w || c) c)
+kept_cleared_set : (w c s : Bool) → (w && not c) || s ≡ cond s true (cond c false w)
+kept_cleared_set w c true = or-true (w && not c)
 kept_cleared_set true true false = refl
 kept_cleared_set false true false = refl
 kept_cleared_set true false false = refl
@@ -131,10 +104,12 @@ module _ (vs : List Bool) (es : List Effect) (n : ℕ) {c s : ℕ} (g : ChangesA
       decided true e = refl
       decided false e = absurd (some (apart e))
 
-  pub affected_by : (w : ℕ) → w < 2 ^ n → bit_or (bit_xor (bit_or w c) c) s ≡ affected n vs es w
+  pub affected_by : n ≤ most_facts → (w : ℕ) → w < 2 ^ n → bit_or (bit_and w (bit_not w16 c)) s ≡ affected n vs es w
   unfolding affected fact_after
-  affected_by w h =
-      let r : ℕ = bit_or (bit_xor (bit_or w c) c) s in
-      state_only n r (or_lt n (bit_xor (bit_or w c) c) s (xor_lt n (bit_or w c) c (or_lt n w c h g.cleared.below) g.cleared.below) g.set.below)
+  affected_by few w h =
+      let short : 2 ^ n ≤ most_states = count_within n few in
+      let r : ℕ = bit_or (bit_and w (bit_not w16 c)) s in
+      state_only n r (or_lt n (bit_and w (bit_not w16 c)) s (omega (arith, and_le_l w (bit_not w16 c))) g.set.below)
       ∙ state_same n (fact r) (fact_after vs es w)
-      (λ i. rw (fact_or, fact_xor, fact_or, g.cleared.facts i, g.set.facts i) (kept_cleared_set (fact w i) (gets vs es 0 i) (gets vs es 1 i)))
+      (λ i. rw (fact_or (bit_and w (bit_not w16 c)) s i, fact_without w c i (omega arith) (omega (arith, g.cleared.below)), g.cleared.facts i, g.set.facts i)
+      (kept_cleared_set (fact w i) (gets vs es 0 i) (gets vs es 1 i)))

@@ -1,17 +1,13 @@
 -- Facts of a state: those of the operations on bits, and of a state that has one fact or none.
 -- Assumes nothing.
-use Prim.Native.Nat.{ℕ, suc, ◌+◌, ◌-◌, ◌*◌, ◌/◌, ◌%◌, ◌^◌, ◌≤◌, ◌<◌, min, max}
-use mathlib.Core.Path.{◌≡◌, refl, sym, ◌∙◌, ap, ap₂}
-use mathlib.Core.Bool.{Bool, true, false, cond, ◌&&◌, ◌||◌, xor}
-use native.Mathlib.Omega.{arith}
-use native.Mathlib.Nat.{zero-mul, one-mul, mod-lt, mod-eq_of_lt, mul-mod_left, div_self, div-eq_of_lt, pow-suc, pow-le-pow_right}
+use Rattle.std.proofs.Common.{ℕ, zero, suc, ◌≡◌, ◌^◌, ◌*◌, ◌-◌, ◌≤◌, ◌<◌, min, max, Bool, true, false, cond, not, ◌&&◌, ◌||◌, eqb, bit_and, bit_or, refl, sym, arith, one-mul, zero-mul}
+use native.Mathlib.Nat.{pow-le-pow_right}
 use native.Mathlib.Decide.{dec_lt, ℕ_discrete}
 use mir.Val.{bool_byte}
-use lib.Dec.{eqb}
-use lib.Arith.{digits_mod}
-use lib.Pow.{pow-add, pow_pos, pow-lt, pow_mono, shl-shr}
-use lib.Bits.{bit_and, bit_or, bit_xor, differ, and_step, or_step, xor_step, and_shr, or_shr, xor_shr}
+use lib.Pow.{pow-lt}
 use borrow.Author.Tests.{eq-eqb, ne_eqb}
+use Rattle.std.specs.Int.{w16, bit_at, bit_not}
+use Rattle.std.proofs.lemmas.Nat.Bits.{bit_at-zero, bit_at-lt, bit_at_and, bit_at_or, bit_at_not, bit_at_above, bit_at-pow_same, bit_at-pow_other}
 use Rattle.job.specs.StateCount.{state_count}
 use Rattle.limits.specs.Limits.{most_facts, most_states}
 use Rattle.domain.specs.State.{fact}
@@ -19,88 +15,80 @@ use Rattle.domain.specs.State.{fact}
 pub count_within : (facts : ℕ) → facts ≤ most_facts → state_count facts ≤ most_states
 count_within facts h = pow-le-pow_right (omega arith) h
 
-bit_small : (b : Bool) → bool_byte b < 2
-bit_small true = omega arith
-bit_small false = omega arith
-
-bit_is : (b : Bool) → eqb (bool_byte b) 1 ≡ b
-bit_is true = refl
-bit_is false = refl
-
 pub bit_times : (b : Bool) (p : ℕ) → bool_byte b * p ≡ cond b p 0
 bit_times true p = one-mul p
 bit_times false p = zero-mul p
 
 pub digit_bit : (d : ℕ) → d < 2 → d ≡ bool_byte (eqb d 1)
-digit_bit d h = elim (ℕ_discrete d 1) [
-  | yes e ↦ rw e refl
-  | no e ↦ (let z : d ≡ 0 = omega arith in rw z refl)
-]
+digit_bit zero h = refl
+digit_bit (suc zero) h = refl
+digit_bit (suc (suc d)) h = absurd (omega arith)
 
--- an operation on numbers that works on each of their digits
-module _ (op : ℕ → ℕ → ℕ) (on : ℕ → ℕ → ℕ) (test : Bool → Bool → Bool)
-    (shifts : (a b k : ℕ) → op a b / 2 ^ k ≡ op (a / 2 ^ k) (b / 2 ^ k))
-    (steps : (a b : ℕ) → op a b ≡ op (a / 2) (b / 2) * 2 + on (a % 2) (b % 2))
-    (both : on 1 1 ≡ bool_byte (test true true)) (first : on 1 0 ≡ bool_byte (test true false))
-    (second : on 0 1 ≡ bool_byte (test false true)) (neither : on 0 0 ≡ bool_byte (test false false)) where
-  tests : (p q : Bool) → on (bool_byte p) (bool_byte q) ≡ bool_byte (test p q)
-  tests true true = both
-  tests true false = first
-  tests false true = second
-  tests false false = neither
+-- two digits
+both : (d e : ℕ) → d < 2 → e < 2 → eqb (min d e) 1 ≡ eqb d 1 && eqb e 1
+both zero zero h g = refl
+both zero (suc zero) h g = refl
+both (suc zero) zero h g = refl
+both (suc zero) (suc zero) h g = refl
+both zero (suc (suc e)) h g = absurd (omega arith)
+both (suc zero) (suc (suc e)) h g = absurd (omega arith)
+both (suc (suc d)) e h g = absurd (omega arith)
 
-  digit : (a b : ℕ) → op a b % 2 ≡ bool_byte (test (eqb (a % 2) 1) (eqb (b % 2) 1))
-  digit a b =
-      let d : on (a % 2) (b % 2) ≡ bool_byte (test (eqb (a % 2) 1) (eqb (b % 2) 1)) =
-      ap₂ on (digit_bit (a % 2) (mod-lt a (omega arith))) (digit_bit (b % 2) (mod-lt b (omega arith))) ∙ tests _ _ in
-      rw (steps a b, d) (digits_mod (op (a / 2) (b / 2)) (bit_small (test (eqb (a % 2) 1) (eqb (b % 2) 1))))
+either : (d e : ℕ) → d < 2 → e < 2 → eqb (max d e) 1 ≡ eqb d 1 || eqb e 1
+either zero zero h g = refl
+either zero (suc zero) h g = refl
+either (suc zero) zero h g = refl
+either (suc zero) (suc zero) h g = refl
+either zero (suc (suc e)) h g = absurd (omega arith)
+either (suc zero) (suc (suc e)) h g = absurd (omega arith)
+either (suc (suc d)) e h g = absurd (omega arith)
 
-  fact_op : (a b i : ℕ) → fact (op a b) i ≡ test (fact a i) (fact b i)
+first_alone : (d e : ℕ) → d < 2 → e < 2 → eqb (min d (1 - e)) 1 ≡ eqb d 1 && not (eqb e 1)
+first_alone zero zero h g = refl
+first_alone zero (suc zero) h g = refl
+first_alone (suc zero) zero h g = refl
+first_alone (suc zero) (suc zero) h g = refl
+first_alone zero (suc (suc e)) h g = absurd (omega arith)
+first_alone (suc zero) (suc (suc e)) h g = absurd (omega arith)
+first_alone (suc (suc d)) e h g = absurd (omega arith)
+
+module _ (a b i : ℕ) where
+  pub fact_and : fact (bit_and a b) i ≡ fact a i && fact b i
   unfolding fact
-  fact_op a b i = rw (shifts a b i, digit (a / 2 ^ i) (b / 2 ^ i)) (bit_is (test (fact a i) (fact b i)))
+  fact_and = rw (bit_at_and a b i) (both (bit_at a i) (bit_at b i) (bit_at-lt a i) (bit_at-lt b i))
 
-pub fact_and : (a b i : ℕ) → fact (bit_and a b) i ≡ fact a i && fact b i
-fact_and = fact_op bit_and min ◌&&◌ and_shr and_step refl refl refl refl
+  pub fact_or : fact (bit_or a b) i ≡ fact a i || fact b i
+  unfolding fact
+  fact_or = rw (bit_at_or a b i) (either (bit_at a i) (bit_at b i) (bit_at-lt a i) (bit_at-lt b i))
 
-pub fact_or : (a b i : ℕ) → fact (bit_or a b) i ≡ fact a i || fact b i
-fact_or = fact_op bit_or max ◌||◌ or_shr or_step refl refl refl refl
-
-pub fact_xor : (a b i : ℕ) → fact (bit_xor a b) i ≡ xor (fact a i) (fact b i)
-unfolding xor
-fact_xor = fact_op bit_xor differ xor xor_shr xor_step refl refl refl refl
+  -- a state without the facts of a set
+  pub fact_without : a < 65536 → b < 65536 → fact (bit_and a (bit_not w16 b)) i ≡ fact a i && not (fact b i)
+  unfolding fact
+  fact_without h g = elim (dec_lt i 16) [
+    | yes l ↦ rw (bit_at_and a (bit_not w16 b) i, bit_at_not w16 b i g l) (first_alone (bit_at a i) (bit_at b i) (bit_at-lt a i) (bit_at-lt b i))
+    | no l ↦ (let z : min 0 (bit_at (bit_not w16 b) i) ≡ 0 = omega arith in rw (bit_at_and a (bit_not w16 b) i, bit_at_above a 16 i h (omega arith), z) refl)
+  ]
 
 -- no fact from n on is true in a state of n facts
 pub fact_past : (n w i : ℕ) → w < 2 ^ n → n ≤ i → fact w i ≡ false
 unfolding fact
-fact_past n w i h l = let g : w < 2 ^ i = omega (arith, pow_mono l) in rw (div-eq_of_lt g) refl
+fact_past n w i h l = rw (bit_at_above w n i h l) refl
 
 pub no_fact : (i : ℕ) → fact 0 i ≡ false
-no_fact i = fact_past 0 0 i (omega arith) (omega arith)
+unfolding fact
+no_fact i = rw (bit_at-zero i) refl
 
 -- the state that has one fact alone
-even_power : (k d : ℕ) → fact (2 ^ (suc d + k)) k ≡ false
-unfolding fact
-even_power k d = rw (pow-add 2 (suc d) k, shl-shr (2 ^ suc d) k, pow-suc 2 d, mul-mod_left (2 ^ d) 2) refl
-
 pub one_fact : (k i : ℕ) → fact (2 ^ k) i ≡ eqb k i
 unfolding fact
-one_fact k i = elim (ℕ_discrete k i) [
-  | yes e ↦ rw (← e, eq-eqb k k refl, div_self (pow_pos k)) refl
-  | no e ↦ elim (dec_lt k i) [
-    | yes l ↦ fact_past (suc k) (2 ^ k) i (pow-lt (omega arith)) l ∙ sym (ne_eqb k i e)
-    | no l ↦ (let d : k ≡ suc (k - i - 1) + i = omega arith in ap (λ (n : ℕ). fact (2 ^ n) i) d ∙ even_power i (k - i - 1) ∙ sym (ne_eqb k i e))
-  ]
+one_fact k i = elim (ℕ_discrete i k) [
+  | yes e ↦ rw (e, bit_at-pow_same k, eq-eqb k k refl) refl
+  | no e ↦ rw (bit_at-pow_other k i e) (sym (ne_eqb k i (λ d. e (sym d))))
 ]
 
 pub worth_below : (n k : ℕ) → k < n → (b : Bool) → cond b (2 ^ k) 0 < 2 ^ n
 worth_below n k h true = pow-lt h
 worth_below n k h false = omega (arith, pow-lt h)
-
--- a test as a bit, shifted: what a fact is worth where the test passes
-pub bit_worth : (k : ℕ) → k < most_facts → (b : Bool) → (bool_byte b * 2 ^ k) % 65536 ≡ cond b (2 ^ k) 0
-bit_worth k h b =
-    let small : cond b (2 ^ k) 0 < 65536 = omega (arith, worth_below most_facts k h b) in
-    rw (bit_times b (2 ^ k)) (mod-eq_of_lt small)
 
 pub worth_fact : (k i : ℕ) (b : Bool) → fact (cond b (2 ^ k) 0) i ≡ b && eqb k i
 worth_fact k i true = one_fact k i

@@ -1,5 +1,6 @@
 pub mod FactLaws
 pub mod StateLaws
+pub mod MeaningLaws
 pub mod ValueLaws
 pub mod EffectLaws
 pub mod SuccessorLaws

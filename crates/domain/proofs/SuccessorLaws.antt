@@ -1,57 +1,43 @@
--- A successor as the code makes it, from its move and values that tell the same as the formulas.
+-- A successor as the code makes it, from its move and the facts that the move clears and sets.
 -- Assumes nothing.
-use Prim.Native.Nat.{ℕ, ◌≤◌, ◌<◌}
-use mathlib.Core.Path.{◌≡◌, sym, ◌∙◌, ap}
-use mathlib.Core.Bool.{Bool, true, false, not, ◌&&◌}
-use Rattle.std.specs.Prelude.{None, Some}
-use mathlib.Core.List.{List}
-use lib.Dec.{ltb}
-use lib.ListN.{length, get_or}
-use lib.Bits.{bit_and, bit_or, bit_xor}
+use Rattle.std.proofs.Common.{ℕ, ◌≡◌, ◌≤◌, ◌<◌, true, false, not, ◌&&◌, None, Some, bit_and, bit_or, length, get_or, ltb, ap}
 use borrow.Author.Tests.{lt-ltb, le-ltb}
+use Rattle.std.specs.Int.{w16, bit_not}
+use Rattle.limits.specs.Limits.{most_facts}
 use Rattle.laws.proofs.Tests.{cond_some}
+use Rattle.job.specs.StateCount.{state_count}
 use Rattle.job.specs.Job.{Job, Move, move_at}
 use Rattle.job.specs.Task.{Task}
-use Rattle.domain.specs.State.{HasFacts, values}
-use Rattle.domain.specs.Effects.{gets, conflicts, affected, ChangesAre}
-use Rattle.domain.specs.Domain.{effects_of, holds_in, successor_of, domain_of, Tells}
-use Rattle.domain.proofs.EffectLaws.{gets_same, no_conflict, some_conflict, affected_by}
+use Rattle.job.proofs.StoredLaws.{move_count, move_effects}
+use Rattle.domain.specs.State.{values}
+use Rattle.domain.specs.Effects.{conflicts, affected, ChangesAre}
+use Rattle.domain.specs.Domain.{effects_of, holds_in, successor_of, domain_of}
+use Rattle.domain.proofs.EffectLaws.{no_conflict, some_conflict, affected_by}
 
-module _ (a : Task) (m w : ℕ) (vs : List Bool) (t : Tells (domain_of a) w vs) (g : m < (domain_of a).moves) {x : Move} (e : x ≡ move_at a.job m) where
-  abbrev j : Job
-  j = a.job
-
+module _ (j : Job) (m w : ℕ) (g : m < length j.moves) {x : Move} (e : x ≡ move_at j m) where
   is_move_lem : ltb m (length j.moves) ≡ true
   is_move_lem = lt-ltb m (length j.moves) g
 
-  pub successor_none : get_or vs x.pre false ≡ false → None ≡ successor_of j m w
+  pub successor_none : holds_in j x.pre w ≡ false → None ≡ successor_of j m w
   unfolding successor_of holds_in
-  successor_none p = rw (is_move_lem, ← e, sym (t x.pre) ∙ p)
+  successor_none p = rw (is_move_lem, ← e, p)
 
   -- the set of facts that are cleared, and that of those that are set
-  module _ (p : get_or vs x.pre false ≡ true) {c s : ℕ} (h : ChangesAre j.scalars.facts vs (effects_of j x) c s) where
-    abbrev us : List Bool
-    us = values w j.formulas
-
-    has_by_state : (v : ℕ) {y : ℕ} → HasFacts j.scalars.facts (gets vs (effects_of j x) v) y → HasFacts j.scalars.facts (gets us (effects_of j x) v) y
-    unfolding holds_in
-    has_by_state v has = record { below = has.below; facts = λ i. has.facts i ∙ gets_same vs us t (effects_of j x) v i }
-
-    changed : ChangesAre j.scalars.facts us (effects_of j x) c s
-    changed = record { cleared = has_by_state 0 h.cleared; set = has_by_state 1 h.set }
-
+  module _ (p : holds_in j x.pre w ≡ true) {c s : ℕ} (h : ChangesAre j.scalars.facts (values w j.formulas) (effects_of j x) c s) where
     pub successor_conflict : (bit_and c s ≡ 0 → ⊥) → None ≡ successor_of j m w
     unfolding successor_of holds_in
-    successor_conflict common =
-        rw (is_move_lem, ← e, sym (t x.pre) ∙ p, some_conflict us (effects_of j x) j.scalars.facts changed common)
+    successor_conflict common = rw (is_move_lem, ← e, p, some_conflict (values w j.formulas) (effects_of j x) j.scalars.facts h common)
 
-    pub successor_some : bit_and c s ≡ 0 → w < (domain_of a).states → Some (bit_or (bit_xor (bit_or w c) c) s) ≡ successor_of j m w
+    pub successor_some : bit_and c s ≡ 0 → j.scalars.facts ≤ most_facts → w < state_count j.scalars.facts
+        → Some (bit_or (bit_and w (bit_not w16 c)) s) ≡ successor_of j m w
     unfolding successor_of holds_in
-    successor_some z below = rw (is_move_lem, ← e, sym (t x.pre) ∙ p, no_conflict us (effects_of j x) j.scalars.facts changed z)
-        (ap Some (affected_by us (effects_of j x) j.scalars.facts changed w below))
+    successor_some z few below =
+        rw (is_move_lem, ← e, p, no_conflict (values w j.formulas) (effects_of j x) j.scalars.facts h z)
+        (ap Some (affected_by (values w j.formulas) (effects_of j x) j.scalars.facts h few w below))
 
 -- where there is one, it is the state after the effects
-pub successor_is : (j : Job) (m w t : ℕ) → successor_of j m w ≡ Some t → affected j.scalars.facts (values w j.formulas) (effects_of j (move_at j m)) w ≡ t
+pub successor_is : (j : Job) (m w t : ℕ) → successor_of j m w ≡ Some t
+    → affected j.scalars.facts (values w j.formulas) (effects_of j (move_at j m)) w ≡ t
 unfolding successor_of
 successor_is j m w t e =
     let x = move_at j m in
@@ -63,3 +49,6 @@ successor_is j m w t e =
 pub successor_past : (a : Task) (m w : ℕ) → (domain_of a).moves ≤ m → None ≡ (domain_of a).successor m w
 unfolding successor_of
 successor_past a m w g = rw (le-ltb m (length a.job.moves) g)
+
+-- what each way through the code rests on
+pub ruleset as_made = (move_count, move_effects, successor_none, successor_conflict)

@@ -1,12 +1,8 @@
 -- The effects of a move, without an order: which facts they set, clear or keep, and where they conflict.
-use Rattle.std.specs.Prelude.{ℕ, Bool, true, false, ◌&&◌, ◌||◌, cond, List, [], ◌∷◌, eqb, get_or}
+use Rattle.std.specs.Prelude.{ℕ, Bool, true, false, ◌&&◌, cond, List, eqb, get_or}
+use Rattle.std.specs.List.{list_any}
 use Rattle.job.specs.Job.{Effect}
 use Rattle.domain.specs.State.{fact, HasFacts, state_with}
-
--- whether a test passes on some element of a list
-unfoldable pub any_of : {A : Type 0} → (A → Bool) → List A → Bool
-any_of p [] = false
-any_of p (a ∷ l) = p a || any_of p l
 
 -- an effect that holds, by the formulas' values vs, and gives fact i the value v
 unfoldable pub gives : List Bool → ℕ → ℕ → Effect → Bool
@@ -14,11 +10,11 @@ gives vs v i e = get_or vs e.cond false && eqb e.value v && eqb e.fact i
 
 -- whether the fact gets it by one of the effects
 unfoldable pub gets : List Bool → List Effect → ℕ → ℕ → Bool
-gets vs es v i = any_of (gives vs v i) es
+gets vs es v i = list_any (gives vs v i) es
 
 -- "its effects that hold both clear and set one fact"
 unfoldable pub conflicts : List Bool → List Effect → Bool
-conflicts vs es = any_of (λ e. gets vs es 0 e.fact && gets vs es 1 e.fact) es
+conflicts vs es = list_any (λ e. gets vs es 0 e.fact && gets vs es 1 e.fact) es
 
 -- a fact after effects: set, cleared or kept. No fact is both set and cleared where they don't conflict
 unfoldable pub fact_after : List Bool → List Effect → ℕ → ℕ → Bool

@@ -1,4 +1,5 @@
 pub mod State
+pub mod Meaning
 pub mod Effects
 pub mod Domain
 pub mod Successor

@@ -4,6 +4,7 @@ ghost use Rattle.limits.specs.Limits.{most_facts};
 ghost use Rattle.domain.specs.State.{fact as fact_in};
 
 // Whether fact i is true in state w.
+#[tactic(auto, unfolding(crate::specs::State::fact))]
 pub fn fact(w: u16, i: u16) -> bool
     requires { i < most_facts }
     ensures { result ≡ fact_in w i }
@@ -16,5 +17,5 @@ pub fn fact_where(on: bool, i: u16) -> u16
     requires { i < most_facts }
     ensures { result ≡ cond on (2 ^ i) 0 }
 {
-    (on as u16) << i
+    u16::from(on) << i
 }

@@ -1,4 +1,4 @@
-// States: how many there are, where a job starts, and where its goal holds.
+// States: how many there are, and where a task starts.
 ghost use Rattle.std.specs.Prelude.{◌≡◌, ◌<◌};
 ghost use Rattle.job.specs.Stored.{Stored};
 ghost use Rattle.domain.specs.Domain.{domain_at, domain_in, Tells};
@@ -19,7 +19,7 @@ pub fn start(task: &Task) -> u16
     task.head.init
 }
 
-// Whether the goal holds in a state, by the formulas' values in it.
+// For callers that hold no world.
 pub fn goal_holds(head: Head, rows: &[u16], values: &[bool], state: u16) -> bool
     requires { Stored head rows.now × Tells (domain_in head rows.now) state values.now }
     ensures { result ≡ (domain_in head rows.now).goal state }

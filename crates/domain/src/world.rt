@@ -3,8 +3,10 @@ ghost use Rattle.std.specs.Prelude.{◌≡◌, ◌≤◌, ◌<◌, IfSome};
 ghost use Rattle.limits.specs.Limits.{most_cost};
 ghost use Rattle.domain.specs.Domain.{domain_at, Tells};
 
-use crate::Successor;
-use crate::formulas::VALUES;
+use crate::effects::{Changes, changes_of};
+use crate::formulas::{VALUES, formula_values, value_at};
+use job::costs::class_cost;
+use job::stored::move_at;
 use job::task::Task;
 
 #[derive(Clone, Copy)]
@@ -21,11 +23,10 @@ impl<'t> World<'t> {
         requires { state < (domain_at task.now).states }
         ensures { (result.task ≡ task.now) × (result.state ≡ state) }
     {
-        let values = crate::formulas::formula_values(task.head, task.rows, state);
         World {
             task: *task,
-            state: state,
-            values: values,
+            state,
+            values: formula_values(task, state),
         }
     }
 
@@ -40,7 +41,7 @@ impl<'t> World<'t> {
     pub fn holds(&self, formula: u16) -> bool
         ensures { result ≡ (domain_at self.now.task).holds formula self.now.state }
     {
-        crate::formulas::value_at(&self.values, formula)
+        value_at(&self.values, formula)
     }
 
     pub fn goal_holds(&self) -> bool
@@ -51,24 +52,36 @@ impl<'t> World<'t> {
 
     // The state after move m: none where its precondition fails, or where its effects that hold both
     // clear and set one fact.
+    #[tactic(auto, using(crate::proofs::SuccessorLaws::as_made))]
     pub fn successor(&self, m: u16) -> Option<u16>
         requires { m < (domain_at self.now.task).moves }
         ensures after { result ≡ (domain_at self.now.task).successor m self.now.state }
         ensures within { IfSome result (λ t. t < (domain_at self.now.task).states) }
     {
-        let task = self.task;
-        match crate::moves::successor(task.head, task.rows, &self.values, m, self.state) {
-            Successor::To(t) => Some(t),
-            Successor::Inapplicable => None,
+        let made = move_at(self.task.head, self.task.rows, m);
+        if !self.holds(made.pre) {
+            return None;
         }
+        let Changes { cleared, set } = changes_of(self, made);
+        if cleared & set != 0 {
+            return None;
+        }
+        Some(self.state & !cleared | set)
     }
 
     // What move m costs: its class, and where its formula holds the second one too.
+    #[tactic(auto, using(crate::proofs::CostLaws::as_counted))]
     pub fn cost(&self, m: u16) -> u64
         requires { m < (domain_at self.now.task).moves }
         ensures { (result ≡ (domain_at self.now.task).cost m self.now.state) × (result ≤ most_cost) }
     {
-        let task = self.task;
-        crate::moves::cost(task.head, task.rows, &self.values, m, self.state)
+        let made = move_at(self.task.head, self.task.rows, m);
+        let own = u64::from(class_cost(self.task.rows, made.class));
+        let second = u64::from(class_cost(self.task.rows, made.second));
+        // most moves have no second cost, and the formula is then not looked at
+        if second != 0 && self.holds(made.when) {
+            return own + second;
+        }
+        own
     }
 }

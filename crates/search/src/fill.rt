@@ -31,7 +31,13 @@ fn visit(
     ensures { Better (graph_in origin rows.now list.now)
         costs.old queue.old costs.new queue.new }
 {
-    let values = domain::formulas::formula_values(origin.head, rows, origin.state);
+    let values = domain::formulas::formula_values(
+        &Task {
+            head: origin.head,
+            rows,
+        },
+        origin.state,
+    );
     let mut cache = [0u16; CACHE];
     let states = origin.grid.states as usize;
     let s = origin.state as usize;

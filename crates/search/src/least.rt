@@ -12,6 +12,7 @@ ghost use Rattle.search.specs.Filling.{Lower, Lowest};
 
 use crate::{Grid, UNREACHED};
 use job::head::Head;
+use job::task::Task;
 
 // The lesser of `least` and x, if the goal holds in the state.
 fn lesser(head: Head, rows: &[u16], state: u16, least: u64, x: u64) -> u64
@@ -19,7 +20,7 @@ fn lesser(head: Head, rows: &[u16], state: u16, least: u64, x: u64) -> u64
     ensures { Lower ((domain_in head rows.now).goal state) least x result }
 {
     if x < least {
-        let values = domain::formulas::formula_values(head, rows, state);
+        let values = domain::formulas::formula_values(&Task { head, rows }, state);
         if domain::states::goal_holds(head, rows, &values, state) {
             return x;
         }

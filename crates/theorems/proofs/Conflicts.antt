@@ -9,8 +9,9 @@ use Rattle.std.specs.Prelude.{Some}
 use mathlib.Core.List.{List, [], ◌∷◌, Memᴰ}
 use Rattle.laws.proofs.Tests.{never, and_left, and_right, or_either, tests_equal}
 use Rattle.job.specs.Job.{Job, Effect, move_at}
+use Rattle.std.specs.List.{list_any}
 use Rattle.domain.specs.State.{fact, values}
-use Rattle.domain.specs.Effects.{any_of, gives, gets, conflicts, fact_after, affected}
+use Rattle.domain.specs.Effects.{gives, gets, conflicts, fact_after, affected}
 use Rattle.domain.specs.Domain.{effects_of, successor_of}
 use Rattle.domain.proofs.StateLaws.{state_same, state_facts}
 use Rattle.domain.proofs.EffectLaws.{cleared_and_set_conflicts}
@@ -18,13 +19,11 @@ use Rattle.domain.proofs.SuccessorLaws.{successor_is}
 
 -- a test passes on some element of a list just where it passes on a member
 module _ {A : Type 0} (p : A → Bool) where
-  any_member : (l : List A) → any_of p l ≡ true → (a : A) × Memᴰ a l × (p a ≡ true)
-  unfolding any_of
+  any_member : (l : List A) → list_any p l ≡ true → (a : A) × Memᴰ a l × (p a ≡ true)
   any_member [] e = never e
-  any_member (a ∷ l) e = or_either (p a) (any_of p l) (λ d. (a, Memᴰ.head refl, d)) (λ d. let v = any_member l d in (v.0, Memᴰ.tail v.1, v.2)) e
+  any_member (a ∷ l) e = or_either (p a) (list_any p l) (λ d. (a, Memᴰ.head refl, d)) (λ d. let v = any_member l d in (v.0, Memᴰ.tail v.1, v.2)) e
 
-  member_any : {a : A} (l : List A) → Memᴰ a l → p a ≡ true → any_of p l ≡ true
-  unfolding any_of
+  member_any : {a : A} (l : List A) → Memᴰ a l → p a ≡ true → list_any p l ≡ true
   member_any [] m e = elim m [ ]
   member_any (b ∷ l) (Memᴰ.head h) e = rw (← h, e) refl
   member_any (b ∷ l) (Memᴰ.tail m) e = rw (member_any l m e) (or-true (p b))

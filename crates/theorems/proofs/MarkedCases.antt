@@ -21,7 +21,7 @@ use Rattle.semantics.specs.PositionSets.{spread, close, silent_in, is_move, any_
 use Rattle.semantics.specs.StepVerdict.{arrives}
 use Rattle.semantics.proofs.CheckLaws.{verdict_by_judged}
 use Rattle.domain.specs.State.{fact, state_with, value, values}
-use Rattle.domain.specs.Effects.{any_of, gives, gets, conflicts, fact_after, affected}
+use Rattle.domain.specs.Effects.{gives, gets, conflicts, fact_after, affected}
 use Rattle.job.specs.Task.{class_cost}
 use Rattle.domain.specs.Domain.{holds_in, successor_of, cost_in, domain_of}
 use Rattle.compile.specs.Program.{build, programs, program_of}
@@ -61,7 +61,7 @@ computed : map judged (marked ++ others) ≡ map said (marked ++ others)
 unfolding bytes lines has_key value_of byte_read numbers
     line_numbers fault taken ended read_from read_job
     copy_start end copies steps branch_steps while_steps star_steps pick_steps object_steps scoped build programs fits
-    fact state_with value values any_of gives gets conflicts fact_after affected class_cost holds_in successor_of cost_in
+    fact state_with value values gives gets conflicts fact_after affected class_cost holds_in successor_of cost_in
     spread close silent_in is_move any_mark first_set next_set onward finished verdict_from move_on verdict_by
     entry_in count_in read_entries read_lines read_list job_in task_in texts_in loading
     arrives follow follow_all sweep sweeps computed_table keeps every relaxed_below lowest_below computed_judgement

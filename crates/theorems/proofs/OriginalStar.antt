@@ -26,7 +26,7 @@ use Rattle.semantics.specs.Machine.{onward, finished, verdict_from}
 use Rattle.semantics.specs.PositionSets.{spread, close, silent_in, is_move, any_mark, first_set, next_set, move_on, verdict_by}
 use Rattle.semantics.proofs.CheckLaws.{verdict_by_judged}
 use Rattle.domain.specs.State.{fact, state_with, value, values}
-use Rattle.domain.specs.Effects.{any_of, gives, gets, conflicts, fact_after, affected}
+use Rattle.domain.specs.Effects.{gives, gets, conflicts, fact_after, affected}
 use Rattle.domain.specs.Domain.{holds_in, successor_of, cost_in, domain_of}
 use Rattle.compile.specs.Program.{build, programs, program_of}
 use Rattle.theorems.specs.MarkedCases.{star_of_while}
@@ -60,7 +60,7 @@ star_of_body = refl
 -- into the while, move 0, back to the while's position, which is the star's too, and out through
 -- the star
 way_out : Path D (original_steps D body 0) D.start 0 (1 ∷ 0 ∷ 3 ∷ 4 ∷ []) (0 ∷ []) 2 (original_end D body 0)
-unfolding end steps while_steps fact state_with value values any_of gives gets conflicts fact_after affected holds_in successor_of
+unfolding end steps while_steps fact state_with value values gives gets conflicts fact_after affected holds_in successor_of
 way_out =
     P.step (there here) (passes refl)
     (P.step here (moves_on refl) (P.step (there (there (there here))) idles (P.step (there (there (there (there here)))) idles P.stop)))
@@ -76,7 +76,7 @@ final_below = omega arith
 
 -- the program's own runs, by the verdict on move 0
 computed : verdict_by 6 D (star body) (0 ∷ []) ≡ unfinished
-unfolding end steps while_steps star_steps fact state_with value values any_of gives gets conflicts fact_after affected class_cost holds_in successor_of cost_in
+unfolding end steps while_steps star_steps fact state_with value values gives gets conflicts fact_after affected class_cost holds_in successor_of cost_in
     spread close silent_in is_move any_mark first_set next_set onward finished verdict_from move_on verdict_by
 computed = refl
 

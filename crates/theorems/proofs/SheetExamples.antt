@@ -18,7 +18,7 @@ use Rattle.semantics.specs.Domain.{Domain}
 use Rattle.semantics.specs.CompilingTable.{end, steps, branch_steps, star_steps}
 use Rattle.semantics.specs.Scope.{scoped}
 use Rattle.domain.specs.State.{fact, state_with, value, values}
-use Rattle.domain.specs.Effects.{any_of, gives, gets, conflicts, fact_after, affected}
+use Rattle.domain.specs.Effects.{gives, gets, conflicts, fact_after, affected}
 use Rattle.domain.specs.Domain.{holds_in, successor_of, cost_in}
 use Rattle.compile.specs.Program.{build, programs}
 use Rattle.compile.specs.CompiledJob.{fits}
@@ -49,7 +49,7 @@ sample_sheets : (sheet_by sample "plan=2\nm=0\nm=1\n" ≡ page "    1    0      
     ≡ page "    1    0       20         20\n    2    1        5         25\n    3    1       17         42\n" 57)
 unfolding bytes lines has_key value_of byte_read numbers digits_within line_numbers fault class_cost taken ended read_from read_job
     end steps branch_steps star_steps scoped build programs fits
-    fact state_with value values any_of gives gets conflicts fact_after affected holds_in successor_of cost_in
+    fact state_with value values gives gets conflicts fact_after affected holds_in successor_of cost_in
     entry_in count_in read_entries read_lines read_list job_in task_in texts_in loading
     column line_bytes plan_lines_from blank_line paged_lines sheet_of flatten
 sample_sheets = (refl, refl, refl)

@@ -22,7 +22,7 @@ returns-in_default c =
 
 pub cost-cost-requires : goal.cost-cost-requires
 cost-cost-requires c =
-    record { stored = (c.requires.stored, c.requires.told); m_bound = omega (arith, c.if-move_count-m.false, c.move_count.ensures) }
+    record { stored = (c.requires.stored, c.requires.told); m_bound = (omega (arith, c.if-move_count-m.false, c.move_count.ensures), c.requires.inside) }
 
 pub returns : goal.returns
 returns c =

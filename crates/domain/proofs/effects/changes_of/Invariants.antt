@@ -1,12 +1,10 @@
-use Prim.Native.Nat.{◌≤◌, ◌-◌}
-use lib.ListN.{take, drop}
-use Rattle.job.specs.Store.{job_of}
+use Rattle.std.proofs.Common.{take, drop}
+use Rattle.job.specs.StoredTask.{stored_job}
+use Rattle.domain.specs.State.{values}
 use Rattle.domain.specs.Effects.{ChangesAre}
 use Rattle.domain.proofs.effects.changes_of.Given as goal
 
 abbrev pub invariant-loop-k : goal.invariant-loop-k
 invariant-loop-k l =
-    (l.k ≤ l.count) × ChangesAre l.head.counts.facts l.values (take l.k (drop l.first (job_of l.head l.rows).effects)) l.cleared l.set
-
-abbrev pub decreases-loop-k : goal.decreases-loop-k
-decreases-loop-k l = l.count - l.k
+    let j = stored_job l.world.task in
+    ChangesAre l.world.task.head.counts.facts (values l.world.state j.formulas) (take l.k (drop l.made.first j.effects)) l.cleared l.set

@@ -4,9 +4,6 @@ use Rattle.compiled.proofs.SuccessorLaws.{cached_none}
 use Rattle.search.proofs.FillLaws.{search_sweep, better_sifted}
 use Rattle.search.proofs.fill.visit.Goals as goal
 
-pub formula_values-values-requires : goal.formula_values-values-requires
-formula_values-values-requires c = c.requires.search.ready.stored
-
 pub sweep-requires : goal.sweep-requires
 sweep-requires c =
     let swept = search_sweep c.requires.search c.formula_values-values.ensures c.requires.state_bound.0 (cached_none _ _) in

@@ -1,8 +1,16 @@
-use Rattle.std.proofs.Common.{sym}
+use Rattle.std.proofs.Common.{arith, ◌∙◌, sym}
+use Rattle.job.specs.StoredTask.{stored_job}
 use Rattle.domain.proofs.DomainLaws.{stored_bounded}
+use Rattle.domain.proofs.SuccessorLaws.{successor_some}
 use Rattle.domain.proofs.world.World.successor.Goals as goal
 
-pub returns-in-To-clause-within : goal.returns-in-To-clause-within
-returns-in-To-clause-within c =
+pub returns-clause-after : goal.returns-clause-after
+returns-clause-after c =
     let w = c.args.self.now in
-    (stored_bounded w.task.stored).successors c.args.m w.state c.in-To.t w.inside (sym c.in-To.ensures)
+    successor_some (stored_job w.task) c.args.m w.state c.requires c.move_at-made.ensures (sym c.holds.ensures ∙ c.if-not-holds.false)
+    c.changes_of-cleared.ensures (omega (arith, c.if-cleared-set-ne0.false)) w.task.stored.job.facts w.inside
+
+pub returns-clause-within : goal.returns-clause-within
+returns-clause-within c =
+    let w = c.args.self.now in
+    (stored_bounded w.task.stored).successors c.args.m w.state _ w.inside (sym (returns-clause-after c))
