@@ -4,6 +4,7 @@
 #![tactic(auto)]
 
 use console::files::TEXT;
+use console::texts::read_texts;
 use limits::LIST;
 use load::request::Given;
 
@@ -13,7 +14,7 @@ fn main(rt: HostRuntime) {
     let mut costs = [0u8; TEXT];
     let mut list = [0u16; LIST];
     let mut out = [0u8; TEXT];
-    if let Some(texts) = console::texts::read_texts(&rt, &mut job, &mut plan, &mut costs) {
+    if let Some(texts) = read_texts(&rt, &mut job, Some(&mut plan), &mut costs) {
         let given = Given {
             costs: texts.costs.is_some(),
         };

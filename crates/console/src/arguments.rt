@@ -10,24 +10,19 @@ use std::rt::Files;
 // How many bytes an argument may have. A path of that many is already one too long for the system.
 const PATH: usize = 4096;
 
-// What an argument names.
-enum Named<'a> {
-    // there is no such argument
-    Missing,
-    Path(&'a str),
-    Unusable(Error),
-}
-
-// The path in argument i, which the buffer has room for.
-fn named_by<'a>(rt: &impl Env, i: usize, buf: &'a mut [u8]) -> Named<'a> {
-    match rt.arg(i, buf) {
+// The path in argument i, which the buffer has room for, where there is such an argument. Where it
+// is none that can be used, there is no answer, and standard error has said why.
+fn named_by<'a, R: Env + Eprint>(rt: &R, i: usize, buf: &'a mut [u8]) -> Option<Option<&'a str>> {
+    let unusable = match rt.arg(i, buf) {
         Ok(n) => match str::from_utf8(&buf[..n]) {
-            Ok(path) => Named::Path(path),
-            Err(_) => Named::Unusable(Error::from_raw_os_error(NOT_TEXT)),
+            Ok(path) => return Some(Some(path)),
+            Err(_) => NOT_TEXT,
         },
-        Err(FillError::NotPresent) => Named::Missing,
-        Err(FillError::TooLong) => Named::Unusable(Error::from_raw_os_error(NAME_TOO_LONG)),
-    }
+        Err(FillError::NotPresent) => return Some(None),
+        Err(FillError::TooLong) => NAME_TOO_LONG,
+    };
+    fail(rt, "argument", Error::from_raw_os_error(unusable));
+    None
 }
 
 // Fills the buffer from the file that argument i names, or from `otherwise` where there is no such
@@ -41,31 +36,8 @@ pub fn read_argument<'a, R: Files + Env + Eprint>(
     ensures { IfSome result (λ text. length text.now ≤ length buf.old) }
 {
     let mut room = [0u8; PATH];
-    match named_by(rt, i, &mut room) {
-        Named::Missing => read_file(rt, otherwise, buf),
-        Named::Path(path) => read_file(rt, path, buf),
-        Named::Unusable(error) => {
-            fail(rt, "argument", error);
-            None
-        }
-    }
-}
-
-// Fills the buffer from the file at a path, and lends the text; the path `-` gives no text.
-fn read_given_file<'a, R: Files + Eprint>(
-    rt: &R,
-    path: &str,
-    buf: &'a mut [u8],
-) -> Option<Option<&'a [u8]>>
-    ensures { IfSome result (λ given. IfSome given (λ text. length text.now ≤ length buf.old)) }
-{
-    if path == "-" {
-        return Some(None);
-    }
-    match read_file(rt, path, buf) {
-        Some(text) => Some(Some(text)),
-        None => None,
-    }
+    let path = named_by(rt, i, &mut room)?.unwrap_or(otherwise);
+    read_file(rt, path, buf)
 }
 
 // Fills the buffer from the file that argument i names, and lends the text; no such argument, or
@@ -79,12 +51,8 @@ pub fn read_given<'a, R: Files + Env + Eprint>(
     ensures { IfSome result (λ given. IfSome given (λ text. length text.now ≤ length buf.old)) }
 {
     let mut room = [0u8; PATH];
-    match named_by(rt, i, &mut room) {
-        Named::Missing => Some(None),
-        Named::Path(path) => read_given_file(rt, path, buf),
-        Named::Unusable(error) => {
-            fail(rt, "argument", error);
-            None
-        }
+    match named_by(rt, i, &mut room)? {
+        Some(path) if path != "-" => Some(Some(read_file(rt, path, buf)?)),
+        _ => Some(None),
     }
 }

@@ -20,6 +20,7 @@ pub fn fill<F: Read>(file: &mut F, buf: &mut [u8]) -> io::Result<usize>
     ensures end { IfOk result (λ n. n < length buf.new → IsAtEnd (F.remaining file.new)) }
 {
     let mut n = 0;
+    // A while: how far each read goes is known only after it.
     while n < buf.len() {
         let more = file.read(&mut buf[n..])?;
         if more == 0 {

@@ -4,6 +4,7 @@
 #![tactic(auto)]
 
 use console::files::TEXT;
+use console::texts::read_texts;
 use limits::{LIST, PROGRAM_TABLE};
 use load::request::Given;
 
@@ -14,7 +15,7 @@ fn main(rt: HostRuntime) {
     let mut list = [0u16; LIST];
     let mut table = [0u64; PROGRAM_TABLE];
     let mut out = [0u8; TEXT];
-    if let Some(texts) = console::texts::read_texts(&rt, &mut job, &mut plan, &mut costs) {
+    if let Some(texts) = read_texts(&rt, &mut job, Some(&mut plan), &mut costs) {
         let given = Given {
             costs: texts.costs.is_some(),
         };

@@ -3,6 +3,7 @@
 #![tactic(auto)]
 
 use console::files::TEXT;
+use console::texts::read_texts;
 use limits::LIST;
 use load::request::Given;
 
@@ -25,7 +26,7 @@ fn print_cost_of(rt: &HostRuntime, text: &[u8], costs: &[u8], given: Given) {
 fn main(rt: HostRuntime) {
     let mut job = [0u8; TEXT];
     let mut costs = [0u8; TEXT];
-    if let Some(texts) = console::texts::read_job_texts(&rt, &mut job, &mut costs) {
+    if let Some(texts) = read_texts(&rt, &mut job, None, &mut costs) {
         let given = Given {
             costs: texts.costs.is_some(),
         };
