@@ -70,7 +70,8 @@ fn read_byte(p: Progress, b: u8, out: &mut [u16]) -> Progress
 }
 
 // Fills a list with the numbers of a value that is to hold just as many, and answers whether its
-// form is right. Where it is wrong, nothing is said of the list.
+// form is right. Where it is wrong, nothing is said of the list. A bool: the numbers are the caller's
+// own list, whose length says how many are due.
 pub fn read_numbers(value: &[u8], out: &mut [u16]) -> bool
     ensures { answered result out.new ≡ numbers (length out.old) value.now }
 {
