@@ -7,9 +7,12 @@ use mathlib.Core.List.{List, [], ◌∷◌, ◌++◌}
 use native.Mathlib.Omega.{arith}
 use native.Mathlib.Numerals.{add-one}
 use native.Mathlib.Decide.{dec_lt}
-use lib.ListN.{length, get_or, take, set, length-append, get_or-append}
-use lib.Seq.{sets, get_or-append_seam, take-suc, length-take-le}
-use Rattle.laws.proofs.Lists.{get_d_sets_before, get_d_sets_after, get_d_sets_in, sets_append}
+use lib.ListN.{length, get_or, length-append, get_or-append}
+use lib.Seq.{get_or-append_seam, take_all}
+use borrow.Rule.Slice.PartMut.{put_mid}
+use Rattle.std.proofs.lemmas.List.Edits.{sets, sets-eq}
+use Rattle.std.proofs.lemmas.Slice.{put_mid-paste}
+use Rattle.laws.proofs.Lists.{get_d_sets_before, get_d_sets_after, get_d_sets_in}
 use Rattle.job.specs.Job.{counts_of}
 use Rattle.job.specs.Store.{width, row_at, rows_from, job_of}
 use Rattle.job.specs.declared.head.Head.{Head}
@@ -64,11 +67,10 @@ by_columns P x (a ∷ b ∷ c ∷ d ∷ k ∷ f ∷ g ∷ []) e = absurd (omega 
 by_columns P x (a ∷ b ∷ c ∷ d ∷ k ∷ f ∷ g ∷ h ∷ []) e = x a b c d k f g h
 by_columns P x (a ∷ b ∷ c ∷ d ∷ k ∷ f ∷ g ∷ h ∷ i ∷ v) e = absurd (omega arith)
 
--- one more number of a run of stores
-pub sets_more : (l v : List ℕ) (at k : ℕ) → k < length v → set (sets l at (take k v)) (at + k) (get_or v k 0) ≡ sets l at (take (k + 1) v)
-sets_more l v at k h =
-    let e : length (take k v) ≡ k = length-take-le k v (omega arith) in
-    rw (add-one k, take-suc v k 0 h, sets_append l at (take k v) (get_or v k 0 ∷ []), e)
+-- numbers copied over those from a place on
+pub put_mid_sets : (at k : ℕ) (l u v : List ℕ) → u ≡ v → length v ≡ k → at + k ≤ length l → put_mid at k l u ≡ sets l at v
+put_mid_sets at k l u v e n h =
+    put_mid-paste at k l u v (length v) e n refl ∙ rw (take_all (length v) v (omega arith)) (sym (sets-eq v l at (omega arith)))
 
 -- row i written as v
 module _ {A : Type 0} (f : List ℕ → A) (l : List ℕ) (i : ℕ) (v : List ℕ) (eight : length v ≡ width) (first n : ℕ) where

@@ -18,7 +18,7 @@ pub fn put_costs(rows: &mut [u16], costs: [u16; CLASSES])
     requires { length rows.old ≡ store_size }
     ensures { rows.new ≡ sets rows.old costs_from costs }
 {
-    crate::rows::put(rows, COSTS_FROM, &costs)
+    rows[COSTS_FROM..].copy_from_slice(&costs);
 }
 
 // The house numbers.
@@ -34,6 +34,5 @@ pub fn class_cost(rows: &[u16], class: u16) -> u16
     requires { (class ≤ last_class) × (length rows.now ≡ store_size) }
     ensures { result ≡ cost_of (stored_costs rows.now) class }
 {
-    let at = COSTS_FROM + (class as usize);
-    rows[at]
+    rows[COSTS_FROM + (class as usize)]
 }

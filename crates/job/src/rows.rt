@@ -49,28 +49,9 @@ pub fn row_at(rows: &[u16], i: u16) -> [u16; WIDTH]
     ensures { result ≡ row_at rows.now i }
 {
     let at = (i as usize) * WIDTH;
-    [
-        rows[at],
-        rows[at + 1],
-        rows[at + 2],
-        rows[at + 3],
-        rows[at + 4],
-        rows[at + 5],
-        rows[at + 6],
-        rows[at + 7],
-    ]
-}
-
-// Numbers written over those from a place on.
-pub(crate) fn put(rows: &mut [u16], at: usize, numbers: &[u16])
-    requires { at + length numbers.now ≤ length rows.old }
-    ensures { rows.new ≡ sets rows.old at numbers.now }
-{
-    let mut k: usize = 0;
-    while k < numbers.len() {
-        rows[at + k] = numbers[k];
-        k += 1;
-    }
+    let mut numbers = [0; WIDTH];
+    numbers.copy_from_slice(&rows[at..at + WIDTH]);
+    numbers
 }
 
 // Row i, written anew.
@@ -78,5 +59,6 @@ pub fn put_row(rows: &mut [u16], i: u16, numbers: [u16; WIDTH])
     requires { (i < all_rows) × (length rows.old ≡ store_size) }
     ensures { rows.new ≡ sets rows.old (i * width) numbers }
 {
-    put(rows, (i as usize) * WIDTH, &numbers)
+    let at = (i as usize) * WIDTH;
+    rows[at..at + WIDTH].copy_from_slice(&numbers);
 }
