@@ -1,14 +1,9 @@
 -- Laws of the reason that refuses a line.
 -- Assumes nothing.
-use mathlib.Core.Path.{◌≡◌, refl, sym, ◌∙◌}
-use mathlib.Core.Bool.{Bool, true, false}
-use Rattle.std.specs.Prelude.{Option, None, Some}
-use mathlib.Core.List.{List}
-use native.Mathlib.Omega.{arith}
-use Prim.Native.Nat.{ℕ, ◌≤◌, ◌<◌}
-use lib.ListN.{length, get_or}
+use Rattle.std.proofs.Common.{◌≡◌, Option, Some, None, List, ℕ, ◌≤◌, ◌<◌, length, get_or, arith}
 use Rattle.laws.proofs.Tests.{cond_has}
-use Rattle.job.specs.Fault.{range_of, is_in, criteria, first_reason, reason_of, fault}
+use Rattle.job.specs.Refusal.{number_of}
+use Rattle.job.specs.Fault.{range_of, is_in, criteria, reason_of, fault}
 use Rattle.job.specs.ReadJob.{begun}
 use Rattle.job.specs.Store.{width, numbers_of}
 use Rattle.job.specs.declared.head.Counts.{Counts}
@@ -16,12 +11,10 @@ use Rattle.job.specs.declared.line.Line.{Line}
 use Rattle.job.specs.declared.line.Line.TheVariants.{One, Of, End}
 use Rattle.job.specs.declared.line.Heading.{Heading}
 use Rattle.job.specs.declared.line.Heading.TheVariants.{Job, Facts, Init, Formulas, Moves, Goal, Objects, Program}
-use Rattle.job.specs.declared.line.RowSort.{RowSort}
-use Rattle.job.specs.declared.line.LineNumbers.{LineNumbers}
 use Rattle.job.proofs.FrontLaws.{line_front}
 
 -- a line of one number is refused by reason 1, 2 or 3
-pub range_reason : (h : Heading) (c : Counts) → (0 < (range_of h c).reason) × ((range_of h c).reason ≤ 3)
+pub range_reason : (h : Heading) (c : Counts) → (0 < number_of (range_of h c).reason) × (number_of (range_of h c).reason ≤ 3)
 range_reason Job c = omega arith
 range_reason Facts c = omega arith
 range_reason Init c = omega arith
@@ -44,25 +37,12 @@ unfolding fault
 fault_small next c None = omega arith
 fault_small next c (Some r) = reason_small next c r
 
--- the reason by a row's sort
-pub by_sort : (c : Counts) (n : List ℕ) {sort : RowSort} {reason : ℕ} (k : RowSort) → sort ≡ k → reason ≡ first_reason (criteria k c n)
-    → reason ≡ first_reason (criteria sort c n)
-by_sort c n k e h = rw e h
-
--- the reason that refuses a well-formed line, and one of wrong form
-module _ (next : Line) (c : Counts) (r : LineNumbers) where
-  pub fault_of : (k : Line) → next ≡ k → r.formed ≡ true → length r.numbers ≡ width → fault next c (numbers_of next r) ≡ fault k c (Some r.numbers)
+-- a line is judged by no more numbers than it has
+module _ (next : Line) (c : Counts) {line : Option (List ℕ)} where
+  pub fault_of : (r : List ℕ) → line ≡ Some r → length r ≡ width → fault next c (numbers_of next line) ≡ reason_of next c r
   unfolding fault
-  fault_of k e h l = rw (e, h) (line_front c begun k r.numbers l).0
+  fault_of r e l = rw e (line_front c begun next r l).0
 
-  pub fault_form : r.formed ≡ false → fault next c (numbers_of next r) ≡ 1
+  pub fault_none : line ≡ None → fault next c (numbers_of next line) ≡ 1
   unfolding fault
-  fault_form h = rw h
-
-  formed_case : (formed : Bool) → r.formed ≡ formed → fault next c (numbers_of next r) ≡ 0 → r.formed ≡ true
-  formed_case true e h = e
-  formed_case false e h = absurd (omega (arith, sym (fault_form e) ∙ h))
-
-  -- a line that no reason refuses is well formed
-  pub right_formed : fault next c (numbers_of next r) ≡ 0 → r.formed ≡ true
-  right_formed h = formed_case r.formed refl h
+  fault_none e = rw e

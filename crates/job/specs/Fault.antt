@@ -5,7 +5,9 @@ use Rattle.limits.specs.Limits.{most_facts, most_formulas, most_moves, most_move
 use Rattle.job.specs.StateCount.{state_count}
 use Rattle.job.specs.Job.{move_of, effect_of, move_numbers, effect_numbers}
 use Rattle.job.specs.Fields.{formula_fields, move_fields, effect_fields, row_fields, within}
+use Rattle.job.specs.Refusal.{number_of}
 use Rattle.job.specs.declared.head.Counts.{Counts}
+use Rattle.job.specs.declared.refusal.Reason.{Reason}
 use Rattle.job.specs.declared.fault.Range.{Range}
 use Rattle.job.specs.declared.line.Heading.{Heading}
 use Rattle.job.specs.declared.line.Heading.TheVariants.{Job, Facts, Init, Formulas, Moves, Goal, Objects, Program}
@@ -14,21 +16,21 @@ use Rattle.job.specs.declared.line.RowSort.TheVariants.{Formula, Move, Effect, R
 use Rattle.job.specs.declared.line.Line.{Line}
 use Rattle.job.specs.declared.line.Line.TheVariants.{One, Of, End}
 
-abbrev range : ℕ → ℕ → ℕ → Range
+abbrev range : ℕ → ℕ → Reason → Range
 range from below reason = record { from = from; below = below; reason = reason }
 
 -- a line of one number: from which number on, below which number, and which reason refuses any
 -- other. `job=1` is the only first line; reason 2 is "count or init outside its range"; the goal is
 -- a reference
 abbrev pub range_of : Heading → Counts → Range
-range_of Job c = range 1 2 1
-range_of Facts c = range 0 (most_facts + 1) 2
-range_of Init c = range 0 (state_count c.facts) 2
-range_of Formulas c = range 1 (most_formulas + 1) 2
-range_of Moves c = range 0 (most_moves + 1) 2
-range_of Goal c = range 0 c.formulas 3
-range_of Objects c = range 0 (most_objects + 1) 2
-range_of Program c = range 1 (most_program + 1) 2
+range_of Job c = range 1 2 Reason.Form
+range_of Facts c = range 0 (most_facts + 1) Reason.Range
+range_of Init c = range 0 (state_count c.facts) Reason.Range
+range_of Formulas c = range 1 (most_formulas + 1) Reason.Range
+range_of Moves c = range 0 (most_moves + 1) Reason.Range
+range_of Goal c = range 0 c.formulas Reason.Reference
+range_of Objects c = range 0 (most_objects + 1) Reason.Range
+range_of Program c = range 1 (most_program + 1) Reason.Range
 
 abbrev pub is_in : Range → ℕ → Bool
 is_in g n = leb g.from n && ltb n g.below
@@ -55,7 +57,7 @@ first_reason k = cond k.range (cond k.fields 0 3) 2
 
 -- the reason by the numbers of a line that has the form: no line may follow the last
 abbrev pub reason_of : Line → Counts → List ℕ → ℕ
-reason_of (One h) c r = cond (is_in (range_of h c) (get_or r 0 0)) 0 (range_of h c).reason
+reason_of (One h) c r = cond (is_in (range_of h c) (get_or r 0 0)) 0 (number_of (range_of h c).reason)
 reason_of (Of s) c r = first_reason (criteria s c r)
 reason_of End c r = 1
 

@@ -3,6 +3,7 @@ pub mod Job
 pub mod Task
 pub mod Line
 pub mod Fields
+pub mod Refusal
 pub mod Fault
 pub mod ReadJob
 pub mod WellFormed

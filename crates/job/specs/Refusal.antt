@@ -1,5 +1,5 @@
 -- The numbers of refusals: "A refusal returns its number and place".
-use Rattle.std.specs.Prelude.{ℕ}
+use Rattle.std.specs.Prelude.{ℕ, Result, Ok, Err}
 use Rattle.job.specs.declared.refusal.Reason.{Reason}
 use Rattle.job.specs.declared.refusal.Reason.TheVariants.{Form, Range, Reference, Size, Plan, Room, Costs, Pick}
 
@@ -16,3 +16,8 @@ number_of Plan = 5
 number_of Room = 6
 number_of Costs = 7
 number_of Pick = 8
+
+-- the number of the reason that refuses something, 0 where nothing does
+abbrev pub number_told : {A : Type 0} → Result A Reason → ℕ
+number_told (Ok a) = 0
+number_told (Err r) = number_of r

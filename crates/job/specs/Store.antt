@@ -1,7 +1,7 @@
 -- What the store of a task stands for: a head of numbers, and in one list the job's rows of eight
 -- numbers each, every sort from a row of its own on, and the class costs behind them.
-use Rattle.std.specs.Prelude.{ℕ, zero, suc, ◌+◌, ◌*◌, cond, List, [], ◌∷◌, ◌++◌, get_or, take, drop}
-use Rattle.std.specs.Prelude.{Option, None, Some}
+use Rattle.std.specs.Prelude.{ℕ, zero, suc, ◌+◌, ◌*◌, List, [], ◌∷◌, ◌++◌, get_or, take, drop, Option, option_map}
+use Rattle.std.specs.Prelude.{Option}
 use Rattle.limits.specs.Limits.{most_formulas, most_moves, most_effects, most_program, class_count}
 use Rattle.job.specs.Job as J
 use Rattle.job.specs.Job.{Job, formula_of, move_of, effect_of, row_of}
@@ -9,7 +9,6 @@ use Rattle.job.specs.Task.{Task}
 use Rattle.job.specs.Line.{form_of}
 use Rattle.job.specs.declared.head.Head.{Head}
 use Rattle.job.specs.declared.line.Line.{Line}
-use Rattle.job.specs.declared.line.LineNumbers.{LineNumbers}
 use Rattle.job.specs.declared.stored.Formula.{Formula}
 use Rattle.job.specs.declared.stored.Move.{Move}
 use Rattle.job.specs.declared.stored.Effect.{Effect}
@@ -100,8 +99,8 @@ abbrev pub row_in : ProgramRow → J.Row
 row_in r = record { kind = r.kind; a = r.a; b = r.b; c = r.c }
 
 -- a line's numbers, as many as its sort has
-abbrev pub list_of : Line → LineNumbers → List ℕ
-list_of next r = take (form_of next).width r.numbers
+abbrev pub list_of : Line → List ℕ → List ℕ
+list_of next r = take (form_of next).width r
 
-abbrev pub numbers_of : Line → LineNumbers → Option (List ℕ)
-numbers_of next r = cond r.formed (Some (list_of next r)) None
+abbrev pub numbers_of : Line → Option (List ℕ) → Option (List ℕ)
+numbers_of next r = option_map (list_of next) r

@@ -1,7 +1,7 @@
 // What is known of a text beside a job's rows.
 
 // How many facts, objects and rows of each sort a job has.
-#[derive(Clone, Copy)]
+#[derive(Clone, Copy, Default)]
 pub struct Counts {
     pub facts: u16,
     pub formulas: u16,
@@ -12,7 +12,7 @@ pub struct Counts {
 }
 
 // A job but for its rows, which stand in an array.
-#[derive(Clone, Copy)]
+#[derive(Clone, Copy, Default)]
 pub struct Head {
     pub counts: Counts,
     pub init: u16,

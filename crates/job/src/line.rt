@@ -1,5 +1,4 @@
-// The lines of a job text, and the numbers of a line.
-use crate::rows::WIDTH;
+// The lines of a job text.
 
 // The lines of one number, in the order in which they come. Rows follow those that count them.
 #[derive(Clone, Copy)]
@@ -29,11 +28,4 @@ pub enum Line {
     One(Heading),
     Of(RowSort),
     End,
-}
-
-// The numbers of a line, as many as its sort has, where it is well formed; the others are 0.
-#[derive(Clone, Copy)]
-pub struct LineNumbers {
-    pub formed: bool,
-    pub numbers: [u16; WIDTH],
 }

@@ -19,7 +19,6 @@ use Rattle.job.specs.declared.line.RowSort.{RowSort}
 use Rattle.job.specs.declared.line.RowSort.TheVariants.{Formula, Move, Effect, Row}
 use Rattle.job.specs.declared.line.Line.{Line}
 use Rattle.job.specs.declared.line.Line.TheVariants.{Of}
-use Rattle.job.specs.declared.line.LineNumbers.{LineNumbers}
 use Rattle.job.proofs.FrontLaws.{line_front}
 use Rattle.job.proofs.StoreLaws.{rows_length, by_columns, put_behind, put_before, put_next}
 use Rattle.reader.specs.Reading.{reading_of, head_after, place_of, one_more}
@@ -122,10 +121,10 @@ pub reading_of_lem : {s : ReaderState} {t : List ℕ} (next : Line) (due effects
 reading_of_lem next due effects h u after d e g j state rows line a b head job = rw (state, rows, line, a, b, head) (ap (on (after d e) d e) job)
 
 -- a line taken in, by which came next
-module _ (s : ReaderState) (l : List ℕ) (r : LineNumbers) (k : Line) (e : s.next ≡ k) where
-  pub taken_of : length r.numbers ≡ width → taken (reading_of s l) (list_of s.next r) ≡ taken_at k (reading_of s l) r.numbers
+module _ (s : ReaderState) (l r : List ℕ) (k : Line) (e : s.next ≡ k) where
+  pub taken_of : length r ≡ width → taken (reading_of s l) (list_of s.next r) ≡ taken_at k (reading_of s l) r
   unfolding taken
-  taken_of h = ap (λ q. taken_at q (reading_of s l) (list_of q r)) e ∙ (line_front s.head.counts (reading_of s l) k r.numbers h).1
+  taken_of h = ap (λ q. taken_at q (reading_of s l) (list_of q r)) e ∙ (line_front s.head.counts (reading_of s l) k r h).1
 
   pub room_at : {c : Counts} → Room s.next s.due s.effects c → Room k s.due s.effects c
   room_at h = rw e at h

@@ -17,15 +17,16 @@ use Rattle.job.specs.Job.{counts_of}
 use Rattle.job.specs.Line.{line_numbers}
 use Rattle.job.specs.Fault.{fault}
 use Rattle.job.specs.ReadJob.{Reading, read, refused, is_end, ended, read_from, begun, taken, read_job}
+use Rattle.job.specs.Refusal.{number_of}
+use Rattle.job.specs.declared.refusal.Reason.{Reason}
+use Rattle.job.specs.declared.refusal.Reason.TheVariants.{Form, Range, Reference, Size, Plan, Room, Costs, Pick}
 use Rattle.job.specs.Store.{job_of, list_of, numbers_of}
 use Rattle.job.specs.WellFormed.{WellFormed}
 use Rattle.job.specs.declared.line.Line.{Line}
 use Rattle.job.specs.declared.line.Line.TheVariants.{One, Of, End}
-use Rattle.job.specs.declared.line.LineNumbers.{LineNumbers}
-use Rattle.job.proofs.FaultLaws.{right_formed}
 use Rattle.job.proofs.StoreLaws.{counts_of_lem}
 use Rattle.reader.specs.Reading.{reading_of}
-use Rattle.reader.specs.Room.{Room}
+use Rattle.reader.specs.Room as S
 use Rattle.reader.specs.declared.taking.ReaderState.{ReaderState}
 use Rattle.reader.proofs.RoomLaws.{LineRight, fault_right}
 use Rattle.reader.proofs.FormedLaws.{FormedSoFar, taken_formed, begun_formed, end_well_formed}
@@ -58,20 +59,31 @@ unfolding read_from
 read_ended text i n s h e = e ∙ rw (lines_past text i h)
 
 -- the numbers of a line as the code has them
-module _ (s : ReaderState) (rows line : List ℕ) (r : LineNumbers) (numbers-read : numbers_of s.next r ≡ line_numbers s.next line) where
-  pub reason_of_lem : fault s.next s.head.counts (numbers_of s.next r) ≡ reason (reading_of s rows) line
+module _ (s : ReaderState) (rows line : List ℕ) (o : Option (List ℕ)) (numbers-read : numbers_of s.next o ≡ line_numbers s.next line) where
+  pub reason_of_lem : fault s.next s.head.counts (numbers_of s.next o) ≡ reason (reading_of s rows) line
   reason_of_lem = rw (counts_of_lem s.head rows, numbers-read)
 
-  module _ (zero-reason : fault s.next s.head.counts (numbers_of s.next r) ≡ 0) where
+  module _ (r : List ℕ) (e : o ≡ Some r) where
     pub numbers_of_lem : line_numbers s.next line ≡ Some (list_of s.next r)
-    numbers_of_lem = sym numbers-read ∙ rw (right_formed s.next s.head.counts r zero-reason)
+    numbers_of_lem = sym numbers-read ∙ rw e
 
-    pub right_of : LineRight s.next (counts_of (job_of s.head rows)) (list_of s.next r)
-    right_of =
+    pub right_of : fault s.next s.head.counts (numbers_of s.next o) ≡ 0 → LineRight s.next (counts_of (job_of s.head rows)) (list_of s.next r)
+    right_of h =
         fault_right s.next (counts_of (job_of s.head rows)) (list_of s.next r)
-        (ap (fault s.next (counts_of (job_of s.head rows))) (sym numbers_of_lem) ∙ sym reason_of_lem ∙ zero-reason)
+        (ap (fault s.next (counts_of (job_of s.head rows))) (sym numbers_of_lem) ∙ sym reason_of_lem ∙ h)
 
-pub room_of : (s : ReaderState) (rows : List ℕ) → FormedSoFar (reading_of s rows) → Room s.next s.due s.effects s.head.counts
+-- no reason has the number 0
+pub number_of_positive : (r : Reason) → number_of r ≡ 0 → ⊥
+number_of_positive Form e = omega arith
+number_of_positive Range e = omega arith
+number_of_positive Reference e = omega arith
+number_of_positive Size e = omega arith
+number_of_positive Plan e = omega arith
+number_of_positive Room e = omega arith
+number_of_positive Costs e = omega arith
+number_of_positive Pick e = omega arith
+
+pub room_of : (s : ReaderState) (rows : List ℕ) → FormedSoFar (reading_of s rows) → S.Room s.next s.due s.effects s.head.counts
 room_of s rows k = rw (counts_of_lem s.head rows) at k.room
 
 -- the end, where a text is read

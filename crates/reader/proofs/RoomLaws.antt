@@ -12,6 +12,7 @@ use borrow.Author.Tests.{eqb-true, eqb-false, leb-true, ltb-true}
 use Rattle.laws.proofs.Tests.{and_left, and_right, cond_has}
 use Rattle.limits.specs.Limits.{most_facts, most_formulas, most_moves, most_move_effects, most_effects, most_objects, most_program}
 use Rattle.job.specs.Job.{counts_of, formula_of, move_of, effect_of, row_of}
+use Rattle.job.specs.Refusal.{number_of}
 use Rattle.job.specs.Fault.{range_of, is_in, criteria, reason_of, fault}
 use Rattle.job.specs.ReadJob.{Reading, past, again, after_row, job_after, taken_at, taken}
 use Rattle.job.specs.declared.head.Counts.{Counts}
@@ -38,7 +39,7 @@ right_by false y h = absurd (omega arith)
 reason_right : (k : Line) (c : Counts) (r : List ℕ) → reason_of k c r ≡ 0 → LineRight k c r
 reason_right (One h) c r =
     let n : ℕ = get_or r 0 0 in
-    cond_has (λ (q : ℕ). q ≡ 0 → LineRight (One h) c r) (is_in (range_of h c) n) 0 (range_of h c).reason
+    cond_has (λ (q : ℕ). q ≡ 0 → LineRight (One h) c r) (is_in (range_of h c) n) 0 (number_of (range_of h c).reason)
     (λ b e. (
       leb-true (range_of h c).from n (and_left (leb (range_of h c).from n) (ltb n (range_of h c).below) b),
       ltb-true n (range_of h c).below (and_right (leb (range_of h c).from n) (ltb n (range_of h c).below) b),

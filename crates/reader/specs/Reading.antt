@@ -1,19 +1,17 @@
 -- What the reader's states and answers stand for.
-use Rattle.std.specs.Prelude.{ℕ, ◌+◌, List}
-use Rattle.job.specs.Job.{Scalars, scalars, counts}
+use Rattle.std.specs.Prelude.{ℕ, ◌+◌, List, Result, Ok, Err}
 use Rattle.job.specs.Refusal.{number_of}
+use Rattle.job.specs.Job.{Scalars, scalars, counts}
 use Rattle.job.specs.ReadJob.{Reading, on, scalars_after, Outcome, read, refused}
 use Rattle.job.specs.Store.{moves_from, effects_from, program_from, job_of}
 use Rattle.job.specs.declared.head.Counts.{Counts}
 use Rattle.job.specs.declared.head.Head.{Head}
-use Rattle.job.specs.declared.refusal.Reason.TheVariants.{Form}
 use Rattle.job.specs.declared.refusal.Refusal.{Refusal}
 use Rattle.job.specs.declared.line.Heading.{Heading}
 use Rattle.job.specs.declared.line.RowSort.{RowSort}
 use Rattle.job.specs.declared.line.RowSort.TheVariants.{Formula, Move, Effect, Row}
 use Rattle.reader.specs.declared.taking.ReaderState.{ReaderState}
-use Rattle.reader.specs.declared.reading.Answer.{Answer}
-use Rattle.reader.specs.declared.reading.Answer.TheVariants.{Read, Refused}
+use Rattle.reader.specs.declared.reading.Read.{Read}
 
 -- the head after a line of one number
 abbrev with_scalars : Head → Scalars → Head
@@ -43,11 +41,6 @@ abbrev pub reading_of : ReaderState → List ℕ → Reading
 reading_of s l = on s.next s.due s.effects (job_of s.head l)
 
 -- document 01's number and values for each case of the answer, with the rows as they are stored
-abbrev pub outcome_of : Answer → List ℕ → Outcome
-outcome_of (Read n h) l = read n (job_of h l)
-outcome_of (Refused r) l = refused (number_of r.reason) r.place
-
--- the refusal that an answer is
-abbrev pub read_refusal : Answer → Refusal
-read_refusal (Read n h) = record { reason = Form; place = 0 }
-read_refusal (Refused r) = r
+abbrev pub outcome_of : Result Read Refusal → List ℕ → Outcome
+outcome_of (Ok r) l = read r.lines (job_of r.head l)
+outcome_of (Err r) l = refused (number_of r.reason) r.place

@@ -8,7 +8,7 @@ ghost use Rattle.reader.specs.Reading.{reading_of, head_after, place_of, one_mor
 ghost use Rattle.reader.specs.Room.{Room};
 
 use job::head::{Counts, Head};
-use job::line::{Heading, Line, LineNumbers, RowSort};
+use job::line::{Heading, Line, RowSort};
 use job::rows::{EFFECTS_FROM, MOVES_FROM, PROGRAM_FROM, WIDTH};
 
 // A text that is being read: the line that comes next, how many rows are due by the number of the
@@ -26,8 +26,7 @@ fn past(sort: RowSort) -> Line
 {
     match sort {
         RowSort::Formula => Line::One(Heading::Moves),
-        RowSort::Move => Line::One(Heading::Goal),
-        RowSort::Effect => Line::One(Heading::Goal),
+        RowSort::Move | RowSort::Effect => Line::One(Heading::Goal),
         RowSort::Row => Line::End,
     }
 }
@@ -36,23 +35,19 @@ fn again(sort: RowSort) -> RowSort
     ensures { result ≡ again_of sort }
 {
     match sort {
-        RowSort::Formula => RowSort::Formula,
-        RowSort::Move => RowSort::Move,
         RowSort::Effect => RowSort::Move,
-        RowSort::Row => RowSort::Row,
+        _ => sort,
     }
 }
 
 fn after_row(sort: RowSort, due: u16, effects: u16) -> Line
     ensures { result ≡ after_row sort due effects }
 {
-    if effects == 0 {
-        if due == 0 {
-            return past(sort);
-        }
-        return Line::Of(again(sort));
+    match (effects, due) {
+        (0, 0) => past(sort),
+        (0, _) => Line::Of(again(sort)),
+        _ => Line::Of(RowSort::Effect),
     }
-    Line::Of(RowSort::Effect)
 }
 
 fn after_one(heading: Heading, n: u16) -> Line
@@ -70,40 +65,18 @@ fn after_one(heading: Heading, n: u16) -> Line
     }
 }
 
-fn on(next: Line, due: u16, effects: u16, head: Head) -> ReaderState
-    ensures { result ≡ record { next = next; due = due; effects = effects; head = head } }
-{
-    ReaderState {
-        next: next,
-        due: due,
-        effects: effects,
-        head: head,
-    }
-}
-
 fn head_after(heading: Heading, n: u16, head: Head) -> Head
     ensures { result ≡ head_after heading n head }
 {
     let mut h = head;
     match heading {
-        Heading::Job => {}
         Heading::Facts => h.counts.facts = n,
         Heading::Init => h.init = n,
-        Heading::Formulas => {}
-        Heading::Moves => {}
         Heading::Goal => h.goal = n,
         Heading::Objects => h.counts.objects = n,
-        Heading::Program => {}
+        Heading::Job | Heading::Formulas | Heading::Moves | Heading::Program => {}
     }
     h
-}
-
-// A line of one number sets a scalar or says how many rows come.
-fn take_one(s: ReaderState, heading: Heading, n: u16) -> ReaderState
-    ensures { (l : List ℕ) → reading_of result l ≡ taken_one heading (reading_of s l) n }
-{
-    let h = head_after(heading, n, s.head);
-    on(after_one(heading, n), n, s.effects, h)
 }
 
 fn place(sort: RowSort, c: Counts) -> u16
@@ -132,20 +105,12 @@ fn one_more(sort: RowSort, c: Counts) -> Counts
     d
 }
 
-fn one_less(n: u16) -> u16
-    ensures { result ≡ n - 1 }
-{
-    if n == 0 { 0 } else { n - 1 }
-}
-
 fn due_after(sort: RowSort, due: u16) -> u16
     ensures { result ≡ due_after sort due }
 {
     match sort {
-        RowSort::Formula => one_less(due),
-        RowSort::Move => one_less(due),
         RowSort::Effect => due,
-        RowSort::Row => one_less(due),
+        RowSort::Formula | RowSort::Move | RowSort::Row => due.saturating_sub(1),
     }
 }
 
@@ -153,44 +118,57 @@ fn effects_after(sort: RowSort, effects: u16, numbers: [u16; WIDTH]) -> u16
     ensures { result ≡ effects_after sort effects numbers }
 {
     match sort {
-        RowSort::Formula => effects,
+        RowSort::Formula | RowSort::Row => effects,
         RowSort::Move => job::rows::effect_count(numbers),
-        RowSort::Effect => one_less(effects),
-        RowSort::Row => effects,
+        RowSort::Effect => effects.saturating_sub(1),
     }
 }
 
-// A row is stored behind the earlier rows of its sort.
-fn take_row(s: ReaderState, sort: RowSort, numbers: [u16; WIDTH], rows: &mut [u16]) -> ReaderState
-    requires room { Room (Line.Of sort) s.due s.effects s.head.counts }
-    requires rows_len { length rows.old ≡ store_size }
-    ensures { reading_of result rows.new ≡ taken_row sort (reading_of s rows.old) numbers }
-{
-    let head = s.head;
-    let c = head.counts;
-    let row = job::rows::stored_row(numbers, c.effects);
-    job::rows::put_row(rows, place(sort, c), row);
-    let h = Head {
-        counts: one_more(sort, c),
-        init: head.init,
-        goal: head.goal,
-    };
-    let due = due_after(sort, s.due);
-    let effects = effects_after(sort, s.effects, numbers);
-    on(after_row(sort, due, effects), due, effects, h)
-}
+impl ReaderState {
+    // A line of one number sets a scalar or says how many rows come.
+    fn take_one(self, heading: Heading, n: u16) -> ReaderState
+        ensures { (l : List ℕ) → reading_of result l ≡ taken_one heading (reading_of self l) n }
+    {
+        ReaderState {
+            next: after_one(heading, n),
+            due: n,
+            effects: self.effects,
+            head: head_after(heading, n, self.head),
+        }
+    }
 
-// The line that comes next taken in.
-pub fn take_line(s: ReaderState, line: LineNumbers, rows: &mut [u16]) -> ReaderState
-    requires room { Room s.next s.due s.effects s.head.counts }
-    requires rows_len { length rows.old ≡ store_size }
-    ensures { reading_of result rows.new ≡ taken (reading_of s rows.old) (list_of s.next line) }
-{
-    let next = s.next;
-    let numbers = line.numbers;
-    match next {
-        Line::One(heading) => take_one(s, heading, numbers[0]),
-        Line::Of(sort) => take_row(s, sort, numbers, rows),
-        Line::End => s,
+    // A row is stored behind the earlier rows of its sort.
+    fn take_row(self, sort: RowSort, numbers: [u16; WIDTH], rows: &mut [u16]) -> ReaderState
+        requires room { Room (Line.Of sort) self.due self.effects self.head.counts }
+        requires rows_len { length rows.old ≡ store_size }
+        ensures { reading_of result rows.new ≡ taken_row sort (reading_of self rows.old) numbers }
+    {
+        let counts = self.head.counts;
+        let row = job::rows::stored_row(numbers, counts.effects);
+        job::rows::put_row(rows, place(sort, counts), row);
+        let due = due_after(sort, self.due);
+        let effects = effects_after(sort, self.effects, numbers);
+        ReaderState {
+            next: after_row(sort, due, effects),
+            due,
+            effects,
+            head: Head {
+                counts: one_more(sort, counts),
+                ..self.head
+            },
+        }
+    }
+
+    // The numbers of the line that comes next taken in.
+    pub fn take_line(self, numbers: [u16; WIDTH], rows: &mut [u16]) -> ReaderState
+        requires room { Room self.next self.due self.effects self.head.counts }
+        requires rows_len { length rows.old ≡ store_size }
+        ensures { reading_of result rows.new ≡ taken (reading_of self rows.old) (list_of self.next numbers) }
+    {
+        match self.next {
+            Line::One(heading) => self.take_one(heading, numbers[0]),
+            Line::Of(sort) => self.take_row(sort, numbers, rows),
+            Line::End => self,
+        }
     }
 }
