@@ -1,9 +1,9 @@
 -- Laws of the reason that refuses a line.
 -- Assumes nothing.
-use Rattle.std.proofs.Common.{◌≡◌, Option, Some, None, List, ℕ, ◌≤◌, ◌<◌, length, get_or, arith}
+use Rattle.std.proofs.Common.{◌≡◌, Bool, true, false, Option, Some, None, List, ℕ, ◌≤◌, ◌<◌, length, get_or, arith}
 use Rattle.laws.proofs.Tests.{cond_has}
 use Rattle.job.specs.Refusal.{number_of}
-use Rattle.job.specs.Fault.{range_of, is_in, criteria, reason_of, fault}
+use Rattle.job.specs.Fault.{range_of, is_in, criteria, first_reason, reason_of, fault}
 use Rattle.job.specs.ReadJob.{begun}
 use Rattle.job.specs.Store.{width, numbers_of}
 use Rattle.job.specs.declared.head.Counts.{Counts}
@@ -24,11 +24,15 @@ range_reason Goal c = omega arith
 range_reason Objects c = omega arith
 range_reason Program c = omega arith
 
+row_small : (range fields : Bool) → first_reason (record { range = range; fields = fields }) ≤ 3
+row_small true true = omega arith
+row_small true false = omega arith
+row_small false true = omega arith
+row_small false false = omega arith
+
 reason_small : (next : Line) (c : Counts) (r : List ℕ) → reason_of next c r ≤ 3
 reason_small (One h) c r = cond_has (λ n. n ≤ 3) (is_in (range_of h c) (get_or r 0 0)) 0 _ (λ e. omega arith) (λ e. (range_reason h c).1)
-reason_small (Of k) c r =
-    cond_has (λ n. n ≤ 3) (criteria k c r).range _ 2 (λ f. cond_has (λ n. n ≤ 3) (criteria k c r).fields 0 3 (λ g. omega arith) (λ g. omega arith))
-    (λ f. omega arith)
+reason_small (Of k) c r = row_small (criteria k c r).range (criteria k c r).fields
 reason_small End c r = omega arith
 
 -- and so is every line
