@@ -4,7 +4,6 @@ ghost use Rattle.jesmovit.specs.JobText.{Reads};
 use job::head::Counts;
 use job::refusal::Refusal;
 use job::rows::STORE;
-use reader::reading::Answer;
 
 // How many facts, objects and rows of each sort the job has; or why the text is refused.
 #[derive(Clone, Copy)]
@@ -18,11 +17,8 @@ pub fn read_job(text: &[u8]) -> ReadAnswer
     ensures { Reads text.now result }
 {
     let mut rows = [0u16; STORE];
-    let answer = reader::reading::read_job(text, &mut rows);
-    let Answer::Read(_, head) = answer else {
-        let r = reader::reading::refusal(answer);
-        return ReadAnswer::Refused(r);
-    };
-    let counts = head.counts;
-    ReadAnswer::Read(counts)
+    match reader::reading::read_job(text, &mut rows) {
+        Ok(read) => ReadAnswer::Read(read.head.counts),
+        Err(refusal) => ReadAnswer::Refused(refusal),
+    }
 }

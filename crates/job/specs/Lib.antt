@@ -11,4 +11,3 @@ pub mod Store
 pub mod Stored
 pub mod Props
 pub mod StoredTask
-pub mod Refusal

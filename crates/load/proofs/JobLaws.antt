@@ -22,9 +22,6 @@ use Rattle.job.specs.Refusal.{number_of}
 use Rattle.job.specs.declared.refusal.Reason.TheVariants.{Size, Pick}
 use Rattle.job.specs.declared.refusal.Refusal.{Refusal}
 use Rattle.job.proofs.CostLaws.{house_within, costs_put, job_kept, costs_stored}
-use Rattle.reader.specs.Reading as S
-use Rattle.reader.specs.Reading.{outcome_of}
-use Rattle.reader.specs.declared.reading.Answer.{Answer}
 use Rattle.reader.proofs.ReadLaws.{read_well_formed}
 use Rattle.domain.specs.Domain.{domain_in}
 use Rattle.compile.specs.CompiledJob.{position_count, step_count, fits, program_scoped}
@@ -53,20 +50,15 @@ module _ (text rows : List ℕ) where
   Post answer = (job_as answer rows ≡ job_in text) × AtHouse answer rows
 
   -- what reading refuses
-  pub load_refused : {a : Answer} {q r : Refusal} → a ≡ Answer.Refused q → r ≡ S.read_refusal a → outcome_of a rows ≡ read_job text
-      → Post (Loaded.Refused r)
+  pub load_refused : (r : Refusal) → R.refused (number_of r.reason) r.place ≡ read_job text → Post (Loaded.Refused r)
   unfolding job_in
-  load_refused {a} {q} {r} g f e = (
-    ap (λ (x : Refusal). refused (number_of x.reason) x.place) (f ∙ ap S.read_refusal g)
-        ∙ ap compilable (ap (λ (x : Answer). outcome_of x rows) (sym g) ∙ e),
-    tt,
-  )
+  load_refused r e = (ap compilable e, tt)
 
 -- what it reads, with the house's costs written behind its rows
-module _ (text rows : List ℕ) {a : Answer} (n : ℕ) (h : Head) (g : a ≡ Answer.Read n h) (e : outcome_of a rows ≡ read_job text)
+module _ (text rows : List ℕ) (n : ℕ) (h : Head) (e : R.read n (job_of h rows) ≡ read_job text)
     (size : length rows ≡ store_size) {after : List ℕ} (put : after ≡ sets rows costs_from house_costs) where
   reads_before : read_job text ≡ R.read n (job_of h rows)
-  reads_before = sym e ∙ ap (λ (x : Answer). outcome_of x rows) g
+  reads_before = sym e
 
   right : WellFormed (job_of h rows)
   right = read_well_formed text n (job_of h rows) reads_before

@@ -12,7 +12,6 @@ use job::head::Head;
 use job::refusal::{Reason, Refusal};
 use job::task::Task;
 use limits::{POSITIONS, STEPS};
-use reader::reading::Answer;
 
 // Reasons 8 and 4, for a job that was read from so many lines; no entries are stored.
 fn load_read(head: Head, rows: &[u16], lines: usize) -> Loaded
@@ -50,13 +49,12 @@ fn load_job(text: &[u8], rows: &mut [u16]) -> Loaded
     requires { length rows.old ≡ store_size }
     ensures { (job_as result rows.new ≡ job_in text.now) × AtHouse result rows.new }
 {
-    let answer = reader::reading::read_job(text, rows);
-    let Answer::Read(lines, head) = answer else {
-        let r = reader::reading::refusal(answer);
-        return Loaded::Refused(r);
+    let read = match reader::reading::read_job(text, rows) {
+        Ok(read) => read,
+        Err(refusal) => return Loaded::Refused(refusal),
     };
     job::costs::put_house_costs(rows);
-    load_read(head, rows, lines)
+    load_read(read.head, rows, read.lines)
 }
 
 // Reason 7, for a job that was loaded, where there is a costs text; its costs are then stored.
