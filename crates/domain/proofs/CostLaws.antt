@@ -1,11 +1,7 @@
 -- What a move costs: its class, and where its formula holds the second one too; at most what two classes
 -- may cost.
 -- Assumes nothing.
-use Prim.Native.Nat.{ℕ, ◌+◌, ◌≤◌}
-use mathlib.Core.Path.{◌≡◌}
-use mathlib.Core.Bool.{true, false}
-use mathlib.Core.List.{List}
-use native.Mathlib.Omega.{arith}
+use Rattle.std.proofs.Common.{ℕ, ◌+◌, ◌≤◌, ◌≡◌, true, false, List, arith}
 use Rattle.laws.proofs.Tests.{cond_has}
 use Rattle.limits.specs.Limits.{most_cost}
 use Rattle.job.specs.Job.{Move, move_at}

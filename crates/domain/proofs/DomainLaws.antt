@@ -1,9 +1,6 @@
 -- The domain of a well-formed job and costs is bounded, and has at most so many states.
 -- Assumes nothing.
-use Prim.Native.Nat.{ℕ, ◌≤◌, ◌<◌}
-use mathlib.Core.List.{List}
-use mathlib.Core.Path.{◌≡◌}
-use Rattle.std.specs.Prelude.{Some}
+use Rattle.std.proofs.Common.{ℕ, ◌≤◌, ◌<◌, List, ◌≡◌, Some}
 use Rattle.limits.specs.Limits.{most_states, most_cost}
 use Rattle.job.specs.StateCount.{state_count}
 use Rattle.job.specs.Job.{Job, move_at}

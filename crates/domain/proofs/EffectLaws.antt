@@ -1,16 +1,12 @@
 -- Effects of a move: one more, the same by values that tell the same, and what the sets of facts that
 -- get 0 and 1 say of a conflict and of the state after.
 -- Assumes nothing.
-use Prim.Native.Nat.{ℕ, ◌+◌, ◌^◌, ◌≤◌, ◌<◌}
-use mathlib.Core.Path.{◌≡◌, refl, sym, ◌∙◌, ap, ap₂}
-use mathlib.Core.Bool.{Bool, true, false, cond, not, ◌&&◌, ◌||◌, or-true}
-use mathlib.Core.List.{List, [], ◌∷◌}
-use native.Mathlib.Omega.{arith}
-use lib.Dec.{eqb}
-use lib.ListN.{length, get_or, take, drop, length-drop}
+use Rattle.std.proofs.Common.{ℕ, ◌+◌, ◌^◌, ◌≤◌, ◌<◌, ◌≡◌, refl, sym, ◌∙◌, ap, ap₂, Bool, true, false, cond, not, ◌&&◌, ◌||◌, List, [], ◌∷◌, arith}
+use Rattle.std.proofs.Common.{eqb, length, get_or, take, drop, length-drop, bit_and, bit_or}
+use mathlib.Core.Bool.{or-true}
 use lib.Seq.{get_or-drop}
 use lib.Pow.{pow_pos}
-use lib.Bits.{bit_and, bit_or, and_le_l, or_lt}
+use lib.Bits.{and_le_l, or_lt}
 use Rattle.std.specs.Int.{w16, bit_not}
 use Rattle.limits.specs.Limits.{most_facts, most_states}
 use borrow.Author.Tests.{eqb-true}

@@ -1,6 +1,7 @@
 -- Facts of a state: those of the operations on bits, and of a state that has one fact or none.
 -- Assumes nothing.
-use Rattle.std.proofs.Common.{ℕ, zero, suc, ◌≡◌, ◌^◌, ◌*◌, ◌-◌, ◌≤◌, ◌<◌, min, max, Bool, true, false, cond, not, ◌&&◌, ◌||◌, eqb, bit_and, bit_or, refl, sym, arith, one-mul, zero-mul}
+use Rattle.std.proofs.Common.{ℕ, zero, suc, ◌≡◌, ◌^◌, ◌*◌, ◌-◌, ◌≤◌, ◌<◌, min, max, Bool, true, false, cond, not, ◌&&◌, ◌||◌, eqb, bit_and, bit_or}
+use Rattle.std.proofs.Common.{refl, sym, arith, one-mul, zero-mul}
 use native.Mathlib.Nat.{pow-le-pow_right}
 use native.Mathlib.Decide.{dec_lt, ℕ_discrete}
 use mir.Val.{bool_byte}

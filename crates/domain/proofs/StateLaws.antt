@@ -1,16 +1,14 @@
 -- A state of n facts is `state_with` of its own facts; `state_with n p` has, of facts below n, those that p
 -- tells.
 -- Assumes nothing.
-use Prim.Native.Nat.{ℕ, zero, suc, ◌+◌, ◌*◌, ◌/◌, ◌%◌, ◌^◌, ◌<◌}
-use mathlib.Core.Path.{◌≡◌, refl, sym, ◌∙◌, ap}
-use mathlib.Core.Bool.{Bool, true, false, cond, ◌&&◌, ◌||◌, and-true, and-false, or-false}
-use native.Mathlib.Omega.{arith}
-use native.Mathlib.Nat.{one-mul, mod-lt, mod-one, mod-eq_of_lt, pow-suc}
+use Rattle.std.proofs.Common.{ℕ, zero, suc, ◌+◌, ◌*◌, ◌/◌, ◌%◌, ◌^◌, ◌<◌, ◌≡◌, refl, sym, ◌∙◌, ap, Bool, true, false, cond, ◌&&◌, ◌||◌, arith}
+use Rattle.std.proofs.Common.{one-mul, mod-lt, mod-eq_of_lt, pow-suc, eqb, bit_or}
+use mathlib.Core.Bool.{and-true, and-false, or-false}
+use native.Mathlib.Nat.{mod-one}
 use native.Mathlib.Decide.{ℕ_discrete}
-use lib.Dec.{eqb}
 use lib.Arith.{mod-mul}
 use lib.Pow.{pow_pos}
-use lib.Bits.{bit_or, or_shifted}
+use lib.Bits.{or_shifted}
 use borrow.Author.Tests.{eq-eqb, ne_eqb}
 use Rattle.laws.proofs.Tests.{cond_has}
 use Rattle.domain.specs.State.{fact, state_with}

@@ -1,12 +1,9 @@
 -- The values of formulas, stored one behind the other in an array that is false at first.
 -- Assumes nothing.
-use Prim.Native.Nat.{ℕ, ◌+◌, ◌≤◌, ◌<◌}
-use mathlib.Core.Path.{◌≡◌, sym, ◌∙◌, ap}
-use mathlib.Core.Bool.{Bool, false}
-use mathlib.Core.List.{List, [], ◌∷◌, ◌++◌}
-use native.Mathlib.Omega.{arith}
+use Rattle.std.proofs.Common.{ℕ, ◌+◌, ◌≤◌, ◌<◌, ◌≡◌, sym, ◌∙◌, ap, Bool, false, List, [], ◌∷◌, ◌++◌, arith, length, get_or, take, set, replicate}
+use Rattle.std.proofs.Common.{length-append}
 use native.Mathlib.Decide.{dec_lt}
-use lib.ListN.{length, get_or, take, set, replicate, length-append, get_or-append, get_or-eq_default}
+use lib.ListN.{get_or-append, get_or-eq_default}
 use lib.Seq.{take_all, length-take-le, get_or-set_same, get_or-set_other, get_or_at}
 use Rattle.laws.proofs.Lists.{replicate_default}
 use Rattle.laws.proofs.Growing.{grown_length}
