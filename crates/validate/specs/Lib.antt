@@ -1,4 +1,3 @@
 pub mod Counted
-pub mod Wanted
 pub mod Positions
 pub mod Verdict

@@ -5,4 +5,3 @@ pub mod moves;
 pub mod position_set;
 pub mod steps;
 pub mod verdict;
-pub mod wanted;

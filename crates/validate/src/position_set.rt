@@ -7,8 +7,9 @@ ghost use Rattle.domain.specs.Domain.{domain_at};
 ghost use Rattle.compiled.specs.Adjacency.{steps_on};
 ghost use Rattle.validate.specs.Counted.{Counted};
 
-use crate::wanted::Wanted;
+use compile::label::Label;
 use compiled::index::StepIndex;
+use compiled::steps::OutStep;
 use domain::world::World;
 use limits::POSITIONS;
 
@@ -23,8 +24,7 @@ pub struct PositionSet {
 }
 
 impl PositionSet {
-    ghost use Rattle.validate.specs.Wanted.{wanted_by};
-    ghost use Rattle.validate.specs.Positions.{Marking, Followed};
+    ghost use Rattle.validate.specs.Positions.{Marking, Follows};
 
     // No position.
     fn empty() -> PositionSet
@@ -61,14 +61,15 @@ impl PositionSet {
     }
 
     // Marks the ends of the wanted steps from position p.
-    fn follow(&mut self, index: &StepIndex, wanted: Wanted, p: u16)
-        requires { p < most_positions }
-        ensures { Followed (wanted_by wanted.entry) (steps_on index.now.list.now) p self.old self.new }
+    fn follow<F: Fn(OutStep) -> bool>(&mut self, index: &StepIndex, p: u16, wanted: F)
+        requires inside { p < most_positions }
+        requires callable { F.IsAlwaysCallable wanted }
+        ensures { Follows F.Fn wanted (steps_on index.now.list.now) p self.old self.new }
     {
         let mut next = index.last_from(p as usize);
         while let Some(k) = next {
             let step = index.step(k);
-            if wanted.takes(step) {
+            if wanted(step) {
                 self.mark(step.to);
             }
             next = index.before(k);
@@ -85,7 +86,7 @@ impl PositionSet {
         // A while: the set grows as it is walked.
         while at < set.count {
             let p = set.members[at];
-            set.follow(index, Wanted::Silent(world), p);
+            set.follow(index, p, |step| step.is_silent(world));
             at += 1;
         }
         set
@@ -97,7 +98,11 @@ impl PositionSet {
     {
         let mut next = PositionSet::empty();
         for p in &self.members[..self.count] {
-            next.follow(index, Wanted::Move(m), *p);
+            next.follow(
+                index,
+                *p,
+                |step| matches!(step.label, Label::Make(a) if a == m),
+            );
         }
         next
     }
