@@ -4,6 +4,7 @@ use Prim.Native.Nat.{ℕ}
 use mathlib.Core.Path.{◌≡◌, refl, sym, subst}
 use mathlib.Core.Bool.{Bool, true, false, cond}
 use mathlib.Core.List.{List}
+use Rattle.std.specs.Prelude.{Option, Some}
 use native.Mathlib.Omega.{arith}
 use lib.Dec.{leb}
 use borrow.Author.Tests.{leb-true, leb-false}
@@ -28,9 +29,9 @@ use Rattle.jesmovit.proofs.CostLaws.{table_of}
 
 -- a plan is allowed, so there is a least cost
 module _ (D : Domain) (σ : Program) where
-  least_allowed : (c : ℕ) → LeastOr D σ c → {ms : List ℕ} → Allowed D σ ms → Least D σ c
-  least_allowed c (found h x) a = x
-  least_allowed c (no_plan h) {ms} a = absurd (h ms a)
+  least_allowed : {o : Option ℕ} {low : ℕ} → LeastOr D σ o → ((c : ℕ) → o ≡ Some c → low ≡ c) → {ms : List ℕ} → Allowed D σ ms → Least D σ low
+  least_allowed (found {c} h x) is a = rw (is c refl) x
+  least_allowed (no_plan h) is {ms} a = absurd (h ms a)
 
   judged_allowed : {ms : List ℕ} {c : ℕ} → S.Judged D (by_runs D σ) ms (S.plan c) → Allowed D σ ms
   unfolding by_runs
@@ -54,18 +55,19 @@ module _ (v : View) (table : List ℕ) (w : Verdict) (said : Says Moves v (verdi
   judged_other o = record { finds = is_other said (other_variant w o); table = refl }
 
   module _ {cost low positions : ℕ} {after : List ℕ} (e : w ≡ Verdict.Plan cost) (p : positions ≡ positions_of v)
-      (x : Filled v.domain (view_steps v) positions table after × LeastOr v.domain v.program low) where
+      (x : Filled v.domain (view_steps v) positions table after) {o : Option ℕ} (l : LeastOr v.domain v.program o)
+      (is : (c : ℕ) → o ≡ Some c → low ≡ c) where
     planned : S.Judged D (by_runs D σ) v.entries (S.plan cost)
     planned = rw e at said
 
     lowest : Least D σ low
-    lowest = least_allowed D σ low x.1 (judged_allowed D σ planned)
+    lowest = least_allowed D σ l is (judged_allowed D σ planned)
 
     by_cost : (b : Bool) → leb cost low ≡ b → Found v (judgement_of (cond b (Judgement.Least cost) (Judgement.Dearer cost low))) table after
     by_cost true f =
         let same : low ≡ cost = omega (arith, leb-true cost low f, plan_at_least D σ v.entries cost low planned lowest) in
-        record { finds = is_least planned (rw same at lowest); table = table_of p x.0 }
-    by_cost false f = record { finds = is_dearer planned lowest (leb-false cost low f); table = table_of p x.0 }
+        record { finds = is_least planned (rw same at lowest); table = table_of p x }
+    by_cost false f = record { finds = is_dearer planned lowest (leb-false cost low f); table = table_of p x }
 
     pub judged_plan : {g : Judgement} → g ≡ compared cost low → Found v (judgement_of g) table after
     judged_plan f = subst (λ (g : Judgement). Found v (judgement_of g) table after) (sym f) (by_cost (leb cost low) refl)

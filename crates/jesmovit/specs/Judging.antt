@@ -1,8 +1,8 @@
 -- What the least cost of a job text, and judging a plan text, promise.
-use Rattle.std.specs.Prelude.{ℕ, ◌≡◌, true, false, cond, List, [], ltb, leb, length}
+use Rattle.std.specs.Prelude.{ℕ, ◌≡◌, true, false, cond, List, [], leb, length}
 use Rattle.std.specs.Prelude.{Option, None, Some}
 use Rattle.semantics.specs.Plan.{Allowed, Least}
-use Rattle.semantics.specs.CostTable.{unreached, Filled}
+use Rattle.semantics.specs.CostTable.{Filled}
 use Rattle.semantics.specs.Judgement.{Judgement, Finds, least, dearer, other}
 use Rattle.load.specs.Refusals.{Handed}
 use Rattle.load.specs.View.{View, view_steps, positions_of, view_in}
@@ -39,10 +39,6 @@ TableOf v = Filled v.domain (view_steps v) (positions_of v)
 pub data LeastIs (v : View) : Option ℕ → Type 0 where
   costs : {c : ℕ} → Least v.domain v.program c → LeastIs v (Some c)
   no_plan : ((ms : List ℕ) → Allowed v.domain v.program ms → ⊥) → LeastIs v None
-
--- as one number, which is `unreached` for none
-abbrev pub lowest_of : ℕ → Option ℕ
-lowest_of n = cond (ltb n unreached) (Some n) None
 
 -- "Least cost fills it and answers the cost, or none"
 pub record CostDone (v : View) (lowest : Option ℕ) (old new : Lent) : Type 0 where

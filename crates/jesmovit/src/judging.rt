@@ -1,14 +1,17 @@
 // The least cost of a job text, and plan texts judged by it, by the class costs of a costs text
 // where one is given.
 ghost use Rattle.std.specs.Prelude.{◌≡◌, [], ◌*◌, ◌≤◌, length};
-ghost use Rattle.job.specs.Store.{task_of};
+ghost use Rattle.job.specs.Store.{job_of, task_of};
+ghost use Rattle.semantics.specs.CostTable.{Filled, LeastOr};
+ghost use Rattle.compile.specs.CompiledJob.{steps_of};
+ghost use Rattle.compile.specs.Program.{program_of};
 ghost use Rattle.domain.specs.Domain.{domain_in};
 ghost use Rattle.domain.specs.Entries.{EntriesBelow};
 ghost use Rattle.compiled.specs.Ready.{Ready};
 ghost use Rattle.load.specs.View.{view_of};
 ghost use Rattle.load.specs.Refusals.{passed};
 ghost use Rattle.jesmovit.specs.Outcomes.{least_outcome, judgement_of};
-ghost use Rattle.jesmovit.specs.Judging.{lowest_of, CostsLeast, compared, Found, Judges};
+ghost use Rattle.jesmovit.specs.Judging.{CostsLeast, compared, Found, Judges};
 
 use crate::preparing::prepare;
 use compiled::CompiledJob;
@@ -20,7 +23,6 @@ use limits::ENTRIES;
 use load::loaded::Loaded;
 use load::request::{Given, Request, Sort};
 use load::room::front;
-use search::Grid;
 use validate::verdict::Verdict;
 
 // The least cost of all plans that the job's program allows, or none where it allows no plan of any
@@ -50,13 +52,36 @@ pub enum JudgeAnswer {
 }
 
 // The least cost that the search found, or none.
-fn answer_of(least: u64) -> LeastAnswer
-    ensures { least_outcome result ≡ passed (lowest_of least) }
+fn answer_of(least: Option<u64>) -> LeastAnswer
+    ensures { least_outcome result ≡ passed least }
 {
-    if least < search::UNREACHED {
+    if let Some(least) = least {
         return LeastAnswer::Costs(least);
     }
     LeastAnswer::NoPlan
+}
+
+// The least cost of a stored task, and the cost table filled. The list holds the compiled job's
+// steps and nothing else.
+fn least_of<'a>(
+    table: &mut [u64],
+    head: Head,
+    rows: &'a [u16],
+    list: &'a [u16],
+    positions: u16,
+) -> Option<u64>
+    requires ready { Ready head rows.now list.now positions }
+    requires positions_in_bounds { (domain_in head rows.now).states * positions ≤ length table.old }
+    ensures filled { Filled (domain_in head rows.now) (steps_of (job_of head rows.now)) positions
+        table.old table.new }
+    ensures least { LeastOr (domain_in head rows.now) (program_of (job_of head rows.now)) result }
+{
+    let compiled = CompiledJob {
+        task: Task { head, rows },
+        list: list,
+        positions: positions,
+    };
+    search::least::least_cost(table, &compiled)
 }
 
 // The least cost. Unless the texts, the list or the table are refused, the list's front then holds
@@ -89,13 +114,8 @@ pub fn least_cost(
         return LeastAnswer::Refused(r);
     };
     let need = load::room::list_need(job);
-    let grid = Grid {
-        states: job.states,
-        positions: job.sizes.positions,
-    };
     let steps = front(list, need);
-    let least = search::least::least_cost(table, job.head, &rows, steps, grid);
-    answer_of(least)
+    answer_of(least_of(table, job.head, &rows, steps, job.sizes.positions))
 }
 
 // A plan's cost beside the least cost.
@@ -115,25 +135,25 @@ fn judge_entries<'a>(
     head: Head,
     rows: &'a [u16],
     list: &'a [u16],
-    grid: Grid,
+    positions: u16,
     plan: &[u16],
 ) -> Judgement
-    requires ready { Ready head rows.now list.now grid.positions × (grid.states ≡ (domain_in head rows.now).states) }
+    requires ready { Ready head rows.now list.now positions }
     requires entries_below { EntriesBelow plan.now (domain_in head rows.now).moves }
-    requires positions_in_bounds { (domain_in head rows.now).states * grid.positions ≤ length table.old }
+    requires positions_in_bounds { (domain_in head rows.now).states * positions ≤ length table.old }
     ensures { Found (view_of (record { task = task_of head rows.now; entries = plan.now })) (judgement_of result)
         table.old table.new }
 {
     let compiled = CompiledJob {
         task: Task { head, rows },
         list: list,
-        positions: grid.positions,
+        positions: positions,
     };
     let verdict = validate::moves::check_moves(&compiled, plan);
     let Verdict::Plan(cost) = verdict else {
         return Judgement::Other(verdict);
     };
-    let least = search::least::least_cost(table, head, rows, list, grid);
+    let least = search::least::least_cost(table, &compiled).unwrap_or(cost);
     compare(cost, least)
 }
 
@@ -167,12 +187,8 @@ pub fn judge(
         return JudgeAnswer::Refused(r);
     };
     let need = load::room::list_need(job);
-    let grid = Grid {
-        states: job.states,
-        positions: job.sizes.positions,
-    };
     let steps = front(list, need);
     let offered = front(&entries, job.entries);
-    let found = judge_entries(table, job.head, &rows, steps, grid, offered);
+    let found = judge_entries(table, job.head, &rows, steps, job.sizes.positions, offered);
     JudgeAnswer::Judged(job.sizes.positions, job.sizes.steps, found)
 }

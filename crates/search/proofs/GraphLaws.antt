@@ -1,20 +1,16 @@
 -- The graph of a job's steps.
 -- Assumes nothing.
-use Prim.Native.Nat.{ℕ, ◌+◌}
-use mathlib.Core.Path.{◌≡◌}
-use mathlib.Core.List.{List}
-use native.Mathlib.Omega.{arith}
+use Rattle.std.proofs.Common.{◌≡◌, ℕ, ◌+◌, arith}
 use Rattle.limits.specs.Limits.{most_cost}
-use Rattle.job.specs.Store.{job_of}
-use Rattle.job.specs.declared.head.Head.{Head}
 use Rattle.semantics.specs.Program.{Program}
 use Rattle.semantics.specs.Domain.{Domain}
 use Rattle.semantics.specs.CompilingTable.{compiled_steps, final_position}
 use Rattle.semantics.proofs.Bounds.{Bounded, Closed}
 use Rattle.semantics.proofs.Compiled.{compiled}
-use Rattle.domain.specs.Domain.{domain_in}
+use Rattle.job.specs.StoredTask.{stored_job}
+use Rattle.domain.specs.Domain.{domain_at}
 use Rattle.compile.specs.Program.{program_of}
-use Rattle.compiled.specs.Ready.{Ready}
+use Rattle.compiled.specs.declared.CompiledJob.{CompiledJob}
 use Rattle.compiled.proofs.ReadyLaws.{job_bounded}
 use Rattle.search.specs.Sweeps.{graph_of}
 
@@ -26,5 +22,5 @@ compiled_closed D σ b e = record {
   within = λ i p q l a. let g = (compiled D σ 0).range a in (omega (arith, g), omega (arith, g));
 }
 
-pub graph_closed : {head : Head} {rows list : List ℕ} {positions : ℕ} → Ready head rows list positions → Closed (graph_of head rows list positions) most_cost
-graph_closed {head} {rows} r = rw r.steps (compiled_closed (domain_in head rows) (program_of (job_of head rows)) (job_bounded r) r.positions)
+pub graph_closed : (job : CompiledJob) → Closed (graph_of job) most_cost
+graph_closed job = rw job.ready.steps (compiled_closed (domain_at job.task) (program_of (stored_job job.task)) (job_bounded job.ready) job.ready.positions)

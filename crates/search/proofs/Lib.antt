@@ -1,4 +1,3 @@
-pub mod CellLaws
 pub mod GraphLaws
 pub mod PotentialLaws
 pub mod RelaxationLaws

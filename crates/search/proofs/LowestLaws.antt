@@ -4,10 +4,14 @@ use Prim.Native.Nat.{ℕ, ◌+◌, ◌≤◌, ◌<◌}
 use native.Mathlib.Omega.{arith}
 use native.Mathlib.Decide.{dec_lt}
 use mathlib.Core.Path.{◌≡◌, refl, sym, subst}
-use mathlib.Core.Bool.{true}
+use mathlib.Core.Bool.{Bool, true}
 use mathlib.Core.List.{List}
 use mathlib.Core.Logic.{inl, inr, ⊎_elim}
 use lib.ListN.{get_or}
+use borrow.Author.Tests.{lt-ltb}
+use Rattle.job.specs.declared.task.Task.{Task}
+use Rattle.domain.specs.Domain.{domain_at}
+use Rattle.domain.specs.declared.world.World.{World}
 use Rattle.semantics.specs.Program.{Program}
 use Rattle.semantics.specs.Domain.{Domain}
 use Rattle.semantics.specs.CompilingTable.{Step, compiled_steps, final_position}
@@ -18,7 +22,7 @@ use Rattle.semantics.specs.Cells.{cell, Graph, Edge}
 use Rattle.semantics.proofs.Agreement.{complete_runs}
 use Rattle.semantics.proofs.Bounds.{Bounded, Closed}
 use Rattle.semantics.proofs.CellLaws.{edge_within}
-use Rattle.search.specs.Filling.{Lowest, Lower, kept, lower}
+use Rattle.search.specs.Filling.{Lowest, Lower, kept, lower, least_in}
 use Rattle.search.proofs.GraphLaws.{compiled_closed}
 
 module _ {D : Domain} {positions : ℕ} {T : List ℕ} {e : ℕ} where
@@ -44,6 +48,12 @@ module _ {D : Domain} {positions : ℕ} {T : List ℕ} {e : ℕ} where
     from = inr (n, omega arith, g, refl);
   }
 
+-- whether the goal holds in a world, by its task and its state
+pub goal_of : (world : World) {t : Task} {s : ℕ} {b : Bool} → world.task ≡ t → world.state ≡ s → b ≡ (domain_at world.task).goal world.state
+    → b ≡ (domain_at t).goal s
+goal_of world {t} {s} {b} f g e =
+    subst (λ (i : ℕ). b ≡ (domain_at t).goal i) g (subst (λ (u : Task). b ≡ (domain_at u).goal world.state) f e)
+
 -- a path from a state ends in one
 path_inside : {G : Graph} {most : ℕ} → Closed G most → {s p u q : ℕ} {is ms : List ℕ} → s < G.domain.states → Path G.domain G.steps s p is ms u q
     → u < G.domain.states
@@ -63,17 +73,17 @@ module _ (D : Domain) (σ : Program) where
   abbrev LowerBound : ℕ → Type 0
   LowerBound r = (ms : List ℕ) → Allowed D σ ms → (r < unreached) × (r ≤ cost D D.start ms)
 
-  goal_entry_least : (s : ℕ) {r : ℕ} → D.goal s ≡ true → LowerBound r → Entry D (compiled_steps D σ) s (final_position D σ) r → LeastOr D σ r
-  goal_entry_least s g low (reached h k) = found h (record {
+  goal_entry_least : (s : ℕ) {r : ℕ} → D.goal s ≡ true → LowerBound r → Entry D (compiled_steps D σ) s (final_position D σ) r → LeastOr D σ (least_in r)
+  goal_entry_least s {r} g low (reached h k) = rw (lt-ltb r unreached h) (found h (record {
     best = k.moves;
     allowed = record { last = s; run = (complete_runs D D.start σ k.moves s).1 (k.numbers, k.path); reached = g };
     costs = k.costs;
     least = λ ms a. (low ms a).1;
-  })
+  }))
   goal_entry_least s g low (not_reached f) = no_plan (λ ms a. omega (arith, (low ms a).0))
 
   pub lowest_least : {positions most r : ℕ} {old T : List ℕ} → Bounded D most → positions ≡ final_position D σ + 1 → Filled D (compiled_steps D σ) positions old T
-      → Lowest D positions T (final_position D σ) D.states r → LeastOr D σ r
+      → Lowest D positions T (final_position D σ) D.states r → LeastOr D σ (least_in r)
   lowest_least {positions} {r} {T} b e f l =
       let entry_at : (s : ℕ) → s < D.states → Entry D (compiled_steps D σ) s (final_position D σ) (get_or T (cell positions s (final_position D σ)) 0) =
       λ s h. f.entries s (final_position D σ) h (omega arith) in
@@ -83,5 +93,5 @@ module _ (D : Domain) (σ : Program) where
       let x = entry_at_most (entry_at a.last inside) path in
       let y = l.below a.last inside a.reached in
       (omega (arith, x.0), omega (arith, x.1)) in
-      ⊎_elim (λ z. subst (LeastOr D σ) (sym z) (no_plan (λ ms a. omega (arith, (low ms a).0))))
+      ⊎_elim (λ z. subst (λ (n : ℕ). LeastOr D σ (least_in n)) (sym z) (no_plan (λ ms a. omega (arith, (low ms a).0))))
       (λ k. goal_entry_least k.0 k.2 low (subst (Entry D (compiled_steps D σ) k.0 (final_position D σ)) k.3 (entry_at k.0 k.1))) l.from

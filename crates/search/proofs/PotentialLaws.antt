@@ -1,30 +1,20 @@
 -- What falls with each store and each sweep.
 -- Assumes nothing.
-use Prim.Native.Nat.{ℕ, suc, ◌+◌, ◌-◌, ◌*◌, ◌≤◌, ◌<◌}
-use mathlib.Core.Path.{◌≡◌, ap}
-use mathlib.Core.List.{List}
-use native.Mathlib.Omega.{arith}
-use lib.ListN.{length, get_or, set}
-use Rattle.limits.specs.Limits.{most_states}
+use Rattle.std.proofs.Common.{◌≡◌, ℕ, ◌+◌, ◌-◌, ◌<◌, List, length, get_or, set, arith}
 use Rattle.semantics.specs.CostTable.{unreached}
-use Rattle.semantics.specs.Cells.{sum}
-use Rattle.semantics.proofs.Totals.{total_same, total_but, total_set}
+use Rattle.semantics.proofs.Totals.{total_but, total_set}
 use Rattle.semantics.proofs.CellLaws.{sum_falls}
-use Rattle.queue.specs.Queue.{SameKeys, Lowered}
+use Rattle.queue.specs.Queue.{Lowered}
 use Rattle.search.specs.Sweeps.{potential}
 
 abbrev gap : ℕ → ℕ
 gap x = unreached - x
 
 -- an entry lowered, and then a key
-pub store_falls : (n : ℕ) (T queue queue' : List ℕ) (v x t y : ℕ) → n ≤ most_states → v < length T → x < get_or T v 0 → t < n → Lowered t y queue queue'
+pub store_falls : (n : ℕ) (T queue queue' : List ℕ) (v x t y : ℕ) → v < length T → x < get_or T v 0 → t < n → Lowered t y queue queue'
     → potential n (set T v x) queue' < potential n T queue
-store_falls n T queue queue' v x t y few room less inside low =
-    omega (arith, sum_falls T v x room less, total_but gap queue queue' t n inside (λ k h e. low.others k (omega arith) e))
-
--- the keys are the same
-pub order_keeps : (n : ℕ) (T queue queue' : List ℕ) → n ≤ most_states → SameKeys queue queue' → potential n T queue' ≡ potential n T queue
-order_keeps n T queue queue' few same = ap (λ (k : ℕ). sum T * suc unreached + k) (total_same gap queue queue' n (λ k h. same.keys k (omega arith)))
+store_falls n T queue queue' v x t y room less inside low =
+    omega (arith, sum_falls T v x room less, total_but gap queue queue' t n inside (λ k h e. low.others k e))
 
 -- a key taken back, and one set
 pub key_gap : (n : ℕ) (T queue : List ℕ) (s k : ℕ) → s < length queue → s < n

@@ -1,21 +1,15 @@
 -- The cost table, swept state by state.
-use Rattle.std.specs.Prelude.{ℕ, ◌≤◌, ◌<◌, ◌≡◌, Bool, true, List, ◌⊎◌, get_or}
-use Rattle.job.specs.declared.head.Head.{Head}
+use Rattle.std.specs.Prelude.{ℕ, ◌≤◌, ◌<◌, ◌≡◌, Bool, true, List, Option, ltb, length, ◌⊎◌, get_or, drop}
+use Rattle.std.specs.Bool.{then_some}
 use Rattle.semantics.specs.CostTable.{unreached}
 use Rattle.semantics.specs.Domain.{Domain}
 use Rattle.semantics.specs.Cells.{Graph, cell, Runs, Relaxed}
-use Rattle.domain.specs.Domain.{domain_in}
-use Rattle.compiled.specs.Adjacency.{Indexed}
-use Rattle.compiled.specs.Ready.{Ready}
-use Rattle.search.specs.declared.Grid.{Grid}
-use Rattle.search.specs.Relaxation.{TableRoom}
 
--- a job, its steps, and room for its table and keys
-pub record Search (head : Head) (rows list adjacency : List ℕ) (grid : Grid) (T queue : List ℕ) : Type 0 where
-  pub ready : Ready head rows list grid.positions
-  pub indexed : Indexed list adjacency
-  pub states : grid.states ≡ (domain_in head rows).states
-  pub room : TableRoom grid T queue
+-- the first n cells are unreached, the later ones as they were
+pub record Cleared (n : ℕ) (old new : List ℕ) : Type 0 where
+  pub size : length new ≡ length old
+  pub clear : (k : ℕ) → k < n → get_or new k 0 ≡ unreached
+  pub later : drop n new ≡ drop n old
 
 -- nothing is left to follow
 pub record Exhausted (G : Graph) (T T' : List ℕ) : Type 0 where
@@ -32,3 +26,7 @@ pub record Lowest (D : Domain) (positions : ℕ) (T : List ℕ) (e n r : ℕ) : 
 pub data Lower (goal : Bool) (least x : ℕ) : ℕ → Type 0 where
   kept : (goal ≡ true → least ≤ x) → Lower goal least x least
   lower : goal ≡ true → x < least → Lower goal least x x
+
+-- an entry as a cost, or none where it is unreached
+abbrev pub least_in : ℕ → Option ℕ
+least_in n = then_some (ltb n unreached) n

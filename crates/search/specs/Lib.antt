@@ -1,4 +1,5 @@
-pub mod Cells
 pub mod Sweeps
+pub mod Table
 pub mod Relaxation
+pub mod Sweep
 pub mod Filling

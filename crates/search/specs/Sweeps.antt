@@ -1,23 +1,14 @@
 -- A state's cells of the cost table while it is swept.
 use Rattle.std.specs.Prelude.{ℕ, suc, ◌*◌, ◌+◌, ◌-◌, ◌<◌, ◌≡◌, Bool, true, false, List, get_or}
-use Rattle.job.specs.declared.head.Head.{Head}
-use Rattle.semantics.specs.Domain.{Domain}
 use Rattle.semantics.specs.CostTable.{unreached}
 use Rattle.semantics.specs.Cells.{Graph, Claim, total, sum}
-use Rattle.domain.specs.Domain.{domain_in}
-use Rattle.search.specs.declared.Origin.{Origin}
+use Rattle.domain.specs.Domain.{domain_at}
 use Rattle.compiled.specs.Adjacency.{steps_on}
+use Rattle.compiled.specs.declared.CompiledJob.{CompiledJob}
 
--- the compiled job of a list's steps
-abbrev pub graph_of : Head → List ℕ → List ℕ → ℕ → Graph
-graph_of head rows list positions = record { domain = domain_in head rows; steps = steps_on list; positions = positions }
-
--- the domain and the graph of an origin
-abbrev pub domain_at : Origin → List ℕ → Domain
-domain_at origin rows = domain_in origin.head rows
-
-abbrev pub graph_in : Origin → List ℕ → List ℕ → Graph
-graph_in origin rows list = graph_of origin.head rows list origin.grid.positions
+-- a compiled job's cells and the steps between them
+abbrev pub graph_of : CompiledJob → Graph
+graph_of job = record { domain = domain_at job.task; steps = steps_on job.list.now; positions = job.positions }
 
 -- what falls with each sweep: the entries, and where they stay, the distance of the n keys from
 -- `unreached`

@@ -5,6 +5,7 @@ use mathlib.Core.Path.{◌≡◌, refl}
 use mathlib.Core.Bool.{Bool, true, false, cond, ◌&&◌}
 use Rattle.std.specs.Prelude.{Option, None, Some}
 use mathlib.Core.List.{List}
+use Rattle.std.specs.Bool.{then_some}
 use native.Mathlib.Omega.{arith}
 use native.Mathlib.Numerals.{add-one}
 use lib.Dec.{ltb}
@@ -24,7 +25,7 @@ use Rattle.domain.proofs.DomainLaws.{domain_bounded}
 use Rattle.compile.specs.Program.{program_of}
 use Rattle.compile.specs.CompiledJob.{steps_of, final_position_of, position_count}
 use Rattle.validate.specs.declared.verdict.Verdict.TheVariants.{Plan}
-use Rattle.search.specs.Filling.{Lowest, Lower, kept, lower}
+use Rattle.search.specs.Filling.{Lowest, Lower, kept, lower, least_in}
 use Rattle.search.proofs.GraphLaws.{compiled_closed}
 use Rattle.search.proofs.LowestLaws.{lowest_none, lowest_more, lowest_least}
 use Rattle.load.specs.View.{view_of}
@@ -56,6 +57,14 @@ unfolding lowest_below
 lowest_below_lem D positions T e zero = lowest_none
 lowest_below_lem D positions T e (suc n) = rw (← add-one n) (lowest_more n (lowest_below_lem D positions T e n) (lesser_lower (D.goal n) _ _))
 
+-- an entry that is a cost is that cost
+least_is : (n c : ℕ) → least_in n ≡ Some c → n ≡ c
+least_is n c = by (ltb n unreached)
+  where
+    by : (b : Bool) → then_some b n ≡ Some c → n ≡ c
+    by true e = cc
+    by false e = never (cc)
+
 abbrev graph_of : Task → Graph
 graph_of t = record { domain = domain_of t; steps = steps_of t.job; positions = position_count t.job }
 
@@ -80,7 +89,7 @@ module _ (text : List ℕ) (t : Task) (accepted : AcceptedJob text t.job) (withi
       let fits : cell_count (graph_of t) * most_cost < unreached = omega (arith, (needs_within text t accepted).1) in
       computed_filled (graph_of t) (compiled_closed (domain_of t) (program_of t.job) (domain_bounded t accepted.right within) refl) (omega arith) fits 10 ok
 
-  least_or : relaxed_below (graph_of t) (table_of t) (domain_of t).states ≡ true → LeastOr (domain_of t) (program_of t.job) (least_of t)
+  least_or : relaxed_below (graph_of t) (table_of t) (domain_of t).states ≡ true → LeastOr (domain_of t) (program_of t.job) (least_in (least_of t))
   least_or ok = lowest_least (domain_of t) (program_of t.job) (domain_bounded t accepted.right within) refl (table_filled ok) (lowest_below_lem _ _ _ _ _)
 
   module _ (ms : List ℕ) where
@@ -97,7 +106,7 @@ module _ (text : List ℕ) (t : Task) (accepted : AcceptedJob text t.job) (withi
     computed_finds (plan c) g x e =
         let v = cond_some (relaxed_below (graph_of t) (table_of t) (domain_of t).states) e in
         let k : judgement_of (compared c (least_of t)) ≡ g = cc v.1 in
-        rw k at (judged_plan (view_of (record { task = t; entries = ms })) _ (Plan c) x refl refl (table_filled v.0, least_or v.0) refl).finds
+        rw k at (judged_plan (view_of (record { task = t; entries = ms })) _ (Plan c) x refl refl (table_filled v.0) (least_or v.0) (least_is (least_of t)) refl).finds
     computed_finds (blocked i) g x e = other_finds (blocked i) g x (λ c h. never (cc)) e
     computed_finds unfinished g x e = other_finds unfinished g x (λ c h. never (cc)) e
     computed_finds missed g x e = other_finds missed g x (λ c h. never (cc)) e

@@ -14,7 +14,7 @@ judge_entries-found-requires c =
     let g = c.in-Ready.is in
     let p = c.prepare-loaded.ensures in
     record {
-      ready = (prepared_ready p g refl c.list_need-need.ensures c.front-steps.ensures, (load_sized p.loads g).states);
+      ready = prepared_ready p g refl c.list_need-need.ensures c.front-steps.ensures;
       entries_below = load_entries p.loads g refl c.front-offered.ensures;
       positions_in_bounds = load_cells p.loads g refl;
     }

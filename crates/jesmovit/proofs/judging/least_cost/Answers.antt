@@ -14,12 +14,12 @@ returns-in_default c =
     prepared_refused c.prepare-loaded.ensures (λ l. record { list = l; table = c.args.table.now })
     c.in_default.is c.refusal-r.ensures
 
-pub least_cost-least-requires : goal.least_cost-least-requires
-least_cost-least-requires c =
+pub least_of-requires : goal.least_of-requires
+least_of-requires c =
     let g = c.in-Ready.is in
     let p = c.prepare-loaded.ensures in
     record {
-      ready = (prepared_ready p g refl c.list_need-need.ensures c.front-steps.ensures, (load_sized p.loads g).states);
+      ready = prepared_ready p g refl c.list_need-need.ensures c.front-steps.ensures;
       positions_in_bounds = load_cells p.loads g refl;
     }
 
@@ -27,7 +27,7 @@ pub returns : goal.returns
 returns c =
     let g = c.in-Ready.is in
     rw c.answer_of.ensures (answer_done _ (load_passed c.prepare-loaded.ensures.loads g refl) (record {
-      is = lowest_is _ c.least_cost-least.ensures.1;
+      is = lowest_is _ c.least_of.ensures.least;
       list = prepared_list c.prepare-loaded.ensures g;
-      table = table_of (load_sized c.prepare-loaded.ensures.loads g).positions c.least_cost-least.ensures.0;
+      table = table_of (load_sized c.prepare-loaded.ensures.loads g).positions c.least_of.ensures.filled;
     }))

@@ -1,45 +1,24 @@
-use Prim.Native.Nat.{◌<◌}
-use mathlib.Core.Path.{◌∙◌}
-use native.Mathlib.Omega.{arith}
-use Rattle.semantics.proofs.CellLaws.{runs_length}
-use Rattle.domain.specs.Domain.{domain_in}
-use Rattle.search.proofs.FillLaws.{settling_start, settling_more, settling_end, search_on}
+use Rattle.std.proofs.Common.{arith}
+use Rattle.search.proofs.FillLaws.{settling_start, settling_more, settling_end, settling_followed, chosen_some}
 use Rattle.search.proofs.fill.settle.Goals as goal
 
-pub loop-head-init : goal.loop-head-init
-loop-head-init c = settling_start c.requires.relaxed
+pub loop-state-init : goal.loop-state-init
+loop-state-init c = settling_start c.requires
 
-pub choose-s-requires : goal.choose-s-requires
-choose-s-requires c =
-    let p = c.requires.search in
-    record { size = c.loop-head.invariant.size ∙ p.room.keys.size; few = p.room.keys.few }
+pub sweep_state-requires-clause-inside : goal.sweep_state-requires-clause-inside
+sweep_state-requires-clause-inside c =
+    omega (arith, (chosen_some c.choose.ensures c.in-Some.is).0, c.loop-state.table.keys)
 
-pub shape_of-costs-then-s-states : goal.shape_of-costs-then-s-states
-shape_of-costs-then-s-states c = runs_length c.loop-head.invariant.runs
+pub sweep_state-requires-clause-due : goal.sweep_state-requires-clause-due
+sweep_state-requires-clause-due c = (chosen_some c.choose.ensures c.in-Some.is).1
 
-pub shape_of-queue-then-s-states : goal.shape_of-queue-then-s-states
-shape_of-queue-then-s-states c = c.loop-head.invariant.size
+pub sweep_state-requires-clause-followed : goal.sweep_state-requires-clause-followed
+sweep_state-requires-clause-followed c = settling_followed c.loop-state.invariant
 
-pub returns-then-s-states : goal.returns-then-s-states
-returns-then-s-states c =
-    settling_end c.loop-head.invariant c.choose-s.ensures c.if-s-states.true c.requires.search.states
+pub loop-state-preserved : goal.loop-state-preserved
+loop-state-preserved c =
+    settling_more c.loop-state.invariant c.sweep_state.ensures.improved c.sweep_state.ensures.keeps
 
-pub overflow_cast-origin : goal.overflow_cast-origin
-overflow_cast-origin c =
-    let p = c.requires.search in
-    record { fits = omega (arith, c.choose-s.ensures.low, c.if-s-states.false, p.room.keys.few) }
-
-pub visit-requires : goal.visit-requires
-visit-requires c =
-    let a = c.args in
-    let chosen = c.choose-s in
-    let x = c.loop-head.invariant in
-    let inside : chosen.result < (domain_in a.head a.rows.now).states = omega (arith, chosen.ensures.low, c.if-s-states.false, c.requires.search.states) in
-    record { search = search_on c.requires.search (runs_length x.runs) x.size; state_bound = (inside, chosen.ensures.due (omega (arith, c.requires.search.states))); relaxed = x.relaxed }
-
-pub loop-head-smaller : goal.loop-head-smaller
-loop-head-smaller c = c.visit.ensures.less
-
-pub loop-head-preserved : goal.loop-head-preserved
-loop-head-preserved c =
-    settling_more c.loop-head.invariant c.visit.ensures
+pub returns-clause-exhausted : goal.returns-clause-exhausted
+returns-clause-exhausted c =
+    settling_end c.loop-state.invariant c.choose.ensures c.in_default.is

@@ -1,11 +1,10 @@
-use Rattle.domain.specs.Domain.{domain_in}
-use Rattle.search.specs.Sweeps.{graph_of, potential}
+use Rattle.search.specs.Sweeps.{potential}
+use Rattle.search.specs.Table.{graph_in}
 use Rattle.search.proofs.FillLaws.{Settling}
 use Rattle.search.proofs.fill.settle.Given as goal
 
-abbrev pub invariant-loop-head : goal.invariant-loop-head
-invariant-loop-head l =
-    Settling (graph_of l.head l.rows l.list l.grid.positions) l.initial.costs l.initial.queue l.costs l.queue
+abbrev pub invariant-loop-state : goal.invariant-loop-state
+invariant-loop-state l = Settling l.initial.table l.table
 
-abbrev pub decreases-loop-head : goal.decreases-loop-head
-decreases-loop-head l = potential (domain_in l.head l.rows).states l.costs l.queue
+abbrev pub decreases-loop-state : goal.decreases-loop-state
+decreases-loop-state l = potential (graph_in l.initial.table).domain.states l.table.costs.now l.table.queue
