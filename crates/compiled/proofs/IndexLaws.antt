@@ -6,7 +6,7 @@ use Rattle.std.proofs.Math.Seq.{get_or-set_same, get_or-set_other}
 use borrow.Author.Tests.{eqb-true, eqb-false}
 use Rattle.limits.specs.Limits.{most_positions, most_steps}
 use Rattle.laws.proofs.Lists.{replicate_default}
-use Rattle.compiled.specs.Adjacency.{start_in}
+use Rattle.compiled.specs.StepList.{start_in}
 use Rattle.compiled.specs.StepIndex.{last_step_from, step_before, link_of, Linked}
 
 pub same_link : (a b : Option ℕ) → link_of a ≡ link_of b → a ≡ b

@@ -1,10 +1,6 @@
-pub mod AdjacencyLaws
 pub mod ExploredLaws
 pub mod LeadLaws
 pub mod IndexLaws
-pub mod WalkLaws
 pub mod StepWalk
-pub mod SilentLaws
 pub mod ReadyLaws
-pub mod SuccessorLaws
 pub mod ArrivalLaws

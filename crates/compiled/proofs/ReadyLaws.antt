@@ -1,11 +1,7 @@
 -- What a check may take from what it is handed: sizes, positions, and that states and costs stay
 -- within bounds.
 -- Assumes nothing.
-use Prim.Native.Nat.{ℕ, ◌+◌, ◌-◌, ◌*◌, ◌/◌, ◌≤◌, ◌<◌}
-use mathlib.Core.Path.{◌≡◌}
-use mathlib.Core.List.{List}
-use native.Mathlib.Omega.{arith}
-use lib.ListN.{length, get_or}
+use Rattle.std.proofs.Common.{◌≡◌, ℕ, ◌+◌, ◌-◌, ◌*◌, ◌/◌, ◌≤◌, ◌<◌, List, length, get_or, arith}
 use Rattle.limits.specs.Limits.{most_steps, most_positions, most_cost}
 use Rattle.job.specs.Job.{Job}
 use Rattle.job.specs.Store.{job_of}
@@ -19,7 +15,7 @@ use Rattle.domain.proofs.DomainLaws.{stored_bounded}
 use Rattle.compile.specs.Program.{program_of}
 use Rattle.compile.specs.CompiledJob.{final_position_of}
 use Rattle.compile.proofs.FitLaws.{few_positions, few_steps}
-use Rattle.compiled.specs.Adjacency.{start_in, Listed}
+use Rattle.compiled.specs.StepList.{start_in, Listed}
 use Rattle.compiled.specs.Ready.{Ready}
 
 module _ {head : Head} {rows list : List ℕ} {positions : ℕ} (r : Ready head rows list positions) where

@@ -3,12 +3,19 @@
 use Rattle.std.proofs.Common.{◌≡◌, ℕ, zero, suc, ◌/◌, ◌≤◌, ◌<◌, List, Option, None, Some, eqb, length, sym, ◌∙◌, ap, subst, arith}
 use native.Mathlib.Decide.{dec_lt}
 use borrow.Author.Tests.{eqb-true, eqb-false}
+use Rattle.limits.specs.Limits.{most_positions}
 use Rattle.laws.proofs.Tests.{cond_has}
 use Rattle.semantics.specs.Label.{Label}
 use Rattle.semantics.specs.Path.{StepAt}
 use Rattle.semantics.proofs.FlatLaws.{Located, steps_only}
-use Rattle.compiled.specs.Adjacency.{steps_on, start_in}
+use Rattle.compiled.specs.StepList.{steps_on, start_in, Listed}
 use Rattle.compiled.specs.StepIndex.{last_step_from, step_before, link_of}
+
+-- a list's steps lead from and to positions
+pub step_inside : {list : List ℕ} → Listed list → {k p q : ℕ} {l : Label} → StepAt (steps_on list) k p l q → (p < most_positions) × (q < most_positions)
+step_inside {list} x s =
+    let z = steps_only (length list / 4) list s in
+    (omega (arith, z.from, x.from _ z.below), omega (arith, z.to, x.to _ z.below))
 
 module _ (list : List ℕ) (p : ℕ) where
   last_within : (n : ℕ) → link_of (last_step_from list p n) ≤ n

@@ -1,9 +1,7 @@
-pub mod Adjacency
+pub mod StepList
 pub mod StepIndex
 pub mod Steps
 pub mod Ready
 pub mod Props
 pub mod Explored
-pub mod Successors
-pub mod Arrival
 pub mod Leads

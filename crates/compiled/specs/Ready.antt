@@ -4,7 +4,7 @@ use Rattle.job.specs.Store.{job_of}
 use Rattle.job.specs.Stored.{Stored}
 use Rattle.job.specs.declared.head.Head.{Head}
 use Rattle.compile.specs.CompiledJob.{steps_of, position_count, step_count, fits}
-use Rattle.compiled.specs.Adjacency.{steps_on}
+use Rattle.compiled.specs.StepList.{steps_on}
 
 -- a job whose compiled job is within the limits, as head and rows, and a list that holds its steps
 -- and nothing else

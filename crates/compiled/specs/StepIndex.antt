@@ -1,7 +1,7 @@
 -- The steps of a list by the positions that they start from.
 use Rattle.std.specs.Prelude.{ℕ, zero, suc, ◌/◌, ◌<◌, ◌≡◌, cond, List, Option, None, Some, eqb, length, get_or}
 use Rattle.limits.specs.Limits.{most_positions, most_steps}
-use Rattle.compiled.specs.Adjacency.{start_in, Listed}
+use Rattle.compiled.specs.StepList.{start_in, Listed}
 
 -- the last of the first n steps that starts from position p
 unfoldable pub last_step_from : List ℕ → ℕ → ℕ → Option ℕ

@@ -2,7 +2,7 @@
 ghost use Rattle.std.proofs.Props.{props};
 ghost use Rattle.std.specs.Prelude.{◌≡◌, ◌/◌, ◌<◌, length};
 ghost use Rattle.limits.specs.Limits.{most_positions};
-ghost use Rattle.compiled.specs.Adjacency.{Listed};
+ghost use Rattle.compiled.specs.StepList.{Listed};
 ghost use Rattle.compiled.specs.StepIndex.{last_step_from, step_before, link_of, StepsIndexed};
 
 use crate::steps::OutStep;

@@ -4,12 +4,9 @@
 ghost use Rattle.compiled.specs.Props.{ready_props};
 ghost use Rattle.compiled.specs.Ready.{Ready};
 
-pub mod adjacency;
-pub mod arrival;
 pub mod explored;
 pub mod index;
 pub mod steps;
-pub mod successors;
 
 use job::task::Task;
 

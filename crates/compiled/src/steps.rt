@@ -2,8 +2,8 @@
 ghost use Rattle.std.specs.Prelude.{◌≡◌, ◌/◌, ◌<◌, length};
 ghost use Rattle.semantics.specs.PositionSets.{silent_in};
 ghost use Rattle.domain.specs.Domain.{domain_at};
-ghost use Rattle.compiled.specs.Adjacency.{start_in};
-ghost use Rattle.compiled.specs.Steps.{label_of, IsStep, silent_by};
+ghost use Rattle.compiled.specs.StepList.{start_in};
+ghost use Rattle.compiled.specs.Steps.{label_of, IsStep};
 
 use compile::label::Label;
 use domain::world::World;
@@ -46,17 +46,5 @@ pub fn step_at(list: &[u16], k: usize) -> OutStep
     OutStep {
         label: Label::from((list[k * 4], list[k * 4 + 3])),
         to: list[k * 4 + 2],
-    }
-}
-
-// Whether a step can be made silently, by the formulas' values.
-pub fn is_silent(values: &[bool], step: OutStep) -> bool
-    ensures { result ≡ silent_by values.now (label_of step) }
-{
-    match step.label {
-        Label::Free => true,
-        Label::Test(a) => domain::formulas::value_at(values, a),
-        Label::Fails(a) => !domain::formulas::value_at(values, a),
-        Label::Make(_) => false,
     }
 }

@@ -13,7 +13,7 @@ use Rattle.semantics.specs.CompilingTable.{Step, flat}
 use Rattle.semantics.proofs.FlatLaws.{flat_length, flat_steps}
 use Rattle.compile.specs.CompiledJob.{steps_of, step_count}
 use Rattle.compile.proofs.FitLaws.{few_steps}
-use Rattle.compiled.specs.Adjacency.{steps_on}
+use Rattle.compiled.specs.StepList.{steps_on}
 use Rattle.compiled.specs.Ready.{Ready}
 use Rattle.load.specs.Loaded.{Sized}
 use Rattle.load.specs.declared.loaded.LoadedJob.{LoadedJob}

@@ -3,7 +3,7 @@ use Rattle.std.specs.Prelude.{ℕ, suc, ◌*◌, ◌+◌, ◌-◌, ◌<◌, ◌�
 use Rattle.semantics.specs.CostTable.{unreached}
 use Rattle.semantics.specs.Cells.{Graph, Claim, total, sum}
 use Rattle.domain.specs.Domain.{domain_at}
-use Rattle.compiled.specs.Adjacency.{steps_on}
+use Rattle.compiled.specs.StepList.{steps_on}
 use Rattle.compiled.specs.declared.CompiledJob.{CompiledJob}
 
 -- a compiled job's cells and the steps between them

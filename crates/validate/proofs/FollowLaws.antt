@@ -8,7 +8,7 @@ use Rattle.semantics.specs.Label.{Label}
 use Rattle.semantics.specs.Path.{StepAt}
 use Rattle.semantics.specs.PositionSets.{Marked}
 use Rattle.semantics.proofs.Marks.{set_keeps, set_from}
-use Rattle.compiled.specs.Adjacency.{steps_on}
+use Rattle.compiled.specs.StepList.{steps_on}
 use Rattle.compiled.specs.StepIndex.{last_step_from, step_before}
 use Rattle.compiled.proofs.StepWalk.{StepWalk, steps_begin, next_step, steps_more, steps_end}
 use Rattle.validate.specs.Positions.{Marking, Source, old, new, Added, Followed}

@@ -14,7 +14,7 @@ use Rattle.domain.specs.Domain.{domain_at}
 use Rattle.domain.specs.declared.world.World.{World}
 use Rattle.compile.specs.Program.{program_of}
 use Rattle.compile.specs.CompiledJob.{steps_of, final_position_of}
-use Rattle.compiled.specs.Adjacency.{steps_on}
+use Rattle.compiled.specs.StepList.{steps_on}
 use Rattle.compiled.specs.declared.CompiledJob.{CompiledJob}
 use Rattle.compiled.proofs.ReadyLaws.{last_final}
 use Rattle.validate.specs.declared.position_set.PositionSet.{PositionSet}

@@ -9,8 +9,8 @@ use Rattle.semantics.specs.Path.{StepAt}
 use Rattle.semantics.specs.PositionSets.{Marked, closure, spread}
 use Rattle.semantics.proofs.Marks.{none_marked}
 use Rattle.semantics.proofs.SetLaws.{close_keeps, closure_closed, closure_is, spread_is}
-use Rattle.compiled.specs.Adjacency.{steps_on, Listed}
-use Rattle.compiled.proofs.WalkLaws.{step_inside}
+use Rattle.compiled.specs.StepList.{steps_on, Listed}
+use Rattle.compiled.proofs.StepWalk.{step_inside}
 use Rattle.validate.specs.Positions.{old, new, Followed}
 use Rattle.validate.specs.declared.position_set.PositionSet.{PositionSet}
 use Rattle.validate.proofs.MarkLaws.{member_of}

@@ -4,7 +4,7 @@ ghost use Rattle.std.specs.Prelude.{◌≡◌, true, false, ◌<◌, get_or, set
 ghost use Rattle.limits.specs.Limits.{most_positions};
 ghost use Rattle.semantics.specs.PositionSets.{closure, spread, silent_in, is_move};
 ghost use Rattle.domain.specs.Domain.{domain_at};
-ghost use Rattle.compiled.specs.Adjacency.{steps_on};
+ghost use Rattle.compiled.specs.StepList.{steps_on};
 ghost use Rattle.validate.specs.Counted.{Counted};
 
 use compile::label::Label;

@@ -5,7 +5,7 @@ ghost use Rattle.semantics.specs.StepVerdict.{made, step_verdict};
 ghost use Rattle.domain.specs.Domain.{domain_at};
 ghost use Rattle.domain.specs.Entries.{EntriesBelow};
 ghost use Rattle.compile.specs.CompiledJob.{steps_of, final_position_of, step_count};
-ghost use Rattle.compiled.specs.Adjacency.{steps_on};
+ghost use Rattle.compiled.specs.StepList.{steps_on};
 ghost use Rattle.compiled.specs.Leads.{arrival_in};
 ghost use Rattle.validate.specs.Verdict.{verdict_of};
 

@@ -1,6 +1,5 @@
 use Rattle.std.proofs.Common.{sym, ◌∙◌}
-use Rattle.compiled.proofs.WalkLaws.{step_inside}
-use Rattle.compiled.proofs.StepWalk.{steps_begin, steps_more, next_inside, steps_fall}
+use Rattle.compiled.proofs.StepWalk.{step_inside, steps_begin, steps_more, next_inside, steps_fall}
 use Rattle.validate.proofs.FollowLaws.{follow_begin, follow_past, follow_more, follow_end}
 use Rattle.validate.proofs.position_set.PositionSet.follow.Goals as goal
 use Rattle.validate.proofs.position_set.PositionSet.follow.Goals.{then-wanted, else-wanted}
