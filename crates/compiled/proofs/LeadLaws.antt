@@ -8,10 +8,10 @@ use Rattle.semantics.specs.StepVerdict.{arrives}
 use Rattle.compile.specs.Label.{label_of}
 use Rattle.compile.specs.declared.label.Label.{Label}
 use Rattle.compile.specs.declared.label.Label.TheVariants.{Free, Test, Fails, Make}
-use Rattle.compiled.specs.Leads.{arrival_in}
+use Rattle.compiled.specs.Arrival.{arrival_of}
 use Rattle.compiled.specs.declared.explored.Arrival.{Arrival}
 
-where_on : (on : Bool) (a : Arrival) → arrival_in (then_some on a) ≡ cond on (arrival_in (Some a)) None
+where_on : (on : Bool) (a : Arrival) → arrival_of (then_some on a) ≡ cond on (arrival_of (Some a)) None
 where_on true a = refl
 where_on false a = refl
 
@@ -20,7 +20,7 @@ here s q = record { state = s; position = q; cost = 0 }
 
 -- a step that makes no move
 pub leads_silently : (D : Domain) (s q : ℕ) (l : Label) {on : Bool} {r : Option Arrival} → ((m : ℕ) → l ≡ Make m → ⊥) → on ≡ silent_in D s (label_of l)
-    → r ≡ then_some on (record { state = s; position = q; cost = 0 }) → arrival_in r ≡ arrives D (label_of l) s q
+    → r ≡ then_some on (record { state = s; position = q; cost = 0 }) → arrival_of r ≡ arrives D (label_of l) s q
 unfolding silent_in arrives
 leads_silently D s q Free n e f = rw (f, e)
 leads_silently D s q (Test a) n e f = rw (f, e) (where_on (D.holds a s) (here s q))

@@ -4,4 +4,4 @@ pub mod Steps
 pub mod Ready
 pub mod Props
 pub mod Explored
-pub mod Leads
+pub mod Arrival

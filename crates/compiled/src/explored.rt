@@ -30,7 +30,7 @@ pub struct Explored<'t> {
 impl<'t> Explored<'t> {
     ghost use Rattle.semantics.specs.StepVerdict.{arrives};
     ghost use Rattle.compiled.specs.Steps.{label_of};
-    ghost use Rattle.compiled.specs.Leads.{arrival_in};
+    ghost use Rattle.compiled.specs.Arrival.{arrival_of};
 
     pub fn at(task: &Task<'t>, state: u16) -> Explored<'t>
         requires { state < (domain_at task.now).states }
@@ -58,7 +58,7 @@ impl<'t> Explored<'t> {
     }
     // Where a step leads, if it can be made.
     pub fn arrive(&mut self, step: OutStep) -> Option<Arrival>
-        ensures leads { arrival_in result ≡ arrives (domain_at self.old.world.task) (label_of step) self.old.world.state step.to }
+        ensures leads { arrival_of result ≡ arrives (domain_at self.old.world.task) (label_of step) self.old.world.state step.to }
         ensures world { self.new.world ≡ self.old.world }
     {
         let Label::Make(m) = step.label else {

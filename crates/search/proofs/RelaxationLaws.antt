@@ -22,7 +22,7 @@ use Rattle.domain.specs.declared.world.World.{World}
 use Rattle.domain.proofs.DomainLaws.{stored_bounded}
 use Rattle.compiled.specs.Steps.{label_of, IsStep}
 use Rattle.compiled.specs.StepIndex.{last_step_from, step_before}
-use Rattle.compiled.specs.Leads.{arrival_in}
+use Rattle.compiled.specs.Arrival.{arrival_of}
 use Rattle.compiled.specs.declared.CompiledJob.{CompiledJob}
 use Rattle.compiled.specs.declared.explored.Arrival.{Arrival}
 use Rattle.compiled.specs.declared.steps.OutStep.{OutStep}
@@ -40,7 +40,7 @@ cell_room positions t q states a b h = omega (arith, cell_below positions t q st
 
 -- where a step leads there is a cell
 pub target_inside : (job : CompiledJob) (w : ℕ) → w < (graph_of job).domain.states → (step : OutStep) (target : Arrival)
-    → arrival_in (Some target) ≡ arrives (graph_of job).domain (label_of step) w step.to → step.to < job.positions
+    → arrival_of (Some target) ≡ arrives (graph_of job).domain (label_of step) w step.to → step.to < job.positions
     → (target.state < (graph_of job).domain.states) × (target.position < job.positions)
 target_inside job w inside step target e h =
     let y = arrives_led (graph_of job).domain (label_of step) w step.to e in
@@ -51,9 +51,9 @@ module _ (job : CompiledJob) (world : World) (same : world.task ≡ job.task) wh
   pub world_inside : world.state < (graph_of job).domain.states
   world_inside = subst (λ (t : Task). world.state < (domain_at t).states) same world.inside
 
-  pub world_arrives : (l : Label) (q : ℕ) (o : Option Arrival) → arrival_in o ≡ arrives (domain_at world.task) l world.state q
-      → arrival_in o ≡ arrives (graph_of job).domain l world.state q
-  world_arrives l q o e = subst (λ (t : Task). arrival_in o ≡ arrives (domain_at t) l world.state q) same e
+  pub world_arrives : (l : Label) (q : ℕ) (o : Option Arrival) → arrival_of o ≡ arrives (domain_at world.task) l world.state q
+      → arrival_of o ≡ arrives (graph_of job).domain l world.state q
+  world_arrives l q o e = subst (λ (t : Task). arrival_of o ≡ arrives (domain_at t) l world.state q) same e
 
 -- no key rises
 keys_fall : {t y : ℕ} {queue queue' : List ℕ} → Lowered t y queue queue' → (s : ℕ) → get_or queue' s 0 ≤ get_or queue s 0
@@ -179,7 +179,7 @@ module _ (job : CompiledJob) where
           relaxed = X.relaxed;
         }
 
-        module _ (target : Arrival) (found : arrival_in (Some target) ≡ arrives D (label_of step) w step.to) where
+        module _ (target : Arrival) (found : arrival_of (Some target) ≡ arrives D (label_of step) w step.to) where
           abbrev v : ℕ
           v = cell_at G target
 

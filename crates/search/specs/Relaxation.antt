@@ -4,7 +4,7 @@ use Rattle.limits.specs.Limits.{most_positions}
 use Rattle.semantics.specs.StepVerdict.{arrives}
 use Rattle.semantics.specs.Cells.{Graph, cell, Runs, Relaxed, sum}
 use Rattle.compiled.specs.Steps.{label_of}
-use Rattle.compiled.specs.Leads.{arrival_in}
+use Rattle.compiled.specs.Arrival.{arrival_of}
 use Rattle.compiled.specs.declared.explored.Arrival.{Arrival}
 use Rattle.compiled.specs.declared.steps.OutStep.{OutStep}
 use Rattle.queue.specs.Queue.{Lowered}
@@ -26,8 +26,8 @@ pub data Relaxing (G : Graph) (w x : ℕ) (target : Arrival) (next : ℕ) (T que
 
 -- what following a step from state w does
 pub data Stepped (G : Graph) (w x : ℕ) (step : OutStep) (next : ℕ) (T queue : List ℕ) (marks : List Bool) : List ℕ → List ℕ → List Bool → ℕ → Type 0 where
-  stays : arrival_in None ≡ arrives G.domain (label_of step) w step.to → Stepped G w x step next T queue marks T queue marks next
-  leads : (target : Arrival) {T' queue' : List ℕ} {marks' : List Bool} {r : ℕ} → arrival_in (Some target) ≡ arrives G.domain (label_of step) w step.to
+  stays : arrival_of None ≡ arrives G.domain (label_of step) w step.to → Stepped G w x step next T queue marks T queue marks next
+  leads : (target : Arrival) {T' queue' : List ℕ} {marks' : List Bool} {r : ℕ} → arrival_of (Some target) ≡ arrives G.domain (label_of step) w step.to
       → Relaxing G w x target next T queue marks T' queue' marks' r → Stepped G w x step next T queue marks T' queue' marks' r
 
 -- stores along steps from position p of state w, after which r is where to go on

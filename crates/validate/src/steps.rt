@@ -6,7 +6,7 @@ ghost use Rattle.domain.specs.Domain.{domain_at};
 ghost use Rattle.domain.specs.Entries.{EntriesBelow};
 ghost use Rattle.compile.specs.CompiledJob.{steps_of, final_position_of, step_count};
 ghost use Rattle.compiled.specs.StepList.{steps_on};
-ghost use Rattle.compiled.specs.Leads.{arrival_in};
+ghost use Rattle.compiled.specs.Arrival.{arrival_of};
 ghost use Rattle.validate.specs.Verdict.{verdict_of};
 
 use crate::verdict::Verdict;
@@ -18,7 +18,7 @@ use domain::world::World;
 fn make_step(job: &CompiledJob, i: u16, state: u16, position: u16) -> Option<Arrival>
     requires i_in_bounds { i < length job.now.list.now / 4 }
     requires state_in_bounds { state < (domain_at job.now.task).states }
-    ensures { arrival_in result ≡ made (domain_at job.now.task) (steps_on job.now.list.now) i state position }
+    ensures { arrival_of result ≡ made (domain_at job.now.task) (steps_on job.now.list.now) i state position }
 {
     let k = i as usize;
     if compiled::steps::start_at(job.list, k) != position {
