@@ -21,7 +21,8 @@ pub keeps_more : {D : Domain} {s : ℕ} {kept : List (Option (Option ℕ))} (m :
 keeps_more {D} {s} {kept} m after h x is = record {
   own = λ n then e. elim (ℕ_discrete n m) [
     | yes z ↦ (
-        let f : ◌≡◌ {A = Option (Option ℕ)} (Some after) (Some then) = sym (get_or-set_same kept m (Some after) None h) ∙ sym (ap (λ (k : ℕ). get_or (set kept m (Some after)) k None) z) ∙ e in
+        let f : ◌≡◌ {A = Option (Option ℕ)} (Some after) (Some then) =
+        sym (get_or-set_same kept m (Some after) None h) ∙ sym (ap (λ (k : ℕ). get_or (set kept m (Some after)) k None) z) ∙ e in
         let g : then ≡ after = cc in
         g ∙ is ∙ ap (λ (k : ℕ). D.successor k s) (sym z)
         )

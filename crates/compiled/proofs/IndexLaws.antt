@@ -1,6 +1,7 @@
 -- Links to the steps from each position, as they are made.
 -- Assumes nothing.
-use Rattle.std.proofs.Common.{◌≡◌, ℕ, ◌+◌, ◌<◌, Bool, true, false, cond, List, Option, None, Some, eqb, get_or, set, replicate, refl, sym, ◌∙◌, ap, add-one, arith}
+use Rattle.std.proofs.Common.{◌≡◌, ℕ, ◌+◌, ◌<◌, Bool, true, false, cond, List, Option, None}
+use Rattle.std.proofs.Common.{Some, eqb, get_or, set, replicate, refl, sym, ◌∙◌, ap, add-one, arith}
 use Rattle.std.proofs.Math.ListN.{length-set, length-replicate}
 use Rattle.std.proofs.Math.Seq.{get_or-set_same, get_or-set_other}
 use borrow.Author.Tests.{eqb-true, eqb-false}
@@ -28,7 +29,9 @@ linked_none list = record {
 module _ (list last before : List ℕ) (k q : ℕ) (x : Linked list k last before) (room : k < most_steps) (starts : q ≡ start_in list k)
     (inside : q < most_positions) where
   last_by : (p : ℕ) → p < most_positions → (b : Bool) → eqb q p ≡ b → get_or (set last q (k + 1)) p 0 ≡ link_of (cond b (Some k) (last_step_from list p k))
-  last_by p h true e = let y : p ≡ q = sym (eqb-true q p e) in ap (λ i. get_or (set last q (k + 1)) i 0) y ∙ get_or-set_same last q (k + 1) 0 (rw x.positions inside) ∙ add-one k
+  last_by p h true e =
+      let y : p ≡ q = sym (eqb-true q p e) in
+      ap (λ i. get_or (set last q (k + 1)) i 0) y ∙ get_or-set_same last q (k + 1) 0 (rw x.positions inside) ∙ add-one k
   last_by p h false e = get_or-set_other last q p (k + 1) 0 (λ y. eqb-false q p e (sym y)) ∙ x.last_from p h
 
   last_more : (p : ℕ) → last_step_from list p (k + 1) ≡ cond (eqb q p) (Some k) (last_step_from list p k)

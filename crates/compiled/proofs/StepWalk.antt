@@ -53,7 +53,10 @@ module _ {list : List ℕ} {p : ℕ} where
   steps_begin P {next} e = record {
     within = omega (arith, ap link_of e, last_within list p (length list / 4));
     starts = λ k g. last_starts list p (length list / 4) k (sym e ∙ g);
-    holds = λ i q l g s. (let y = steps_only (length list / 4) list s in absurd (last_alone list p (length list / 4) i (omega (arith, ap link_of e)) y.below (sym y.from)));
+    holds = λ i q l g s. (
+        let y = steps_only (length list / 4) list s in
+        absurd (last_alone list p (length list / 4) i (omega (arith, ap link_of e)) y.below (sym y.from))
+        );
   }
 
   module _ {P : Label → ℕ → Type 0} {next : Option ℕ} (w : StepWalk list p P next) where

@@ -9,7 +9,7 @@ use crate::steps::OutStep;
 use limits::{POSITIONS, STEPS};
 
 // For each position the last step from it, and for each step the one before it from the same
-// position; counted from 1, and 0 for none.
+// position; counted from 1, and 0 for none, so that a link has two bytes. Nothing is allocated.
 #[derive(Drop)]
 pub struct StepIndex<'a> {
     pub list: &'a [u16],

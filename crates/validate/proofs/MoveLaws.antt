@@ -104,6 +104,7 @@ module _ (job : CompiledJob) (plan : List ℕ) where
         }
 
     -- all moves are made
-    pub checking_end : length plan ≤ i → {complete goal : Bool} → complete ≡ get_or S.marks (job.positions - 1) false → goal ≡ (domain_at world.task).goal world.state
+    pub checking_end : length plan ≤ i → {complete goal : Bool} → complete ≡ get_or S.marks (job.positions - 1) false
+        → goal ≡ (domain_at world.task).goal world.state
         → onward cost (finished complete goal) ≡ verdict_by most_positions (domain_at job.task) (program_of (stored_job job.task)) plan
     checking_end h f g = rw (f, rw x.here at g, last_final job.ready) (left_end D M plan whole x.left h)

@@ -14,7 +14,7 @@ use domain::world::World;
 use limits::POSITIONS;
 
 // One mark a position, how many are set, and the marked positions in the order in which they were
-// marked.
+// marked. Of plain arrays, so that it is copied and each method takes it by value.
 #[derive(Clone, Copy)]
 pub struct PositionSet {
     pub marks: [bool; POSITIONS],

@@ -9,7 +9,8 @@ of-index-requires c = ready_listed c.args.job.now.ready
 pub loop-i-init : goal.loop-i-init
 loop-i-init c =
     let at = c.at-world.ensures in
-    checking_start _ _ c.at-world.result at.0 (at.1 ∙ c.start.ensures.start) c.closed-set.result c.start-2.result c.start-2.ensures (rw c.of-index.ensures at c.closed-set.ensures)
+    checking_start _ _ c.at-world.result at.0 (at.1 ∙ c.start.ensures.start) c.closed-set.result c.start-2.result c.start-2.ensures
+    (rw c.of-index.ensures at c.closed-set.ensures)
 
 pub returns-in_default : goal.returns-in_default
 returns-in_default c = checking_none _ _ c.loop-i.invariant c.loop-i-test.true c.in_default.ensures.after
