@@ -13,14 +13,13 @@ fn main(rt: HostRuntime) {
     let mut plan = [0u8; TEXT];
     let mut costs = [0u8; TEXT];
     let mut list = [0u16; LIST];
-    let mut out = [0u8; TEXT];
     if let Some(texts) = read_texts(&rt, &mut job, Some(&mut plan), &mut costs) {
         let given = Given {
             costs: texts.costs.is_some(),
         };
         let costs = texts.costs.unwrap_or(&[]);
         let answer = jesmovit::check_moves(texts.job, texts.plan, costs, given, &mut list);
-        let end = report::check(answer, &mut out);
-        console::print::text(&rt, &out[..end]);
+        let printed = report::check(answer);
+        console::print::text(&rt, printed.as_str().as_bytes());
     }
 }

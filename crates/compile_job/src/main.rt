@@ -8,10 +8,9 @@ use limits::LIST;
 fn main(rt: HostRuntime) {
     let mut text = [0u8; TEXT];
     let mut list = [0u16; LIST];
-    let mut out = [0u8; TEXT];
     if let Some(job) = console::arguments::read_argument(&rt, 1, "job.txt", &mut text) {
         let answer = jesmovit::compile(job, &mut list);
-        let end = report::compile(answer, &list, &mut out);
-        console::print::text(&rt, &out[..end]);
+        let printed = report::compile(answer, &list);
+        console::print::text(&rt, printed.as_str().as_bytes());
     }
 }

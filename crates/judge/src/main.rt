@@ -14,14 +14,13 @@ fn main(rt: HostRuntime) {
     let mut costs = [0u8; TEXT];
     let mut list = [0u16; LIST];
     let mut table = [0u64; PROGRAM_TABLE];
-    let mut out = [0u8; TEXT];
     if let Some(texts) = read_texts(&rt, &mut job, Some(&mut plan), &mut costs) {
         let given = Given {
             costs: texts.costs.is_some(),
         };
         let costs = texts.costs.unwrap_or(&[]);
         let answer = jesmovit::judge(texts.job, texts.plan, costs, given, &mut list, &mut table);
-        let end = report::judge(answer, &list, &mut out);
-        console::print::text(&rt, &out[..end]);
+        let printed = report::judge(answer, &list);
+        console::print::text(&rt, printed.as_str().as_bytes());
     }
 }

@@ -12,10 +12,9 @@ const TABLE: usize = limits::STATES * 128;
 
 fn print_cost(rt: &HostRuntime, text: &[u8], costs: &[u8], given: Given, table: &mut [u64]) {
     let mut list = [0u16; LIST];
-    let mut out = [0u8; 4096];
     let answer = jesmovit::least_cost(text, costs, given, &mut list, table);
-    let end = report::least_cost(answer, &mut out);
-    console::print::text(rt, &out[..end]);
+    let printed = report::least_cost(answer);
+    console::print::text(rt, printed.as_str().as_bytes());
 }
 
 fn print_cost_of(rt: &HostRuntime, text: &[u8], costs: &[u8], given: Given) {

@@ -13,14 +13,13 @@ fn main(rt: HostRuntime) {
     let mut costs = [0u8; TEXT];
     let mut list = [0u16; LIST];
     let mut table = [0u64; PROGRAM_TABLE];
-    let mut out = [0u8; TEXT];
     if let Some(texts) = read_texts(&rt, &mut job, None, &mut costs) {
         let given = Given {
             costs: texts.costs.is_some(),
         };
         let costs = texts.costs.unwrap_or(&[]);
         let answer = jesmovit::least_cost(texts.job, costs, given, &mut list, &mut table);
-        let end = report::least_cost(answer, &mut out);
-        console::print::text(&rt, &out[..end]);
+        let printed = report::least_cost(answer);
+        console::print::text(&rt, printed.as_str().as_bytes());
     }
 }

@@ -6,10 +6,9 @@ use console::files::TEXT;
 
 fn main(rt: HostRuntime) {
     let mut text = [0u8; TEXT];
-    let mut out = [0u8; TEXT];
     if let Some(job) = console::arguments::read_argument(&rt, 1, "job.txt", &mut text) {
         let answer = jesmovit::read_job(job);
-        let end = report::read(answer, &mut out);
-        console::print::text(&rt, &out[..end]);
+        let printed = report::read(answer);
+        console::print::text(&rt, printed.as_str().as_bytes());
     }
 }

@@ -1,8 +1,9 @@
-// What the programs print, written as bytes into a lent buffer.
+// What the programs print, as text.
 #![tactic(auto)]
 
 mod lines;
 mod printouts;
-mod put;
+mod room;
 
 pub use printouts::{check, compile, judge, least_cost, read, sheet};
+pub use room::{Printout, ROOM};

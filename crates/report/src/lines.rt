@@ -1,88 +1,84 @@
-// Lines, written over a buffer from a place on; each function answers the place after what it
-// wrote.
-ghost use Rattle.std.specs.Prelude.{[], ◌∷◌, ◌++◌, ◌+◌, ◌*◌, ◌≤◌, length};
-ghost use Rattle.text.specs.Written.{decimal, written};
-ghost use Rattle.report.specs.Put.{Put};
-ghost use Rattle.semantics.specs.Verdict.{plan};
-ghost use Rattle.validate.specs.Verdict.{verdict_of};
+// Lines, appended to what is printed so far. They are no impl of Display: a clause says nothing of a
+// `fmt` that answers an error, and nothing here can answer one.
+ghost use Rattle.std.specs.Prelude.{◌≡◌, ◌++◌, ◌+◌, ◌*◌, ◌/◌, ◌≤◌, ◌<◌, length};
+ghost use Rattle.arrayvec.specs.ArrayString.{array_string_len};
+ghost use Rattle.text.specs.Written.{decimal, line_text};
 ghost use Rattle.job.specs.Refusal.{number_of};
-ghost use Rattle.report.specs.Printout.{step_line, step_lines, refused_line, verdict_lines};
+ghost use Rattle.validate.specs.Verdict.{verdict_of};
+ghost use Rattle.report.specs.Room.{room};
+ghost use Rattle.report.specs.Printout.{step_lines, refused_line, verdict_lines};
 
-use crate::put;
+use crate::room::Printout;
 use job::refusal::Refusal;
 use validate::verdict::Verdict;
 
-// What stands in front, as `cost=`, then a number and the line feed.
-pub(crate) fn line(out: &mut [u8], at: usize, front: &[u8], n: u64) -> usize
-    requires { at + (length front.now + 21) ≤ length out.old }
-    ensures { Put (length front.now + 21) (front.now ++ written (n ∷ [])) out.old at out.new result }
+#[tactic(auto, using(text::proofs::PrintedDecimal::printed_decimal))]
+fn number(out: &mut Printout, n: u64)
+    requires { array_string_len out.old + 20 ≤ room }
+    ensures text { out.new.bytes ≡ out.old.bytes ++ decimal n }
+    ensures short { array_string_len out.new ≤ array_string_len out.old + 20 }
 {
-    let a = put::text(out, at, front);
-    let b = put::number(out, a, n);
-    put::byte(out, b, 10)
+    let mut buffer = itoa::Buffer::new();
+    out.push_str(buffer.format(n));
 }
 
-// A mark, as a comma, and a number.
-fn marked(out: &mut [u8], at: usize, mark: u8, n: u16) -> usize
-    requires { at + 6 ≤ length out.old }
-    ensures { Put 6 (mark ∷ decimal n) out.old at out.new result }
+// A key and its numbers, of which there is one at the least.
+pub(crate) fn line(out: &mut Printout, key: &str, numbers: &[u64])
+    requires some { 0 < length numbers.now }
+    requires room { array_string_len out.old + (length key.now + 1 + length numbers.now * 21) ≤ room }
+    ensures text { out.new.bytes ≡ out.old.bytes ++ line_text key.now numbers.now }
+    ensures short { array_string_len out.new ≤ array_string_len out.old + (length key.now + 1 + length numbers.now * 21) }
 {
-    let a = put::byte(out, at, mark);
-    put::short_number(out, a, n)
-}
-
-fn step_line(out: &mut [u8], at: usize, kind: u16, from: u16, to: u16, arg: u16) -> usize
-    requires { at + 26 ≤ length out.old }
-    ensures { Put 26 (step_line kind from to arg) out.old at out.new result }
-{
-    let a = put::byte(out, at, b's');
-    let b = marked(out, a, b'=', kind);
-    let c = marked(out, b, b',', from);
-    let d = marked(out, c, b',', to);
-    let e = marked(out, d, b',', arg);
-    put::byte(out, e, 10)
+    out.push_str(key);
+    out.push_str("=");
+    let [first, others @ ..] = numbers else {
+        unreachable!();
+    };
+    number(out, *first);
+    for &n in others {
+        out.push_str(",");
+        number(out, n);
+    }
+    out.push_str("\n");
 }
 
 // A line for each four numbers of a list.
-pub(crate) fn steps(out: &mut [u8], at: usize, list: &[u16]) -> usize
-    requires { at + length list.now * 7 ≤ length out.old }
-    ensures { Put (length list.now * 7) (step_lines list.now) out.old at out.new result }
+pub(crate) fn steps(out: &mut Printout, list: &[u16])
+    requires { array_string_len out.old + length list.now / 4 * 86 ≤ room }
+    ensures text { out.new.bytes ≡ out.old.bytes ++ step_lines list.now }
+    ensures short { array_string_len out.new ≤ array_string_len out.old + length list.now / 4 * 86 }
 {
-    let mut next = at;
-    let mut k: usize = 0;
-    while 4 <= list.len() - k {
-        next = step_line(out, next, list[k], list[k + 1], list[k + 2], list[k + 3]);
-        k += 4;
+    let (all, _) = list.as_chunks::<4>();
+    for &[kind, from, to, arg] in all {
+        line(out, "s", &[kind as u64, from as u64, to as u64, arg as u64]);
     }
-    next
 }
 
-pub(crate) fn refusal(out: &mut [u8], at: usize, r: Refusal) -> usize
-    requires { at + 64 ≤ length out.old }
-    ensures { Put 64 (refused_line (number_of r.reason) r.place) out.old at out.new result }
+#[tactic(auto, unfolding(text::specs::Bytes::bytes))]
+pub(crate) fn refusal(out: &mut Printout, r: Refusal)
+    requires { array_string_len out.old + 64 ≤ room }
+    ensures { out.new.bytes ≡ out.old.bytes ++ refused_line (number_of r.reason) r.place }
 {
-    let a = put::text(out, at, b"refused=");
     let number = u8::from(r.reason);
-    let b = put::number(out, a, number as u64);
-    line(out, b, b",", r.place as u64)
+    line(out, "refused", &[number as u64, r.place as u64]);
 }
 
-fn plan(out: &mut [u8], at: usize, cost: u64) -> usize
-    requires { at + 64 ≤ length out.old }
-    ensures { Put 64 (verdict_lines (plan cost)) out.old at out.new result }
-{
-    let a = line(out, at, b"cost=", cost);
-    put::text(out, a, b"answer=plan\n")
-}
-
-pub(crate) fn verdict(out: &mut [u8], at: usize, v: Verdict) -> usize
-    requires { at + 64 ≤ length out.old }
-    ensures { Put 64 (verdict_lines (verdict_of v)) out.old at out.new result }
+#[tactic(auto, unfolding(text::specs::Bytes::bytes, text::specs::Written::written))]
+pub(crate) fn verdict(out: &mut Printout, v: Verdict)
+    requires { array_string_len out.old + 64 ≤ room }
+    ensures { out.new.bytes ≡ out.old.bytes ++ verdict_lines (verdict_of v) }
 {
     match v {
-        Verdict::Plan(cost) => plan(out, at, cost),
-        Verdict::Blocked(i) => line(out, at, b"answer=blocked,", i as u64),
-        Verdict::Unfinished => put::text(out, at, b"answer=unfinished\n"),
-        Verdict::Missed => put::text(out, at, b"answer=missed\n"),
+        Verdict::Plan(cost) => {
+            line(out, "cost", &[cost]);
+            out.push_str("answer=plan\n");
+        }
+        Verdict::Blocked(i) => {
+            out.push_str("answer=blocked,");
+            number(out, i as u64);
+            out.push_str("\n");
+        }
+        Verdict::Unfinished => out.push_str("answer=unfinished\n"),
+        Verdict::Missed => out.push_str("answer=missed\n"),
     }
 }

@@ -1,141 +1,149 @@
-// What each program prints: the buffer's first bytes, as many as the function answers.
-ghost use Rattle.std.specs.Prelude.{◌+◌, ◌*◌, ◌≤◌, length, take};
+// What each program prints.
+ghost use Rattle.std.specs.Prelude.{◌≡◌, ◌++◌, ◌+◌, ◌*◌, ◌≤◌, length};
+ghost use Rattle.arrayvec.specs.ArrayString.{array_string_len};
 ghost use Rattle.limits.specs.Limits.{most_steps};
 ghost use Rattle.jesmovit.specs.Outcomes.{judgement_of};
-ghost use Rattle.report.specs.Put.{Put, Prints};
+ghost use Rattle.report.specs.Room.{room};
 ghost use Rattle.report.specs.Printout.{cost_lines, judgement_lines, compiled_lines, count_lines};
 ghost use Rattle.report.specs.Printout.{judge_printout, least_printout, compile_printout, check_printout, read_printout, sheet_printout};
 
-use crate::{lines, put};
+use crate::lines;
+use crate::room::Printout;
 use jesmovit::{
     CheckAnswer, CompileAnswer, JudgeAnswer, Judgement, LeastAnswer, ReadAnswer, SheetAnswer,
 };
 use job::head::Counts;
 
-fn compiled(out: &mut [u8], positions: u16, steps: u16, list: &[u16]) -> usize
-    requires { (32768 ≤ length out.old) × (length list.now ≤ most_steps * 4) }
-    ensures { Put 28800 (compiled_lines positions steps list.now) out.old 0 out.new result }
+#[tactic(auto, unfolding(text::specs::Bytes::bytes))]
+fn compiled(out: &mut Printout, positions: u16, steps: u16, list: &[u16])
+    requires room { array_string_len out.old + 88192 ≤ room }
+    requires few { length list.now ≤ most_steps * 4 }
+    ensures text { out.new.bytes ≡ out.old.bytes ++ compiled_lines positions steps list.now }
+    ensures short { array_string_len out.new ≤ array_string_len out.old + 88192 }
 {
-    let a = lines::line(out, 0, b"positions=", positions as u64);
-    let b = lines::line(out, a, b"steps=", steps as u64);
-    let numbers = load::room::front(list, (steps as usize) * 4);
-    lines::steps(out, b, numbers)
+    lines::line(out, "positions", &[positions as u64]);
+    lines::line(out, "steps", &[steps as u64]);
+    let numbers = &list[..list.len().min((steps as usize) * 4)];
+    lines::steps(out, numbers);
 }
 
-fn costs(out: &mut [u8], at: usize, cost: u64, least: u64) -> usize
-    requires { at + 64 ≤ length out.old }
-    ensures { Put 64 (cost_lines cost least) out.old at out.new result }
+#[tactic(auto, unfolding(text::specs::Bytes::bytes))]
+fn costs(out: &mut Printout, cost: u64, least: u64)
+    requires { array_string_len out.old + 64 ≤ room }
+    ensures text { out.new.bytes ≡ out.old.bytes ++ cost_lines cost least }
+    ensures short { array_string_len out.new ≤ array_string_len out.old + 64 }
 {
-    let a = lines::line(out, at, b"cost=", cost);
-    lines::line(out, a, b"least=", least)
+    lines::line(out, "cost", &[cost]);
+    lines::line(out, "least", &[least]);
 }
 
-fn judgement(out: &mut [u8], at: usize, j: Judgement) -> usize
-    requires { at + 128 ≤ length out.old }
-    ensures { Put 128 (judgement_lines (judgement_of j)) out.old at out.new result }
+#[tactic(auto, unfolding(text::specs::Bytes::bytes))]
+fn judgement(out: &mut Printout, j: Judgement)
+    requires { array_string_len out.old + 128 ≤ room }
+    ensures { out.new.bytes ≡ out.old.bytes ++ judgement_lines (judgement_of j) }
 {
     match j {
         Judgement::Least(cost) => {
-            let a = costs(out, at, cost, cost);
-            put::text(out, a, b"answer=least\n")
+            costs(out, cost, cost);
+            out.push_str("answer=least\n");
         }
         Judgement::Dearer(cost, least) => {
-            let a = costs(out, at, cost, least);
-            put::text(out, a, b"answer=dearer\n")
+            costs(out, cost, least);
+            out.push_str("answer=dearer\n");
         }
-        Judgement::Other(v) => lines::verdict(out, at, v),
+        Judgement::Other(v) => lines::verdict(out, v),
     }
 }
 
 // What judging prints.
-pub fn judge(answer: JudgeAnswer, list: &[u16], out: &mut [u8]) -> usize
-    requires { (32768 ≤ length out.old) × (length list.now ≤ most_steps * 4) }
-    ensures { Prints (judge_printout answer list.now) out.new result }
+pub fn judge(answer: JudgeAnswer, list: &[u16]) -> Printout
+    requires { length list.now ≤ most_steps * 4 }
+    ensures { result.bytes ≡ judge_printout answer list.now }
 {
+    let mut out = Printout::new();
     match answer {
         JudgeAnswer::Judged(positions, steps, j) => {
-            let a = compiled(out, positions, steps, list);
-            judgement(out, a, j)
+            compiled(&mut out, positions, steps, list);
+            judgement(&mut out, j);
         }
-        JudgeAnswer::Refused(r) => lines::refusal(out, 0, r),
+        JudgeAnswer::Refused(r) => lines::refusal(&mut out, r),
     }
+    out
 }
 
 // What the least cost prints.
-pub fn least_cost(answer: LeastAnswer, out: &mut [u8]) -> usize
-    requires { 64 ≤ length out.old }
-    ensures { Prints (least_printout answer) out.new result }
+#[tactic(auto, unfolding(text::specs::Bytes::bytes))]
+pub fn least_cost(answer: LeastAnswer) -> Printout
+    ensures { result.bytes ≡ least_printout answer }
 {
+    let mut out = Printout::new();
     match answer {
-        LeastAnswer::Costs(cost) => lines::line(out, 0, b"least=", cost),
-        LeastAnswer::NoPlan => put::text(out, 0, b"answer=none\n"),
-        LeastAnswer::Refused(r) => lines::refusal(out, 0, r),
+        LeastAnswer::Costs(cost) => lines::line(&mut out, "least", &[cost]),
+        LeastAnswer::NoPlan => out.push_str("answer=none\n"),
+        LeastAnswer::Refused(r) => lines::refusal(&mut out, r),
     }
+    out
 }
 
 // What compiling prints.
-pub fn compile(answer: CompileAnswer, list: &[u16], out: &mut [u8]) -> usize
-    requires { (32768 ≤ length out.old) × (length list.now ≤ most_steps * 4) }
-    ensures { Prints (compile_printout answer list.now) out.new result }
+pub fn compile(answer: CompileAnswer, list: &[u16]) -> Printout
+    requires { length list.now ≤ most_steps * 4 }
+    ensures { result.bytes ≡ compile_printout answer list.now }
 {
+    let mut out = Printout::new();
     match answer {
-        CompileAnswer::Compiled(positions, steps) => compiled(out, positions, steps, list),
-        CompileAnswer::Refused(r) => lines::refusal(out, 0, r),
+        CompileAnswer::Compiled(positions, steps) => compiled(&mut out, positions, steps, list),
+        CompileAnswer::Refused(r) => lines::refusal(&mut out, r),
     }
+    out
 }
 
 // What a check prints.
-pub fn check(answer: CheckAnswer, out: &mut [u8]) -> usize
-    requires { 64 ≤ length out.old }
-    ensures { Prints (check_printout answer) out.new result }
+pub fn check(answer: CheckAnswer) -> Printout
+    ensures { result.bytes ≡ check_printout answer }
 {
+    let mut out = Printout::new();
     match answer {
-        CheckAnswer::Said(v) => lines::verdict(out, 0, v),
-        CheckAnswer::Refused(r) => lines::refusal(out, 0, r),
+        CheckAnswer::Said(v) => lines::verdict(&mut out, v),
+        CheckAnswer::Refused(r) => lines::refusal(&mut out, r),
     }
+    out
 }
 
-fn counts(out: &mut [u8], c: Counts) -> usize
-    requires { 192 ≤ length out.old }
-    ensures { Put 192 (count_lines c) out.old 0 out.new result }
+#[tactic(auto, unfolding(text::specs::Bytes::bytes))]
+fn counts(out: &mut Printout, c: Counts)
+    requires { array_string_len out.old + 192 ≤ room }
+    ensures { out.new.bytes ≡ out.old.bytes ++ count_lines c }
 {
-    let f = lines::line(out, 0, b"facts=", c.facts as u64);
-    let g = lines::line(out, f, b"formulas=", c.formulas as u64);
-    let m = lines::line(out, g, b"moves=", c.moves as u64);
-    let e = lines::line(out, m, b"effects=", c.effects as u64);
-    let o = lines::line(out, e, b"objects=", c.objects as u64);
-    lines::line(out, o, b"program=", c.program as u64)
+    lines::line(out, "facts", &[c.facts as u64]);
+    lines::line(out, "formulas", &[c.formulas as u64]);
+    lines::line(out, "moves", &[c.moves as u64]);
+    lines::line(out, "effects", &[c.effects as u64]);
+    lines::line(out, "objects", &[c.objects as u64]);
+    lines::line(out, "program", &[c.program as u64]);
 }
 
 // What reading a job prints.
-pub fn read(answer: ReadAnswer, out: &mut [u8]) -> usize
-    requires { 192 ≤ length out.old }
-    ensures { Prints (read_printout answer) out.new result }
+pub fn read(answer: ReadAnswer) -> Printout
+    ensures { result.bytes ≡ read_printout answer }
 {
+    let mut out = Printout::new();
     match answer {
-        ReadAnswer::Read(c) => counts(out, c),
-        ReadAnswer::Refused(r) => lines::refusal(out, 0, r),
+        ReadAnswer::Read(c) => counts(&mut out, c),
+        ReadAnswer::Refused(r) => lines::refusal(&mut out, r),
     }
+    out
 }
 
-// How many of its first so many bytes a buffer has.
-fn held(out: &[u8], bytes: usize) -> usize
-    ensures { Prints (take bytes out.now) out.now result }
+// What laying out prints: the sheet that stands in the output already, or what is said instead.
+pub fn sheet<'a>(answer: SheetAnswer, output: &'a [u8], said: &'a mut Printout) -> &'a [u8]
+    ensures { result.now ≡ sheet_printout answer output.now }
 {
-    if bytes <= out.len() {
-        return bytes;
-    }
-    out.len()
-}
-
-// What laying out prints: the sheet stands in the buffer already.
-pub fn sheet(answer: SheetAnswer, out: &mut [u8]) -> usize
-    requires { 64 ≤ length out.old }
-    ensures { Prints (sheet_printout answer out.old) out.new result }
-{
+    said.clear();
     match answer {
-        SheetAnswer::Laid(bytes) => held(out, bytes),
-        SheetAnswer::Said(v) => lines::verdict(out, 0, v),
-        SheetAnswer::Refused(r) => lines::refusal(out, 0, r),
+        SheetAnswer::Laid(bytes) => return &output[..bytes.min(output.len())],
+        SheetAnswer::Said(v) => lines::verdict(said, v),
+        SheetAnswer::Refused(r) => lines::refusal(said, r),
     }
+    said.as_str().as_bytes()
 }

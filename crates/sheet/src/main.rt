@@ -21,7 +21,7 @@ fn main(rt: HostRuntime) {
         };
         let costs = texts.costs.unwrap_or(&[]);
         let answer = jesmovit::sheet(texts.job, texts.plan, costs, given, &mut list, &mut out);
-        let end = report::sheet(answer, &mut out);
-        console::print::text(&rt, &out[..end]);
+        let mut said = report::Printout::new();
+        console::print::text(&rt, report::sheet(answer, &out, &mut said));
     }
 }

@@ -1,11 +1,18 @@
-use native.Mathlib.Omega.{arith}
-use mathlib.Core.List.{append_assoc, [], ◌∷◌}
-use Rattle.text.specs.Written.{decimal, written}
-use Rattle.report.proofs.PutLaws.{put_append, put_as}
+use Rattle.std.proofs.Common.{arith, ◌++◌}
+use Rattle.text.specs.Written.{line_text}
+use Rattle.report.proofs.LineLaws.{first_put, number_put}
 use Rattle.report.proofs.lines.line.Goals as goal
 
-pub returns : goal.returns
-unfolding written
-returns c =
-    put_as _ (append_assoc c.args.front.now (decimal c.args.n) (10 ∷ [])) (omega arith)
-    (put_append (put_append c.text-a.ensures c.number-b.ensures) c.byte.ensures)
+pub loop-n-init : goal.loop-n-init
+loop-n-init c = record {
+  text = first_put _ _ _ c.requires.some c.push_str.ensures.bytes c.push_str-2.ensures.bytes c.number.ensures.text;
+  short = omega arith;
+}
+
+pub loop-n-preserved : goal.loop-n-preserved
+loop-n-preserved c = record {
+  text =
+      number_put (c.args.out.now.bytes ++ line_text c.args.key.now c.args.numbers.now) _ _ _ c.loop-n.invariant.text c.loop-n-test.true
+      c.push_str-in-loop-n.ensures.bytes c.number-in-loop-n.ensures.text;
+  short = omega arith;
+}

@@ -1,14 +1,11 @@
-use mathlib.Core.Path.{refl, ◌∙◌}
-use native.Mathlib.Omega.{arith}
-use Rattle.report.proofs.StepLaws.{onward_start, onward_more, onward_end}
+use Rattle.std.proofs.Common.{arith}
+use Rattle.report.proofs.StepLaws.{step_put, steps_put}
 use Rattle.report.proofs.lines.steps.Goals as goal
 
-pub loop-k-init : goal.loop-k-init
-loop-k-init c = (refl, onward_start c.args.list.now c.args.out.now c.args.at)
+pub loop-kind-preserved : goal.loop-kind-preserved
+loop-kind-preserved c =
+    let all = c.as_chunks.ensures in
+    record { text = step_put _ _ _ _ _ c.loop-kind.invariant.text all.front all.front_len c.loop-kind-test.true c.line.ensures.text; short = omega arith }
 
-pub loop-k-preserved : goal.loop-k-preserved
-loop-k-preserved c =
-    (c.step_line-next.auto.out ∙ c.loop-k.invariant.0, onward_more c.loop-k.invariant.1 (omega arith) c.step_line-next.ensures)
-
-pub returns : goal.returns
-returns c = onward_end c.loop-k.invariant.1 (omega arith)
+pub returns-clause-text : goal.returns-clause-text
+returns-clause-text c = steps_put c.args.list.now c.as_chunks.result.0.now c.loop-kind.kind-index _ _ c.loop-kind.invariant.text (omega (arith, c.as_chunks.ensures.front_len))

@@ -1,11 +1,10 @@
-use Prim.Native.Nat.{◌-◌}
-use mathlib.Core.Path.{◌≡◌}
-use lib.ListN.{length}
-use Rattle.report.proofs.StepLaws.{Onward}
+use Rattle.std.proofs.Common.{◌≡◌, ◌+◌, ◌*◌, ◌≤◌, ◌++◌, drop}
+use Rattle.arrayvec.specs.ArrayString.{array_string_len}
+use Rattle.report.specs.Printout.{step_lines}
 use Rattle.report.proofs.lines.steps.Given as goal
 
-abbrev pub invariant-loop-k : goal.invariant-loop-k
-invariant-loop-k l = (length l.out ≡ length l.initial.out) × Onward l.list l.initial.out l.at l.out l.next l.k
-
-abbrev pub decreases-loop-k : goal.decreases-loop-k
-decreases-loop-k l = length l.list - l.k
+abbrev pub invariant-loop-kind : goal.invariant-loop-kind
+invariant-loop-kind l = record {
+  text : l.out.bytes ++ step_lines (drop (l.kind-index * 4) l.list) ≡ l.fn.out.bytes ++ step_lines l.list;
+  short : array_string_len l.out ≤ array_string_len l.fn.out + l.kind-index * 86;
+}
