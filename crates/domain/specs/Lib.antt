@@ -2,5 +2,4 @@ pub mod State
 pub mod Meaning
 pub mod Effects
 pub mod Domain
-pub mod Successor
 pub mod Entries

@@ -9,10 +9,3 @@ pub mod meaning;
 pub mod moves;
 pub mod states;
 pub mod world;
-
-// The state after a move, where it is applicable.
-#[derive(Clone, Copy)]
-pub enum Successor {
-    To(u16),
-    Inapplicable,
-}
