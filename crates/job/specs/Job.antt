@@ -1,35 +1,24 @@
 -- A job as its rows: "Rows of each sort count from 0."
 use Rattle.std.specs.Prelude.{ℕ, List, [], ◌∷◌, ◌++◌, length, get_or}
 use Rattle.job.specs.declared.head.Counts.{Counts}
+use Rattle.job.specs.declared.stored as S
 
--- `f=kind,a,b`
-pub record Formula : Type 0 where
-  pub kind : ℕ
-  pub a : ℕ
-  pub b : ℕ
+-- the rows are those that the code reads. `f=kind,a,b`
+abbrev pub Formula : Type 0
+Formula = S.Formula.Formula
 
 -- `m=pre,class,E,formula,class`: "its first class, plus the second where the formula holds", which is
 -- `when`; its effects are E of the job's effects, from number `first` on
-pub record Move : Type 0 where
-  pub pre : ℕ
-  pub class : ℕ
-  pub effects : ℕ
-  pub when : ℕ
-  pub second : ℕ
-  pub first : ℕ
+abbrev pub Move : Type 0
+Move = S.Move.Move
 
 -- `e=cond,fact,value`
-pub record Effect : Type 0 where
-  pub cond : ℕ
-  pub fact : ℕ
-  pub value : ℕ
+abbrev pub Effect : Type 0
+Effect = S.Effect.Effect
 
 -- `p=kind,a,b,c`: a row of the program (document 01: recipe)
-pub record Row : Type 0 where
-  pub kind : ℕ
-  pub a : ℕ
-  pub b : ℕ
-  pub c : ℕ
+abbrev pub Row : Type 0
+Row = S.ProgramRow.ProgramRow
 
 pub record Scalars : Type 0 where
   pub facts : ℕ
