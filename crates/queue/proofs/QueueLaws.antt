@@ -18,4 +18,4 @@ chosen_first queue (Some s) e =
 chosen_first queue None e = rest (λ k h. (
     let end = searched (position_or_len (λ k. ltb k no_key) queue) (length queue) _ refl e in
     ltb-false (get_or queue k 0) no_key (fails_before_first (λ k. ltb k no_key) queue k 0 (omega arith))
-))
+    ))
