@@ -20,6 +20,7 @@ pub struct Arrival {
     pub cost: u64,
 }
 
+// A world, and for each move whose successor is worked out that successor.
 #[derive(Drop)]
 pub struct Explored<'t> {
     pub world: World<'t>,
@@ -56,6 +57,7 @@ impl<'t> Explored<'t> {
         self.kept[i] = Some(after);
         after
     }
+
     // Where a step leads, if it can be made.
     pub fn arrive(&mut self, step: OutStep) -> Option<Arrival>
         ensures leads { arrival_of result ≡ arrives (domain_at self.old.world.task) (label_of step) self.old.world.state step.to }
