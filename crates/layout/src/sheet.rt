@@ -14,7 +14,8 @@ use job::task::Task;
 // Lines of a page.
 const PAGE: usize = 60;
 
-// How many bytes a sheet may have.
+// How many bytes a sheet may have. A constant's value calls no function, so it is rounded up by `/`
+// and `*`.
 pub const SHEET: usize = (limits::ENTRIES + PAGE - 1) / PAGE * PAGE * LINE;
 
 // How many lines the pages of so many rows have.
@@ -53,6 +54,7 @@ fn put_lines(task: &Task, plan: &[u16], out: &mut [u8]) -> usize
             cost,
             total,
         };
+        // No chunks_exact_mut: what is written through a chunk is lost to the proof.
         let at = i * LINE;
         put_line(&mut out[at..at + LINE], line);
         let Some(next) = world.successor(m) else {
