@@ -7,11 +7,10 @@ use Rattle.semantics.specs.Judgement.{Judgement, least, dearer, other}
 use Rattle.compile.specs.declared.sizes.Sizes.{Sizes}
 use Rattle.load.specs.Refusals.{Checked, passed, refused}
 use Rattle.jesmovit.specs.Outcomes.{read_outcome, compile_outcome, check_outcome, least_outcome, judge_outcome, WriteOutcome, wrote, said, sheet_outcome}
-use Rattle.jesmovit.specs.declared.judging.JudgeAnswer.{JudgeAnswer}
-use Rattle.jesmovit.specs.declared.judging.LeastAnswer.{LeastAnswer}
-use Rattle.jesmovit.specs.declared.compiling.CompileAnswer.{CompileAnswer}
-use Rattle.jesmovit.specs.declared.checking.CheckAnswer.{CheckAnswer}
-use Rattle.jesmovit.specs.declared.job_text.ReadAnswer.{ReadAnswer}
+use Rattle.std.specs.Prelude.{Result}
+use Rattle.job.specs.declared.refusal.Refusal.{Refusal}
+use Rattle.validate.specs.declared.verdict.Verdict as V
+use Rattle.jesmovit.specs.declared.judging.Judged.{Judged}
 use Rattle.jesmovit.specs.declared.laying.SheetAnswer.{SheetAnswer}
 use Rattle.capi.specs.declared.numbers.Numbers.{Numbers}
 use Rattle.capi.specs.declared.numbers.Coded.{Coded}
@@ -68,20 +67,20 @@ laid_numbers (said v) = code_numbers (verdict_code v)
 abbrev pub judged_numbers : Sizes → Coded → Numbers
 judged_numbers s o = done s.positions s.steps o.number o.first o.second
 
-abbrev pub read_numbers : ReadAnswer → Numbers
+abbrev pub read_numbers : Result Counts Refusal → Numbers
 read_numbers a = outcome_numbers count_numbers (read_outcome a)
 
-abbrev pub compile_numbers : CompileAnswer → Numbers
+abbrev pub compile_numbers : Result Sizes Refusal → Numbers
 compile_numbers a = outcome_numbers size_numbers (compile_outcome a)
 
-abbrev pub check_numbers : CheckAnswer → Numbers
+abbrev pub check_numbers : Result V.Verdict Refusal → Numbers
 check_numbers a = outcome_numbers (λ v. code_numbers (verdict_code v)) (check_outcome a)
 
-abbrev pub least_numbers : LeastAnswer → Numbers
+abbrev pub least_numbers : Result (Option ℕ) Refusal → Numbers
 least_numbers a = outcome_numbers cost_numbers (least_outcome a)
 
-abbrev pub judge_numbers : JudgeAnswer → Numbers
+abbrev pub judge_numbers : Result Judged Refusal → Numbers
 judge_numbers a = outcome_numbers (λ g. judged_numbers g.sizes (judgement_code g.judgement)) (judge_outcome a)
 
-abbrev pub sheet_numbers : SheetAnswer → Numbers
+abbrev pub sheet_numbers : Result SheetAnswer Refusal → Numbers
 sheet_numbers a = outcome_numbers laid_numbers (sheet_outcome a)

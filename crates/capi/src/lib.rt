@@ -16,12 +16,14 @@ ghost use Rattle.capi.specs.Calls.{Gives};
 mod given;
 mod numbers;
 
+use crate::numbers::Numbers;
+
 // Reads a job text: its counts.
 pub fn jesmovit_read_job(text: &[u8], answer: &mut [u64; 5]) -> u32
     ensures { Gives read_numbers (λ a. Reads text.now a) result answer.new }
 {
     let a = jesmovit::read_job(text);
-    let n = numbers::of_read(a);
+    let n = Numbers::from(a);
     numbers::hand_out(n, answer)
 }
 
@@ -30,7 +32,7 @@ pub fn jesmovit_compile(text: &[u8], list: &mut [u16], answer: &mut [u64; 5]) ->
     ensures { Gives compile_numbers (λ a. Compiles text.now list.old a list.new) result answer.new }
 {
     let a = jesmovit::compile(text, list);
-    let n = numbers::of_compile(a);
+    let n = Numbers::from(a);
     numbers::hand_out(n, answer)
 }
 
@@ -49,7 +51,7 @@ pub fn jesmovit_check_moves(
 {
     let g = given::given_in(given);
     let a = jesmovit::check_moves(text, plan, costs, g, list);
-    let n = numbers::of_check(a);
+    let n = Numbers::from(a);
     numbers::hand_out(n, answer)
 }
 
@@ -68,7 +70,7 @@ pub fn jesmovit_check_steps(
 {
     let g = given::given_in(given);
     let a = jesmovit::check_steps(text, plan, costs, g, list);
-    let n = numbers::of_check(a);
+    let n = Numbers::from(a);
     numbers::hand_out(n, answer)
 }
 
@@ -87,7 +89,7 @@ pub fn jesmovit_least_cost(
 {
     let g = given::given_in(given);
     let a = jesmovit::least_cost(text, costs, g, list, table);
-    let n = numbers::of_least(a);
+    let n = Numbers::from(a);
     numbers::hand_out(n, answer)
 }
 
@@ -108,7 +110,7 @@ pub fn jesmovit_judge(
 {
     let g = given::given_in(given);
     let a = jesmovit::judge(text, plan, costs, g, list, table);
-    let n = numbers::of_judge(a);
+    let n = Numbers::from(a);
     numbers::hand_out(n, answer)
 }
 
@@ -130,6 +132,6 @@ pub fn jesmovit_sheet(
 {
     let g = given::given_in(given);
     let a = jesmovit::sheet(text, plan, costs, g, list, out);
-    let n = numbers::of_sheet(a);
+    let n = Numbers::from(a);
     numbers::hand_out(n, answer)
 }

@@ -6,9 +6,9 @@ ghost use Rattle.jesmovit.specs.Outcomes.{judgement_of};
 ghost use Rattle.capi.specs.Numbers.{verdict_code, judgement_code, code_numbers, refusal_numbers};
 ghost use Rattle.capi.specs.Numbers.{read_numbers, compile_numbers, check_numbers, least_numbers, judge_numbers, sheet_numbers};
 
-use jesmovit::{
-    CheckAnswer, CompileAnswer, JudgeAnswer, Judgement, LeastAnswer, ReadAnswer, SheetAnswer,
-};
+use compile::sizes::Sizes;
+use jesmovit::{Judged, Judgement, SheetAnswer};
+use job::head::Counts;
 use job::refusal::Refusal;
 use validate::verdict::Verdict;
 
@@ -27,151 +27,167 @@ pub struct Coded {
     pub second: u64,
 }
 
-pub fn of_verdict(v: Verdict) -> Coded
-    ensures { result ≡ verdict_code (verdict_of v) }
-{
-    match v {
-        Verdict::Plan(cost) => Coded {
-            number: 0,
-            first: cost,
+impl From<Verdict> for Coded {
+    ghost from_gives = { λ v code. code ≡ verdict_code (verdict_of v) };
+
+    fn from(v: Verdict) -> Coded {
+        let (number, first) = match v {
+            Verdict::Plan(cost) => (0, cost),
+            Verdict::Blocked(i) => (1, i as u64),
+            Verdict::Unfinished => (2, 0),
+            Verdict::Missed => (3, 0),
+        };
+        Coded {
+            number,
+            first,
             second: 0,
-        },
-        Verdict::Blocked(i) => Coded {
-            number: 1,
-            first: i as u64,
-            second: 0,
-        },
-        Verdict::Unfinished => Coded {
-            number: 2,
-            first: 0,
-            second: 0,
-        },
-        Verdict::Missed => Coded {
-            number: 3,
-            first: 0,
-            second: 0,
-        },
+        }
     }
 }
 
-pub fn of_judgement(g: Judgement) -> Coded
-    ensures { result ≡ judgement_code (judgement_of g) }
-{
-    match g {
-        Judgement::Least(cost) => Coded {
-            number: 4,
-            first: cost,
-            second: cost,
-        },
-        Judgement::Dearer(cost, least) => Coded {
-            number: 5,
-            first: cost,
-            second: least,
-        },
-        Judgement::Other(v) => of_verdict(v),
+impl From<Judgement> for Coded {
+    ghost from_gives = { λ g code. code ≡ judgement_code (judgement_of g) };
+
+    fn from(g: Judgement) -> Coded {
+        match g {
+            Judgement::Least(cost) => Coded {
+                number: 4,
+                first: cost,
+                second: cost,
+            },
+            Judgement::Dearer(cost, least) => Coded {
+                number: 5,
+                first: cost,
+                second: least,
+            },
+            Judgement::Other(v) => Coded::from(v),
+        }
     }
 }
 
-pub fn of_refusal(r: Refusal) -> Numbers
-    ensures { result ≡ refusal_numbers (number_of r.reason) r.place }
-{
-    Numbers {
-        number: u32::from(u8::from(r.reason)),
-        values: [r.place as u64, 0, 0, 0, 0],
-    }
-}
+impl From<Refusal> for Numbers {
+    ghost from_gives = { λ r numbers. numbers ≡ refusal_numbers (number_of r.reason) r.place };
 
-pub fn of_read(a: ReadAnswer) -> Numbers
-    ensures { result ≡ read_numbers a }
-{
-    match a {
-        ReadAnswer::Read(c) => Numbers {
-            number: 0,
-            values: [
-                c.facts as u64,
-                c.formulas as u64,
-                c.moves as u64,
-                c.effects as u64,
-                c.program as u64,
-            ],
-        },
-        ReadAnswer::Refused(r) => of_refusal(r),
-    }
-}
-
-pub fn of_compile(a: CompileAnswer) -> Numbers
-    ensures { result ≡ compile_numbers a }
-{
-    match a {
-        CompileAnswer::Compiled(positions, steps) => Numbers {
-            number: 0,
-            values: [positions as u64, steps as u64, 0, 0, 0],
-        },
-        CompileAnswer::Refused(r) => of_refusal(r),
+    fn from(r: Refusal) -> Numbers {
+        Numbers {
+            number: u8::from(r.reason) as u32,
+            values: [r.place as u64, 0, 0, 0, 0],
+        }
     }
 }
 
 // A verdict that is the whole answer.
-fn said(v: Verdict) -> Numbers
-    ensures { result ≡ code_numbers (verdict_code (verdict_of v)) }
-{
-    let o = of_verdict(v);
-    Numbers {
-        number: 0,
-        values: [o.number, o.first, 0, 0, 0],
-    }
-}
+impl From<Verdict> for Numbers {
+    ghost from_gives = { λ v numbers. numbers ≡ code_numbers (verdict_code (verdict_of v)) };
 
-pub fn of_check(a: CheckAnswer) -> Numbers
-    ensures { result ≡ check_numbers a }
-{
-    match a {
-        CheckAnswer::Said(v) => said(v),
-        CheckAnswer::Refused(r) => of_refusal(r),
-    }
-}
-
-pub fn of_least(a: LeastAnswer) -> Numbers
-    ensures { result ≡ least_numbers a }
-{
-    match a {
-        LeastAnswer::Costs(cost) => Numbers {
+    fn from(v: Verdict) -> Numbers {
+        let o = Coded::from(v);
+        Numbers {
             number: 0,
-            values: [6, cost, 0, 0, 0],
-        },
-        LeastAnswer::NoPlan => Numbers {
-            number: 0,
-            values: [7, 0, 0, 0, 0],
-        },
-        LeastAnswer::Refused(r) => of_refusal(r),
-    }
-}
-
-pub fn of_judge(a: JudgeAnswer) -> Numbers
-    ensures { result ≡ judge_numbers a }
-{
-    match a {
-        JudgeAnswer::Judged(positions, steps, g) => {
-            let o = of_judgement(g);
-            Numbers {
-                number: 0,
-                values: [positions as u64, steps as u64, o.number, o.first, o.second],
-            }
+            values: [o.number, o.first, 0, 0, 0],
         }
-        JudgeAnswer::Refused(r) => of_refusal(r),
     }
 }
 
-pub fn of_sheet(a: SheetAnswer) -> Numbers
-    ensures { result ≡ sheet_numbers a }
-{
-    match a {
-        SheetAnswer::Laid(bytes) => Numbers {
-            number: 0,
-            values: [8, bytes as u64, 0, 0, 0],
-        },
-        SheetAnswer::Said(v) => said(v),
-        SheetAnswer::Refused(r) => of_refusal(r),
+// Of reading.
+impl From<Result<Counts, Refusal>> for Numbers {
+    ghost from_gives = { λ a numbers. numbers ≡ read_numbers a };
+
+    fn from(a: Result<Counts, Refusal>) -> Numbers {
+        match a {
+            Ok(c) => Numbers {
+                number: 0,
+                values: [
+                    c.facts as u64,
+                    c.formulas as u64,
+                    c.moves as u64,
+                    c.effects as u64,
+                    c.program as u64,
+                ],
+            },
+            Err(r) => Numbers::from(r),
+        }
+    }
+}
+
+// Of compiling.
+impl From<Result<Sizes, Refusal>> for Numbers {
+    ghost from_gives = { λ a numbers. numbers ≡ compile_numbers a };
+
+    fn from(a: Result<Sizes, Refusal>) -> Numbers {
+        match a {
+            Ok(s) => Numbers {
+                number: 0,
+                values: [s.positions as u64, s.steps as u64, 0, 0, 0],
+            },
+            Err(r) => Numbers::from(r),
+        }
+    }
+}
+
+// Of a check.
+impl From<Result<Verdict, Refusal>> for Numbers {
+    ghost from_gives = { λ a numbers. numbers ≡ check_numbers a };
+
+    fn from(a: Result<Verdict, Refusal>) -> Numbers {
+        match a {
+            Ok(v) => Numbers::from(v),
+            Err(r) => Numbers::from(r),
+        }
+    }
+}
+
+// Of the least cost.
+impl From<Result<Option<u64>, Refusal>> for Numbers {
+    ghost from_gives = { λ a numbers. numbers ≡ least_numbers a };
+
+    fn from(a: Result<Option<u64>, Refusal>) -> Numbers {
+        match a {
+            Ok(Some(cost)) => Numbers {
+                number: 0,
+                values: [6, cost, 0, 0, 0],
+            },
+            Ok(None) => Numbers {
+                number: 0,
+                values: [7, 0, 0, 0, 0],
+            },
+            Err(r) => Numbers::from(r),
+        }
+    }
+}
+
+// Of the judge.
+impl From<Result<Judged, Refusal>> for Numbers {
+    ghost from_gives = { λ a numbers. numbers ≡ judge_numbers a };
+
+    fn from(a: Result<Judged, Refusal>) -> Numbers {
+        match a {
+            Ok(j) => {
+                let s = j.sizes;
+                let o = Coded::from(j.judgement);
+                Numbers {
+                    number: 0,
+                    values: [s.positions as u64, s.steps as u64, o.number, o.first, o.second],
+                }
+            }
+            Err(r) => Numbers::from(r),
+        }
+    }
+}
+
+// Of the sheet.
+impl From<Result<SheetAnswer, Refusal>> for Numbers {
+    ghost from_gives = { λ a numbers. numbers ≡ sheet_numbers a };
+
+    fn from(a: Result<SheetAnswer, Refusal>) -> Numbers {
+        match a {
+            Ok(SheetAnswer::Laid(bytes)) => Numbers {
+                number: 0,
+                values: [8, bytes as u64, 0, 0, 0],
+            },
+            Ok(SheetAnswer::Said(v)) => Numbers::from(v),
+            Err(r) => Numbers::from(r),
+        }
     }
 }
 

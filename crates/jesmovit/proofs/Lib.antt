@@ -1,7 +1,6 @@
 pub mod AnswerLaws
-pub mod LoadedLaws
 pub mod FrontLaws
-pub mod CompileLaws
+pub mod LoadedLaws
 pub mod SaysLaws
 pub mod CostLaws
 pub mod JudgeLaws

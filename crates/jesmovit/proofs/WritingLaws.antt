@@ -21,9 +21,9 @@ use Rattle.validate.specs.declared.verdict.Verdict.{Verdict}
 use Rattle.layout.specs.Sheet.{sheet_of, sheet_size}
 use Rattle.layout.proofs.PlanLines.{sheet_length}
 use Rattle.load.specs.Refusals.{Handed, Checked, passed, refused, Offer, loading}
-use Rattle.load.specs.Loaded.{Sized}
+use Rattle.job.specs.Stored.{Stored}
+use Rattle.job.specs.declared.head.Head.{Head}
 use Rattle.load.specs.View.{View, view_of, view_in}
-use Rattle.load.specs.declared.loaded.LoadedJob.{LoadedJob}
 use Rattle.load.specs.declared.request.Sort.TheVariants.{Moves}
 use Rattle.jesmovit.specs.Outcomes.{WriteOutcome, wrote, said}
 use Rattle.jesmovit.specs.Compiling.{list_after}
@@ -50,11 +50,11 @@ plan_or_none Verdict.Missed count = inr refl
 pub other_asks : (v : Verdict) → ((x : ℕ) → v ≡ Verdict.Plan x → ⊥) → (count : ℕ) → 0 ≡ bytes_for (verdict_of v) count
 other_asks v o count = elim (plan_or_none v count) [ inl x ↦ absurd (other_variant v o x.0 (ap verdict_of x.1)) | inr e ↦ e ]
 
--- of a job that is stored and measured, and moves that it has
-module _ {l : LoadedJob} {rows plan : List ℕ} (sized : Sized l rows) (entries : EntriesBelow plan (domain_in l.head rows).moves) (list out : List ℕ)
-    (v : Verdict) (s : Says Moves (view_of (record { task = task_of l.head rows; entries = plan })) (verdict_of v)) where
+-- of a job that is stored, and moves that it has
+module _ {h : Head} {rows plan : List ℕ} (stored : Stored h rows) (entries : EntriesBelow plan (domain_in h rows).moves) (list out : List ℕ)
+    (v : Verdict) (s : Says Moves (view_of (record { task = task_of h rows; entries = plan })) (verdict_of v)) where
   abbrev view : View
-  view = view_of (record { task = task_of l.head rows; entries = plan })
+  view = view_of (record { task = task_of h rows; entries = plan })
 
   -- a verdict of another variant: nothing is laid out
   pub lay_none : ((x : ℕ) → v ≡ Verdict.Plan x → ⊥) → {after : List ℕ} → after ≡ list_after view list
@@ -69,16 +69,16 @@ module _ {l : LoadedJob} {rows plan : List ℕ} (sized : Sized l rows) (entries 
       pub plan_need : need ≡ sheet_size (length plan)
       plan_need = n ∙ ap (λ (w : Verdict). bytes_for (verdict_of w) (length plan)) e
 
-      sheet_need : length (sheet_of (domain_in l.head rows) plan) ≡ need
+      sheet_need : length (sheet_of (domain_in h rows) plan) ≡ need
       sheet_need =
           let m = plan_leads view.domain view.program planned in
-          sheet_length view.domain (stored_bounded sized.stored) sized.stored.job.moves plan entries m.1 ∙ sym plan_need
+          sheet_length view.domain (stored_bounded stored) stored.job.moves plan entries m.1 ∙ sym plan_need
 
       short_plan : length out < need
           → Writes SheetIs (record { list = list; output = out }) (passed view) (refused 6 need) (record { list = list; output = out })
       short_plan h = rw (← sheet_need) (too_short planned refl (omega (arith, sheet_need)))
 
-      pub lay_sheet : need ≤ length out → {after filled : List ℕ} → after ≡ list_after view list → filled ≡ sets out 0 (sheet_of (domain_in l.head rows) plan)
+      pub lay_sheet : need ≤ length out → {after filled : List ℕ} → after ≡ list_after view list → filled ≡ sets out 0 (sheet_of (domain_in h rows) plan)
           → Writes SheetIs (record { list = list; output = out }) (passed view) (passed (wrote need)) (record { list = after; output = filled })
       lay_sheet h f g = rw (f, g, ← sheet_need) (writes planned refl (omega (arith, sheet_need)))
 

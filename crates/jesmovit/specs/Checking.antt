@@ -1,5 +1,5 @@
 -- What checking a plan text against a job text promises.
-use Rattle.std.specs.Prelude.{ℕ, ◌≡◌, true, false, List, length}
+use Rattle.std.specs.Prelude.{ℕ, ◌≡◌, Some, None, Result, List, length}
 use Rattle.semantics.specs.Verdict.{Verdict, Judged, by_runs, by_steps}
 use Rattle.load.specs.Refusals.{Handed}
 use Rattle.load.specs.View.{View, view_steps, final_of, view_in}
@@ -9,11 +9,12 @@ use Rattle.jesmovit.specs.Texts.{Texts, handed}
 use Rattle.jesmovit.specs.Outcomes.{check_outcome}
 use Rattle.jesmovit.specs.Answers.{Answers}
 use Rattle.jesmovit.specs.Compiling.{list_after}
-use Rattle.jesmovit.specs.declared.checking.CheckAnswer.{CheckAnswer}
+use Rattle.job.specs.declared.refusal.Refusal.{Refusal}
+use Rattle.validate.specs.declared.verdict.Verdict as V
 
 -- a job text, a plan text, perhaps a costs text, and a list of so many places
 abbrev pub checking : Sort → Texts → ℕ → Handed
-checking sort t places = handed (record { given = t.given; plan = true; sort = sort; places = places; table = false; cells = 0 }) t
+checking sort t places = handed (record { given = t.given; plan = Some sort; places = places; cells = None }) t
 
 -- a verdict of "Verdicts": on moves by the runs of the program itself, on steps by the paths of the
 -- compiled job
@@ -26,5 +27,5 @@ pub record CheckDone (sort : Sort) (v : View) (w : Verdict) (old new : List ℕ)
   pub says : Says sort v w
   pub list : new ≡ list_after v old
 
-abbrev pub Checks : Sort → Texts → List ℕ → CheckAnswer → List ℕ → Type 0
+abbrev pub Checks : Sort → Texts → List ℕ → Result V.Verdict Refusal → List ℕ → Type 0
 Checks sort t list answer after = Answers (CheckDone sort) list (view_in (checking sort t (length list))) (check_outcome answer) after

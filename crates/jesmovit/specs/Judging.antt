@@ -1,6 +1,6 @@
 -- What the least cost of a job text, and judging a plan text, promise.
 use Rattle.std.specs.Prelude.{ℕ, ◌≡◌, true, false, cond, List, [], leb, length}
-use Rattle.std.specs.Prelude.{Option, None, Some}
+use Rattle.std.specs.Prelude.{Option, None, Some, Result}
 use Rattle.semantics.specs.Plan.{Allowed, Least}
 use Rattle.semantics.specs.CostTable.{Filled}
 use Rattle.semantics.specs.Judgement.{Judgement, Finds, least, dearer, other}
@@ -12,19 +12,19 @@ use Rattle.jesmovit.specs.Outcomes.{least_outcome, SizedJudgement, judge_outcome
 use Rattle.jesmovit.specs.Answers.{Answers}
 use Rattle.jesmovit.specs.Compiling.{list_after, view_sizes}
 use Rattle.jesmovit.specs.declared.judging.Judgement as Said
-use Rattle.jesmovit.specs.declared.judging.LeastAnswer.{LeastAnswer}
-use Rattle.jesmovit.specs.declared.judging.JudgeAnswer.{JudgeAnswer}
+use Rattle.jesmovit.specs.declared.judging.Judged.{Judged}
+use Rattle.job.specs.declared.refusal.Refusal.{Refusal}
 
 -- a job text, perhaps a costs text, a list of so many places and a table of so many cells; there is
 -- no plan text
 abbrev pub costing : Texts → ℕ → ℕ → Handed
 costing t places cells =
-    handed (record { given = t.given; plan = false; sort = Moves; places = places; table = true; cells = cells })
+    handed (record { given = t.given; plan = None; places = places; cells = Some cells })
     (record { job = t.job; plan = []; costs = t.costs; given = t.given })
 
 -- and a list of moves
 abbrev pub judging : Texts → ℕ → ℕ → Handed
-judging t places cells = handed (record { given = t.given; plan = true; sort = Moves; places = places; table = true; cells = cells }) t
+judging t places cells = handed (record { given = t.given; plan = Some Moves; places = places; cells = Some cells }) t
 
 -- what is lent: a list and a cost table
 pub record Lent : Type 0 where
@@ -46,7 +46,7 @@ pub record CostDone (v : View) (lowest : Option ℕ) (old new : Lent) : Type 0 w
   pub list : new.list ≡ list_after v old.list
   pub table : TableOf v old.table new.table
 
-abbrev pub CostsLeast : Texts → Lent → LeastAnswer → Lent → Type 0
+abbrev pub CostsLeast : Texts → Lent → Result (Option ℕ) Refusal → Lent → Type 0
 CostsLeast t old answer new = Answers CostDone old (view_in (costing t (length old.list) (length old.table))) (least_outcome answer) new
 
 -- a plan's cost beside the least cost: "least or dearer with both costs"
@@ -69,5 +69,5 @@ pub record JudgeDone (v : View) (judged : SizedJudgement) (old new : Lent) : Typ
   pub list : new.list ≡ list_after v old.list
   pub found : Found v judged.judgement old.table new.table
 
-abbrev pub Judges : Texts → Lent → JudgeAnswer → Lent → Type 0
+abbrev pub Judges : Texts → Lent → Result Judged Refusal → Lent → Type 0
 Judges t old answer new = Answers JudgeDone old (view_in (judging t (length old.list) (length old.table))) (judge_outcome answer) new

@@ -1,5 +1,5 @@
 -- What operations promise that write something for a plan into an output: the sheet.
-use Rattle.std.specs.Prelude.{ℕ, ◌≤◌, ◌<◌, ◌≡◌, List, length}
+use Rattle.std.specs.Prelude.{ℕ, ◌≤◌, ◌<◌, ◌≡◌, Result, List, length}
 use Rattle.std.proofs.lemmas.List.Edits.{sets}
 use Rattle.semantics.specs.Verdict.{Verdict, plan, blocked, unfinished, missed}
 use Rattle.layout.specs.Sheet.{sheet_of, sheet_size}
@@ -11,6 +11,7 @@ use Rattle.jesmovit.specs.Outcomes.{WriteOutcome, wrote, said, sheet_outcome}
 use Rattle.jesmovit.specs.Compiling.{list_after}
 use Rattle.jesmovit.specs.Checking.{checking, Says}
 use Rattle.jesmovit.specs.declared.laying.SheetAnswer.{SheetAnswer}
+use Rattle.job.specs.declared.refusal.Refusal.{Refusal}
 
 -- what is lent: a list and an output
 pub record LentOutput : Type 0 where
@@ -37,7 +38,7 @@ pub data Writes (Content : View → List ℕ → Type 0) (old : LentOutput) : Ch
 abbrev pub SheetIs : View → List ℕ → Type 0
 SheetIs v x = x ≡ sheet_of v.domain v.entries
 
-abbrev pub Sheets : Texts → LentOutput → SheetAnswer → LentOutput → Type 0
+abbrev pub Sheets : Texts → LentOutput → Result SheetAnswer Refusal → LentOutput → Type 0
 Sheets t old answer new = Writes SheetIs old (view_in (checking Moves t (length old.list))) (sheet_outcome answer) new
 
 -- in the code: how many bytes so many moves ask for after this verdict; what is no plan asks for

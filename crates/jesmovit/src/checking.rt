@@ -1,56 +1,30 @@
 // Plan texts checked against job texts, by the class costs of a costs text where one is given.
-ghost use Rattle.job.specs.Store.{job_of, task_of};
+ghost use Rattle.job.specs.StoredTask.{stored_job, stored_task};
 ghost use Rattle.domain.specs.Entries.{EntriesBelow};
-ghost use Rattle.compiled.specs.Ready.{Ready};
 ghost use Rattle.validate.specs.Verdict.{verdict_of};
 ghost use Rattle.load.specs.Refusals.{bound_for};
 ghost use Rattle.load.specs.View.{view_of};
 ghost use Rattle.jesmovit.specs.Checking.{Says, Checks};
 
-use crate::preparing::prepare;
+use crate::preparing::{compiled, prepare};
 use compiled::CompiledJob;
 use job::refusal::Refusal;
 use job::rows::STORE;
-use job::task::Task;
-use limits::ENTRIES;
-use load::loaded::{Loaded, LoadedJob};
 use load::request::{Given, Request, Sort};
-use load::room::front;
 use validate::verdict::Verdict;
 
-// The verdict on a plan; or why the texts or the list are refused.
-#[derive(Clone, Copy)]
-pub enum CheckAnswer {
-    Said(Verdict),
-    Refused(Refusal),
-}
-
-// The verdict on the entries of a plan; the list holds the compiled job's steps and nothing else.
-fn verdict<'a>(
-    sort: Sort,
-    job: LoadedJob,
-    rows: &'a [u16],
-    list: &'a [u16],
-    plan: &[u16],
-) -> Verdict
-    requires ready { Ready job.head rows.now list.now job.sizes.positions }
-    requires entries_below { EntriesBelow plan.now (bound_for sort (job_of job.head rows.now)) }
-    ensures { Says sort (view_of (record { task = task_of job.head rows.now; entries = plan.now })) (verdict_of result) }
+// The verdict on the entries of a plan.
+fn verdict(sort: Sort, job: &CompiledJob, plan: &[u16]) -> Verdict
+    requires { EntriesBelow plan.now (bound_for sort (stored_job job.now.task)) }
+    ensures { Says sort (view_of (record { task = stored_task job.now.task; entries = plan.now })) (verdict_of result) }
 {
-    let compiled = CompiledJob {
-        task: Task {
-            head: job.head,
-            rows: rows,
-        },
-        list: list,
-        positions: job.sizes.positions,
-    };
     match sort {
-        Sort::Moves => validate::moves::check_moves(&compiled, plan),
-        Sort::Steps => validate::steps::check_steps(&compiled, plan),
+        Sort::Moves => validate::moves::check_moves(job, plan),
+        Sort::Steps => validate::steps::check_steps(job, plan),
     }
 }
 
+// The verdict on a plan; or why the texts or the list are refused.
 fn check(
     sort: Sort,
     text: &[u8],
@@ -58,30 +32,23 @@ fn check(
     costs: &[u8],
     given: Given,
     list: &mut [u16],
-) -> CheckAnswer
+) -> Result<Verdict, Refusal>
     ensures { Checks sort (record { job = text.now; plan = plan.now; costs = costs.now; given = given })
         list.old result list.new }
 {
     let mut rows = [0u16; STORE];
-    let mut entries = [0u16; ENTRIES];
     let request = Request {
-        given: given,
-        plan: true,
-        sort: sort,
+        given,
+        plan: Some(sort),
         places: list.len(),
-        table: false,
-        cells: 0,
+        cells: None,
     };
-    let loaded = prepare(request, text, plan, costs, &mut rows, &mut entries, list);
-    let Loaded::Ready(job) = loaded else {
-        let r = load::loaded::refusal(loaded);
-        return CheckAnswer::Refused(r);
+    let prepared = prepare(request, text, plan, costs, &mut rows, list);
+    let Ok(offer) = prepared else {
+        return Err(prepared.unwrap_err());
     };
-    let need = load::room::list_need(job);
-    let steps = front(list, need);
-    let offered = front(&entries, job.entries);
-    let v = verdict(sort, job, &rows, steps, offered);
-    CheckAnswer::Said(v)
+    let job = compiled(&offer.job, list);
+    Ok(verdict(sort, &job, offer.entries.as_slice()))
 }
 
 // The verdict on a list of moves against the job's program. Unless the texts or the list are
@@ -92,7 +59,7 @@ pub fn check_moves(
     costs: &[u8],
     given: Given,
     list: &mut [u16],
-) -> CheckAnswer
+) -> Result<Verdict, Refusal>
     ensures { Checks Sort.Moves (record { job = text.now; plan = plan.now; costs = costs.now; given = given })
         list.old result list.new }
 {
@@ -107,7 +74,7 @@ pub fn check_steps(
     costs: &[u8],
     given: Given,
     list: &mut [u16],
-) -> CheckAnswer
+) -> Result<Verdict, Refusal>
     ensures { Checks Sort.Steps (record { job = text.now; plan = plan.now; costs = costs.now; given = given })
         list.old result list.new }
 {

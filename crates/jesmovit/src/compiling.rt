@@ -2,39 +2,26 @@
 ghost use Rattle.jesmovit.specs.Compiling.{Compiles};
 
 use crate::preparing::prepare;
+use compile::sizes::Sizes;
 use job::refusal::Refusal;
 use job::rows::STORE;
-use load::loaded::Loaded;
-use load::request::{Given, Request, Sort};
+use load::request::{Given, Request};
 
-// How many positions and steps the compiled job has; or why it is refused.
-#[derive(Clone, Copy)]
-pub enum CompileAnswer {
-    Compiled(u16, u16),
-    Refused(Refusal),
-}
-
-// Writes the steps of the job's program over the front of the list, four numbers each: kind, from,
-// to, arg.
-pub fn compile(text: &[u8], list: &mut [u16]) -> CompileAnswer
+// How many positions and steps the compiled job has; or why it is refused. Writes the steps of the
+// job's program over the front of the list, four numbers each: kind, from, to, arg.
+pub fn compile(text: &[u8], list: &mut [u16]) -> Result<Sizes, Refusal>
     ensures { Compiles text.now list.old result list.new }
 {
     let mut rows = [0u16; STORE];
-    let mut entries = [0u16; 1];
-    let given = Given { costs: false };
     let request = Request {
-        given: given,
-        plan: false,
-        sort: Sort::Moves,
+        given: Given { costs: false },
+        plan: None,
         places: list.len(),
-        table: false,
-        cells: 0,
+        cells: None,
     };
-    let none = &text[0..0];
-    let loaded = prepare(request, text, none, none, &mut rows, &mut entries, list);
-    let Loaded::Ready(job) = loaded else {
-        let r = load::loaded::refusal(loaded);
-        return CompileAnswer::Refused(r);
+    let prepared = prepare(request, text, &[], &[], &mut rows, list);
+    let Ok(offer) = prepared else {
+        return Err(prepared.unwrap_err());
     };
-    CompileAnswer::Compiled(job.sizes.positions, job.sizes.steps)
+    Ok(offer.job.sizes)
 }

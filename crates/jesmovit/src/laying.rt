@@ -1,55 +1,29 @@
 // A plan text laid out as a sheet, by the class costs of a costs text where one is given.
-ghost use Rattle.std.specs.Prelude.{◌≡◌, ◌*◌, ◌≤◌, length};
+ghost use Rattle.std.specs.Prelude.{◌≡◌, ◌≤◌, length};
 ghost use Rattle.limits.specs.Limits.{most_entries};
-ghost use Rattle.job.specs.Store.{job_of, task_of};
-ghost use Rattle.domain.specs.Domain.{domain_in};
+ghost use Rattle.job.specs.StoredTask.{stored_job, stored_task};
+ghost use Rattle.domain.specs.Domain.{domain_at};
 ghost use Rattle.domain.specs.Entries.{EntriesBelow};
-ghost use Rattle.compile.specs.CompiledJob.{step_count};
 ghost use Rattle.validate.specs.Verdict.{verdict_of};
-ghost use Rattle.load.specs.Refusals.{passed};
-ghost use Rattle.load.specs.Loaded.{Sized};
+ghost use Rattle.load.specs.Refusals.{passed, list_need};
 ghost use Rattle.load.specs.View.{view_of};
 ghost use Rattle.jesmovit.specs.Outcomes.{sheet_outcome};
 ghost use Rattle.jesmovit.specs.Checking.{Says};
 ghost use Rattle.jesmovit.specs.Writing.{Writes, bytes_for, SheetIs, Sheets};
 
-use compiled::CompiledJob;
+use crate::preparing::compiled;
 use job::refusal::Refusal;
 use job::rows::STORE;
-use job::task::Task;
-use limits::{ENTRIES, LIST};
-use load::loaded::{Loaded, LoadedJob};
+use limits::LIST;
+use load::loaded::LoadedJob;
 use load::request::{Given, Request, Sort};
-use load::room::front;
 use validate::verdict::Verdict;
 
-// How many bytes the sheet of a plan has; the verdict on what is no plan; or why the texts, the
-// list or the output are refused.
+// How many bytes the sheet of a plan has; or the verdict on what is no plan.
 #[derive(Clone, Copy)]
 pub enum SheetAnswer {
     Laid(usize),
     Said(Verdict),
-    Refused(Refusal),
-}
-
-// The verdict on a list of moves. The compiled job's steps stand in an array of its own, so that
-// the list which is lent may still hold what it held.
-fn move_verdict(job: LoadedJob, rows: &[u16], plan: &[u16]) -> Verdict
-    requires sized { Sized job rows.now }
-    requires entries_below { EntriesBelow plan.now (domain_in job.head rows.now).moves }
-    ensures { Says Sort.Moves (view_of (record { task = task_of job.head rows.now; entries = plan.now })) (verdict_of result) }
-{
-    let head = job.head;
-    let need = load::room::list_need(job);
-    let mut list = [0u16; LIST];
-    let task = Task { head, rows };
-    compile::program::compile(&task, &mut list);
-    let compiled = CompiledJob {
-        task: task,
-        list: front(&list, need),
-        positions: job.sizes.positions,
-    };
-    validate::moves::check_moves(&compiled, plan)
 }
 
 // How many bytes the output needs after the verdict on so many moves: none for what is no plan.
@@ -64,40 +38,37 @@ fn bytes_needed(verdict: Verdict, count: usize) -> usize
     }
 }
 
-// The sheet of a list of moves, if they are a plan and the output has room. The list is filled once
-// nothing is refused any more.
+// The sheet of a list of moves, if the verdict on them is that they are a plan, and the output has
+// room. The list is filled once nothing is refused any more.
 fn lay_out(
-    job: LoadedJob,
-    rows: &[u16],
+    job: &LoadedJob,
+    verdict: Verdict,
     plan: &[u16],
     list: &mut [u16],
     out: &mut [u8],
-) -> SheetAnswer
-    requires sized { Sized job rows.now × (step_count (job_of job.head rows.now) * 4 ≤ length list.old) }
-    requires entries_below { EntriesBelow plan.now (domain_in job.head rows.now).moves }
+) -> Result<SheetAnswer, Refusal>
+    requires says { Says Sort.Moves (view_of (record { task = stored_task job.now.task; entries = plan.now })) (verdict_of verdict) }
+    requires room { list_need (stored_job job.now.task) ≤ length list.old }
+    requires entries_below { EntriesBelow plan.now (domain_at job.now.task).moves }
     ensures { Writes SheetIs (record { list = list.old; output = out.old })
-        (passed (view_of (record { task = task_of job.head rows.now; entries = plan.now })))
+        (passed (view_of (record { task = stored_task job.now.task; entries = plan.now })))
         (sheet_outcome result) (record { list = list.new; output = out.new }) }
 {
-    let head = job.head;
-    let verdict = move_verdict(job, rows, plan);
     let need = bytes_needed(verdict, plan.len());
     if out.len() < need {
-        let short = load::room::too_short(need);
-        return SheetAnswer::Refused(short);
+        return Err(load::room::too_short(need));
     }
-    let task = Task { head, rows };
-    compile::program::compile(&task, list);
+    compile::program::compile(&job.task, list);
     let Verdict::Plan(_) = verdict else {
-        return SheetAnswer::Said(verdict);
+        return Ok(SheetAnswer::Said(verdict));
     };
-    layout::sheet::put_sheet(&task, plan, out);
-    SheetAnswer::Laid(need)
+    layout::sheet::put_sheet(&job.task, plan, out);
+    Ok(SheetAnswer::Laid(need))
 }
 
-// Lays out a list of moves. Unless the texts, the list or the output are refused, the list's front
-// then holds the steps of the compiled job, four numbers each; for a plan, the output's front then
-// holds the sheet.
+// Lays out a list of moves; or says why the texts, the list or the output are refused. Unless they
+// are, the list's front then holds the steps of the compiled job, four numbers each; for a plan, the
+// output's front then holds the sheet.
 pub fn sheet(
     text: &[u8],
     plan: &[u8],
@@ -105,25 +76,26 @@ pub fn sheet(
     given: Given,
     list: &mut [u16],
     out: &mut [u8],
-) -> SheetAnswer
+) -> Result<SheetAnswer, Refusal>
     ensures { Sheets (record { job = text.now; plan = plan.now; costs = costs.now; given = given })
         (record { list = list.old; output = out.old }) result (record { list = list.new; output = out.new }) }
 {
     let mut rows = [0u16; STORE];
-    let mut entries = [0u16; ENTRIES];
     let request = Request {
-        given: given,
-        plan: true,
-        sort: Sort::Moves,
+        given,
+        plan: Some(Sort::Moves),
         places: list.len(),
-        table: false,
-        cells: 0,
+        cells: None,
     };
-    let loaded = load::loading::load(request, text, plan, costs, &mut rows, &mut entries);
-    let Loaded::Ready(job) = loaded else {
-        let r = load::loaded::refusal(loaded);
-        return SheetAnswer::Refused(r);
+    let loaded = load::loading::load(request, text, plan, costs, &mut rows);
+    let Ok(offer) = loaded else {
+        return Err(loaded.unwrap_err());
     };
-    let offered = front(&entries, job.entries);
-    lay_out(job, &rows, offered, list, out)
+    // The steps stand in an array of their own, so that the list may still hold what it held.
+    let mut steps = [0u16; LIST];
+    compile::program::compile(&offer.job.task, &mut steps);
+    let job = compiled(&offer.job, &steps);
+    let plan = offer.entries.as_slice();
+    let verdict = validate::moves::check_moves(&job, plan);
+    lay_out(&offer.job, verdict, plan, list, out)
 }

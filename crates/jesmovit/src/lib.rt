@@ -8,8 +8,8 @@ mod judging;
 mod laying;
 mod preparing;
 
-pub use checking::{CheckAnswer, check_moves, check_steps};
-pub use compiling::{CompileAnswer, compile};
-pub use job_text::{ReadAnswer, read_job};
-pub use judging::{JudgeAnswer, Judgement, LeastAnswer, judge, least_cost};
+pub use checking::{check_moves, check_steps};
+pub use compiling::compile;
+pub use job_text::read_job;
+pub use judging::{Judged, Judgement, judge, least_cost};
 pub use laying::{SheetAnswer, sheet};

@@ -1,33 +1,41 @@
 // What the operations begin with that refuse nothing later.
 ghost use Rattle.std.specs.Prelude.{◌≡◌, length};
 ghost use Rattle.job.specs.Store.{store_size};
-ghost use Rattle.load.specs.Loaded.{EntryRoom};
-ghost use Rattle.jesmovit.specs.Compiling.{Prepares};
+ghost use Rattle.job.specs.StoredTask.{stored_job};
+ghost use Rattle.jesmovit.specs.Compiling.{Prepares, FrontHolds};
 
-use job::task::Task;
-use load::loaded::Loaded;
+use compiled::CompiledJob;
+use job::refusal::Refusal;
+use load::loaded::{LoadedJob, LoadedOffer};
 use load::request::Request;
 
 // Loads the texts and, unless they, the list or the table are refused, writes the steps of the
 // compiled job over the front of the list, four numbers each.
-pub(crate) fn prepare(
+pub(crate) fn prepare<'a>(
     request: Request,
     text: &[u8],
     plan: &[u8],
     costs: &[u8],
-    rows: &mut [u16],
-    entries: &mut [u16],
+    rows: &'a mut [u16],
     list: &mut [u16],
-) -> Loaded
-    requires { (length rows.old ≡ store_size) × EntryRoom request (length entries.old) × (request.places ≡ length list.old) }
+) -> Result<LoadedOffer<'a>, Refusal>
+    requires { (length rows.old ≡ store_size) × (request.places ≡ length list.old) }
     ensures { Prepares (record { request = request; job = text.now; plan = plan.now; costs = costs.now }) result
-        rows.new entries.new list.old list.new }
+        list.old list.new }
 {
-    let loaded = load::loading::load(request, text, plan, costs, rows, entries);
-    let Loaded::Ready(job) = loaded else {
-        return loaded;
-    };
-    let head = job.head;
-    compile::program::compile(&Task { head, rows }, list);
-    loaded
+    let offer = load::loading::load(request, text, plan, costs, rows)?;
+    compile::program::compile(&offer.job.task, list);
+    Ok(offer)
+}
+
+// The compiled job, whose steps the front of the list holds.
+pub(crate) fn compiled<'a>(job: &LoadedJob<'a>, list: &'a [u16]) -> CompiledJob<'a>
+    requires { FrontHolds (stored_job job.now.task) list.now }
+    ensures { (result.task ≡ job.now.task) × (result.positions ≡ job.now.sizes.positions) }
+{
+    CompiledJob {
+        task: job.task,
+        list: &list[..job.list_need()],
+        positions: job.sizes.positions,
+    }
 }

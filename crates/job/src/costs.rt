@@ -9,7 +9,7 @@ use crate::rows::COSTS_FROM;
 use limits::CLASSES;
 
 // "Cost in tenths of a second, classes 0 to 15".
-const HOUSE_COSTS: [u16; CLASSES] = [
+pub const HOUSE_COSTS: [u16; CLASSES] = [
     0, 5, 12, 20, 30, 45, 60, 90, 120, 180, 240, 360, 600, 900, 1800, 3600,
 ];
 

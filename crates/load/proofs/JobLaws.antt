@@ -13,23 +13,20 @@ use Rattle.limits.specs.Limits.{most_positions, most_steps}
 use Rattle.job.specs.Job.{Job}
 use Rattle.job.specs.ReadJob as R
 use Rattle.job.specs.ReadJob.{read_job}
+use Rattle.job.specs.Refusal.{number_of}
 use Rattle.job.specs.Task.{house_costs}
-use Rattle.job.specs.Store.{costs_from, store_size, job_of, stored_costs}
+use Rattle.job.specs.Store.{costs_from, store_size, job_of}
 use Rattle.job.specs.WellFormed.{WellFormed}
 use Rattle.job.specs.Stored.{Stored}
 use Rattle.job.specs.declared.head.Head.{Head}
-use Rattle.job.specs.Refusal.{number_of}
-use Rattle.job.specs.declared.refusal.Reason.TheVariants.{Size, Pick}
 use Rattle.job.specs.declared.refusal.Refusal.{Refusal}
-use Rattle.job.proofs.CostLaws.{house_within, costs_put, job_kept, costs_stored}
+use Rattle.job.proofs.CostLaws.{house_within, job_kept, costs_stored}
 use Rattle.reader.proofs.ReadLaws.{read_well_formed}
-use Rattle.domain.specs.Domain.{domain_in}
 use Rattle.compile.specs.CompiledJob.{position_count, step_count, fits, program_scoped}
 use Rattle.compile.specs.Size.{capped}
 use Rattle.compile.specs.declared.sizes.Sizes.{Sizes}
 use Rattle.load.specs.Refusals.{passed, refused, compilable, job_in}
-use Rattle.load.specs.Loaded.{job_as, Measured, AtHouse}
-use Rattle.load.specs.declared.loaded.Loaded.{Loaded}
+use Rattle.load.specs.Sized.{Sized}
 
 -- fitting, as two comparisons
 module _ (j : Job) where
@@ -45,14 +42,10 @@ module _ (j : Job) where
   unfolding fits
   fit g h = rw (le-leb (position_count j) most_positions g, le-leb (step_count j) most_steps h)
 
-module _ (text rows : List ℕ) where
-  abbrev Post : Loaded → Type 0
-  Post answer = (job_as answer rows ≡ job_in text) × AtHouse answer rows
-
-  -- what reading refuses
-  pub load_refused : (r : Refusal) → R.refused (number_of r.reason) r.place ≡ read_job text → Post (Loaded.Refused r)
-  unfolding job_in
-  load_refused r e = (ap compilable e, tt)
+-- what a text's reader refuses
+pub load_refused : (text : List ℕ) (r : Refusal) → R.refused (number_of r.reason) r.place ≡ read_job text → refused (number_of r.reason) r.place ≡ job_in text
+unfolding job_in
+load_refused text r e = ap compilable e
 
 -- what it reads, with the house's costs written behind its rows
 module _ (text rows : List ℕ) (n : ℕ) (h : Head) (e : R.read n (job_of h rows) ≡ read_job text)
@@ -67,49 +60,35 @@ module _ (text rows : List ℕ) (n : ℕ) (h : Head) (e : R.read n (job_of h row
   load_stored = subst (Stored h) (sym put) (costs_stored rows house_costs refl size h right house_within)
 
   -- and then what the reasons after reading say of it
-  pub load_told : (r : Loaded) → (job_as r after ≡ compilable (R.read n (job_of h after))) × Measured r after → Post text after r
+  pub load_told : compilable (R.read n (job_of h after)) ≡ job_in text
   unfolding job_in
-  load_told r m = (
-    m.0 ∙ ap (λ (j : Job). compilable (R.read n j)) (ap (job_of h) put ∙ job_kept rows house_costs refl size h right) ∙ ap compilable (sym reads_before),
-    at_house r (ap stored_costs put ∙ costs_put rows house_costs refl size) m.1,
-  )
-    where
-      at_house : (r : Loaded) → stored_costs after ≡ house_costs → Measured r after → AtHouse r after
-      at_house (Loaded.Ready x) c k = (k, c)
-      at_house (Loaded.Refused x) c k = tt
+  load_told =
+      ap (λ (j : Job). compilable (R.read n j)) (ap (job_of h) put ∙ job_kept rows house_costs refl size h right) ∙ ap compilable (sym reads_before)
 
--- a stored job that was read from n lines
-module _ {h : Head} {rows : List ℕ} (n : ℕ) (stored : Stored h rows) where
-  abbrev j : Job
-  j = job_of h rows
+-- a job that was read from n lines
+module _ (n : ℕ) (j : Job) (v : program_scoped j ≡ true) (s : Sizes) (m : (s.positions ≡ capped (position_count j)) × (s.steps ≡ capped (step_count j))) where
+  limited : {b : Bool} → fits j ≡ b → cond b (passed j) (refused 4 n) ≡ compilable (R.read n j)
+  limited f = rw (v, f) refl
 
-  abbrev Told : Loaded → Type 0
-  Told answer = (job_as answer rows ≡ compilable (R.read n j)) × Measured answer rows
+  pub many_positions : most_positions < s.positions → refused 4 n ≡ compilable (R.read n j)
+  many_positions k = limited (unfit_positions j (omega (arith, m.0)))
 
-  pub load_unscoped : program_scoped j ≡ false → Told (Loaded.Refused (record { reason = Pick; place = n }))
-  load_unscoped v = (rw v refl, tt)
+  module _ (k : s.positions ≤ most_positions) where
+    few : position_count j ≤ most_positions
+    few = omega (arith, m.0, k)
 
-  module _ (v : program_scoped j ≡ true) (s : Sizes) (m : (s.positions ≡ capped (position_count j)) × (s.steps ≡ capped (step_count j))) where
-    limited : (b : Bool) → fits j ≡ b → cond b (passed j) (refused 4 n) ≡ compilable (R.read n j)
-    limited b f = rw (v, f) refl
+    pub many_steps : most_steps < s.steps → refused 4 n ≡ compilable (R.read n j)
+    many_steps l = limited (unfit_steps j few (omega (arith, m.1)))
 
-    pub load_positions : most_positions < s.positions → Told (Loaded.Refused (record { reason = Size; place = n }))
-    load_positions k = (limited false (unfit_positions j (omega (arith, m.0))), tt)
+    module _ (l : s.steps ≤ most_steps) where
+      fitted : fits j ≡ true
+      fitted = fit j few (omega (arith, m.1, l))
 
-    module _ (k : s.positions ≤ most_positions) where
-      few : position_count j ≤ most_positions
-      few = omega (arith, m.0, k)
+      pub job_passes : passed j ≡ compilable (R.read n j)
+      job_passes = limited fitted
 
-      pub load_steps : most_steps < s.steps → Told (Loaded.Refused (record { reason = Size; place = n }))
-      load_steps l = (limited false (unfit_steps j few (omega (arith, m.1))), tt)
-
-      pub load_ready : s.steps ≤ most_steps → {states : ℕ} → states ≡ (domain_in h rows).states
-          → Told (Loaded.Ready (record { head = h; sizes = s; states = states; entries = 0 }))
-      load_ready l d =
-          let f = fit j few (omega (arith, m.1, l)) in
-          let p : s.positions ≡ position_count j = omega (arith, m.0, k) in
-          let q : s.steps ≡ step_count j = omega (arith, m.1, l) in
-          (limited true f, (record { stored = stored; scoped = v; fit = f; positions = p; steps = q; states = d }, refl))
+      pub job_sized : Sized j s
+      job_sized = record { scoped = v; fit = fitted; positions = omega (arith, m.0, k); steps = omega (arith, m.1, l) }
 
 -- what is handed on was read, and no reason after reading refuses it
 module _ (text : List ℕ) (j : Job) where

@@ -4,29 +4,28 @@ use Prim.Native.Nat.{ℕ}
 use mathlib.Core.Path.{◌≡◌, refl, sym, ◌∙◌, ap, subst}
 use mathlib.Core.Bool.{Bool, true, false, cond}
 use mathlib.Core.List.{List}
-use lib.ListN.{length}
-use lib.Seq.{sets}
-use Rattle.std.specs.Prelude.{Ok, Err}
+use native.Mathlib.Omega.{arith}
+use lib.ListN.{length, take, length-take}
+use lib.Seq.{sets, take_all}
 use Rattle.laws.proofs.Tests.{never}
 use Rattle.limits.specs.Limits.{class_count}
 use Rattle.job.specs.Job.{Job}
 use Rattle.job.specs.Task.{Task, house_costs, at_house_costs, class_cost, CostsWithin}
-use Rattle.job.specs.Store.{costs_from, store_size, job_of, stored_costs}
-use Rattle.job.specs.WellFormed.{WellFormed}
+use Rattle.job.specs.Store.{costs_from, job_of, stored_costs, task_of}
 use Rattle.job.specs.Stored.{Stored}
-use Rattle.job.specs.Refusal.{number_of}
-use Rattle.job.specs.declared.refusal.Reason.TheVariants.{Costs}
-use Rattle.job.specs.declared.refusal.Refusal.{Refusal}
+use Rattle.job.specs.declared.head.Head.{Head}
 use Rattle.job.proofs.CostLaws.{costs_put, job_kept, costs_stored}
-use Rattle.compile.specs.CompiledJob.{position_count, step_count, fits, program_scoped}
+use Rattle.compile.specs.declared.sizes.Sizes.{Sizes}
+use Rattle.std.specs.Prelude.{Result, Ok, Err, MatchResult, IfOk}
+use Rattle.std.specs.Result.{IsErrAnd}
+use Rattle.std.proofs.lemmas.Result.{err_from_is_err_and}
+use Rattle.job.specs.declared.refusal.Refusal.{Refusal}
 use Rattle.lists.specs.CountedList.{ListOutcome}
-use Rattle.lists.specs.CostsText.{read_costs, IsCostsText}
+use Rattle.lists.specs.CostsText.{read_costs}
 use Rattle.lists.proofs.ListTold.{costs_told}
-use Rattle.load.specs.Refusals.{Checked, passed, next, job_in, with_costs, costs_in, task_in}
-use Rattle.load.specs.Loaded.{job_as, task_as, AtHouse, Measured}
+use Rattle.load.specs.Refusals.{Checked, passed, refused, next, job_in, with_costs, costs_in, task_in}
+use Rattle.load.specs.Sized.{Sized}
 use Rattle.load.specs.declared.request.Given.{Given}
-use Rattle.load.specs.declared.loaded.LoadedJob.{LoadedJob}
-use Rattle.load.specs.declared.loaded.Loaded.{Loaded}
 use Rattle.load.proofs.StageLaws.{passed_next}
 
 module _ (g : Given) (costs : List ℕ) (j : Job) where
@@ -60,86 +59,34 @@ module _ (g : Given) (costs : List ℕ) (j : Job) where
         by true f = (given_taken f).0
         by false f = sym (ap (λ (x : Task). x.job) (none_taken f))
 
--- costs read after a job was loaded
-abbrev Priced : Given → List ℕ → Job → Loaded → List ℕ → Type 0
-Priced g costs j answer after = (task_as answer after ≡ costs_in g costs j) × Measured answer after
+-- costs that were read, with a refusal in place of the line
+pub costs_within : (text : List ℕ) (read : Result (List ℕ) ℕ) (r : Result (List ℕ) Refusal) (Q : ℕ → Refusal → Type 0) → read ≡ read_costs text
+    → MatchResult read (λ costs. r ≡ Ok costs) (λ line. IsErrAnd r (Q line)) → IfOk r CostsWithin
+unfolding class_cost
+costs_within text (Ok costs) r Q e m = rw m (costs_told text costs (sym e)).each
+costs_within text (Err line) r Q e m = let p = err_from_is_err_and r m in rw p.1 tt
 
-module _ (g : Given) (costs rows : List ℕ) (job : LoadedJob) (m : AtHouse (Loaded.Ready job) rows) where
-  abbrev j : Job
-  j = job_of job.head rows
+-- costs written behind a stored job's
+module _ {h : Head} {rows after : List ℕ} (costs : List ℕ) (stored : Stored h rows) (within : CostsWithin costs) (sixteen : length costs ≡ class_count)
+    (put : after ≡ sets rows costs_from costs) where
+  same_job : job_of h after ≡ job_of h rows
+  same_job = ap (job_of h) put ∙ job_kept rows costs sixteen stored.size h stored.job
 
-  abbrev Post : Loaded → List ℕ → Type 0
-  Post = Priced g costs j
+  pub priced_stored : Stored h after
+  priced_stored = subst (Stored h) (sym put) (costs_stored rows costs sixteen stored.size h stored.job within)
 
-  pub costs_none : g.costs ≡ false → Post (Loaded.Ready job) rows
-  costs_none f = (ap (λ (c : List ℕ). passed (record { job = j; costs = c })) m.1 ∙ costs_by_given g costs j f, m.0)
+  pub priced_sized : {s : Sizes} → Sized (job_of h rows) s → Sized (job_of h after) s
+  priced_sized {s} x = subst (λ (j : Job). Sized j s) (sym same_job) x
 
-  module _ (f : g.costs ≡ true) where
-    reads : {o : ListOutcome} → o ≡ read_costs costs → with_costs j o ≡ costs_in g costs j
-    reads k = ap (with_costs j) k ∙ costs_by_given g costs j f
-
-    pub costs_refused : {line : ℕ} → Err line ≡ read_costs costs → Post (Loaded.Refused (record { reason = Costs; place = line })) rows
-    costs_refused k = (reads k, tt)
-
-    module _ {read : List ℕ} (k : Ok read ≡ read_costs costs) {after : List ℕ} (put : after ≡ sets rows costs_from read) where
-      told : IsCostsText costs read
-      told = costs_told costs read (sym k)
-
-      sixteen : length read ≡ class_count
-      sixteen = told.count
-
-      within : CostsWithin read
-      unfolding class_cost
-      within = told.each
-
-      right : WellFormed j
-      right = m.0.0.stored.job
-
-      size : length rows ≡ store_size
-      size = m.0.0.stored.size
-
-      same_job : job_of job.head after ≡ j
-      same_job = ap (job_of job.head) put ∙ job_kept rows read sixteen size job.head right
-
-      same_costs : stored_costs after ≡ read
-      same_costs = ap stored_costs put ∙ costs_put rows read sixteen size
-
-      pub costs_ready : Post (Loaded.Ready job) after
-      costs_ready =
-          let s = m.0.0 in (
-            ap (λ (x : Job). passed (record { job = x; costs = stored_costs after })) same_job
-                ∙ ap (λ (c : List ℕ). passed (record { job = j; costs = c })) same_costs
-                ∙ reads k,
-            (
-              record {
-                stored = subst (Stored job.head) (sym put) (costs_stored rows read sixteen size job.head right within);
-                scoped = subst (λ (x : Job). program_scoped x ≡ true) (sym same_job) s.scoped;
-                fit = subst (λ (x : Job). fits x ≡ true) (sym same_job) s.fit;
-                positions = subst (λ (x : Job). job.sizes.positions ≡ position_count x) (sym same_job) s.positions;
-                steps = subst (λ (x : Job). job.sizes.steps ≡ step_count x) (sym same_job) s.steps;
-                states = s.states;
-              },
-              m.0.1,
-            ),
-          )
+  pub priced_task : record { job = job_of h rows; costs = costs } ≡ task_of h after
+  priced_task = rw (same_job, ap stored_costs put ∙ costs_put rows costs sixteen stored.size)
 
 -- a job text, then a costs text
 module _ (g : Given) (text costs : List ℕ) where
-  abbrev TaskPost : Loaded → List ℕ → Type 0
-  TaskPost answer after = (task_as answer after ≡ task_in g text costs) × Measured answer after
-
-  task_of_lem : {c : Checked Job} → c ≡ job_in text → next c (costs_in g costs) ≡ task_in g text costs
+  pub task_of_lem : {c : Checked Job} → c ≡ job_in text → next c (costs_in g costs) ≡ task_in g text costs
   unfolding task_in
   task_of_lem e = ap (λ (x : Checked Job). next x (costs_in g costs)) e
 
   pub task_taken : {t : Task} → task_in g text costs ≡ passed t → (j : Job) × (job_in text ≡ passed j) × (costs_in g costs j ≡ passed t)
   unfolding task_in
   task_taken e = passed_next (job_in text) (costs_in g costs) e
-
-  module _ (rows : List ℕ) (a : Loaded) (e : job_as a rows ≡ job_in text) where
-    pub job_refused : {q : Refusal} → a ≡ Loaded.Refused q → TaskPost a rows
-    job_refused k = subst (λ (x : Loaded). TaskPost x rows) (sym k) (task_of_lem (ap (λ (x : Loaded). job_as x rows) (sym k) ∙ e), tt)
-
-    pub task_costed : {job : LoadedJob} → a ≡ Loaded.Ready job → (b : Loaded) (after : List ℕ)
-        → Priced g costs (job_of job.head rows) b after → TaskPost b after
-    task_costed k b after p = (p.0 ∙ task_of_lem (ap (λ (x : Loaded). job_as x rows) (sym k) ∙ e), p.1)

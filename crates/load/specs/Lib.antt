@@ -1,3 +1,4 @@
 pub mod Refusals
+pub mod Sized
 pub mod Loaded
 pub mod View

@@ -1,6 +1,6 @@
 -- The order of refusals: "The first bad line decides; on it, form before 2 before 3. Then 4, 5, 6."
 -- Reason 8 comes "before 4", reason 7 "after the job's refusals 1 to 4 and before 5".
-use Rattle.std.specs.Prelude.{ℕ, ◌*◌, cond, Ok, Err, List, [], leb, length}
+use Rattle.std.specs.Prelude.{ℕ, ◌*◌, cond, Option, Some, None, is_some, unwrap_or, Ok, Err, List, [], leb, length}
 use Rattle.job.specs.Job.{Job}
 use Rattle.job.specs.Task.{Task, at_house_costs}
 use Rattle.job.specs.ReadJob as R
@@ -76,13 +76,13 @@ bound_for Moves j = length j.moves
 bound_for Steps j = step_count j
 
 -- where there is no plan text there are no entries
-abbrev pub plan_in : Request → List ℕ → Task → Checked Offer
-plan_in r plan t =
-    cond r.plan (offered t (read_plan (key_for r.sort) (bound_for r.sort t.job) plan)) (passed (record { task = t; entries = [] }))
+abbrev pub plan_in : Option Sort → List ℕ → Task → Checked Offer
+plan_in (Some sort) plan t = offered t (read_plan (key_for sort) (bound_for sort t.job) plan)
+plan_in None plan t = passed (record { task = t; entries = [] })
 
 -- reasons 1 to 3, 8, 4, 7 and 5
 unfoldable pub texts_in : Handed → Checked Offer
-texts_in h = next (task_in h.request.given h.job h.costs) (plan_in h.request h.plan)
+texts_in h = next (task_in h.request.given h.job h.costs) (plan_in h.request.plan h.plan)
 
 -- 6 "list or table handed in too short", with the length needed
 abbrev pub long_enough : {A : Type 0} → ℕ → ℕ → A → Checked A
@@ -98,11 +98,14 @@ table_size t = (domain_of t).states * position_count t.job
 
 -- where there is no table none is needed
 abbrev pub table_need : Request → Task → ℕ
-table_need r t = cond r.table (table_size t) 0
+table_need r t = cond (is_some r.cells) (table_size t) 0
+
+abbrev pub cells_in : Request → ℕ
+cells_in r = unwrap_or r.cells 0
 
 -- all reasons that come before a verdict: "Where it and a cost table are both too short, it
 -- decides."
 unfoldable pub loading : Handed → Checked Offer
 loading h =
     next (next (texts_in h) (λ o. long_enough h.request.places (list_need o.task.job) o))
-    (λ o. long_enough h.request.cells (table_need h.request o.task) o)
+    (λ o. long_enough (cells_in h.request) (table_need h.request o.task) o)

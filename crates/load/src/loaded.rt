@@ -1,37 +1,45 @@
 // What loading answers.
 ghost use Rattle.std.specs.Prelude.{◌≡◌};
-ghost use Rattle.load.specs.Loaded.{load_refusal};
+ghost use Rattle.std.proofs.Props.{props};
+ghost use Rattle.job.specs.StoredTask.{stored_job, stored_task};
+ghost use Rattle.domain.specs.Domain.{domain_at};
+ghost use Rattle.load.specs.Sized.{Sized};
+ghost use Rattle.load.specs.Refusals.{list_need, table_size};
 
+use arrayvec::ArrayVec;
 use compile::sizes::Sizes;
-use job::head::Head;
-use job::refusal::{Reason, Refusal};
+use job::task::Task;
+use limits::ENTRIES;
 
-// A job that nothing refuses so far: its head, whose rows and class costs are then stored, the
-// sizes of its compiled job, how many states it has, and how many entries of its plan are then
-// stored.
+// A job that nothing refuses so far, the sizes of its compiled job, and how many states it has.
 #[derive(Clone, Copy)]
-pub struct LoadedJob {
-    pub head: Head,
+pub struct LoadedJob<'a> {
+    pub task: Task<'a>,
     pub sizes: Sizes,
     pub states: u16,
-    pub entries: usize,
+    pub ghost sized: { Sized (stored_job task) sizes } by { Prim.hlevel props },
+    pub ghost counted: { states ≡ (domain_at task).states },
 }
 
-#[derive(Clone, Copy)]
-pub enum Loaded {
-    Ready(LoadedJob),
-    Refused(Refusal),
-}
-
-// The refusal that an answer is; at place 0 where it is none.
-pub fn refusal(a: Loaded) -> Refusal
-    ensures { result ≡ load_refusal a }
-{
-    match a {
-        Loaded::Ready(_) => Refusal {
-            reason: Reason::Form,
-            place: 0,
-        },
-        Loaded::Refused(r) => r,
+impl LoadedJob<'_> {
+    // The places of the compiled list: four for each step.
+    pub fn list_need(&self) -> usize
+        ensures { result ≡ list_need (stored_job self.now.task) }
+    {
+        usize::from(self.sizes.steps) * 4
     }
+
+    // The cells of the cost table: one for each state and position.
+    pub fn table_need(&self) -> usize
+        ensures { result ≡ table_size (stored_task self.now.task) }
+    {
+        usize::from(self.states) * usize::from(self.sizes.positions)
+    }
+}
+
+// A loaded job, and the entries of a plan that is offered for it.
+#[derive(Drop)]
+pub struct LoadedOffer<'a> {
+    pub job: LoadedJob<'a>,
+    pub entries: ArrayVec<u16, ENTRIES>,
 }

@@ -8,19 +8,19 @@ pub enum Sort {
 }
 
 // Which of the texts that may be left out are handed in.
+// A flag beside the text: whatever bytes stand beside it where none is given, nothing looks at them
+// (`none_given_lem`, and what C's header says of `given`).
 #[derive(Clone, Copy)]
 pub struct Given {
     pub costs: bool,
 }
 
-// Which texts are given; whether there is a plan text, and of which entries; how many places the
-// list has; whether there is a cost table, and how many cells it has.
+// Which texts are given; of which entries the plan text is, where there is one; how many places the
+// list has; how many cells the cost table has, where there is one.
 #[derive(Clone, Copy)]
 pub struct Request {
     pub given: Given,
-    pub plan: bool,
-    pub sort: Sort,
+    pub plan: Option<Sort>,
     pub places: usize,
-    pub table: bool,
-    pub cells: usize,
+    pub cells: Option<usize>,
 }

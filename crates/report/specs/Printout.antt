@@ -9,11 +9,11 @@ use Rattle.semantics.specs.Verdict.{Verdict, plan, blocked, unfinished, missed}
 use Rattle.semantics.specs.Judgement.{Judgement, least, dearer, other}
 use Rattle.load.specs.Refusals.{Checked, passed, refused}
 use Rattle.jesmovit.specs.Outcomes.{read_outcome, compile_outcome, check_outcome, least_outcome, judge_outcome, WriteOutcome, wrote, said, sheet_outcome}
-use Rattle.jesmovit.specs.declared.judging.JudgeAnswer.{JudgeAnswer}
-use Rattle.jesmovit.specs.declared.judging.LeastAnswer.{LeastAnswer}
-use Rattle.jesmovit.specs.declared.compiling.CompileAnswer.{CompileAnswer}
-use Rattle.jesmovit.specs.declared.checking.CheckAnswer.{CheckAnswer}
-use Rattle.jesmovit.specs.declared.job_text.ReadAnswer.{ReadAnswer}
+use Rattle.std.specs.Prelude.{Result}
+use Rattle.job.specs.declared.refusal.Refusal.{Refusal}
+use Rattle.compile.specs.declared.sizes.Sizes.{Sizes}
+use Rattle.validate.specs.declared.verdict.Verdict as V
+use Rattle.jesmovit.specs.declared.judging.Judged.{Judged}
 use Rattle.jesmovit.specs.declared.laying.SheetAnswer.{SheetAnswer}
 
 -- `key=number`
@@ -81,23 +81,23 @@ count_lines c =
     ++ line "objects" c.objects ++ line "program" c.program
 
 -- "The judge program prints"
-abbrev pub judge_printout : JudgeAnswer → List ℕ → List ℕ
+abbrev pub judge_printout : Result Judged Refusal → List ℕ → List ℕ
 judge_printout a list =
     printout (λ g. compiled_lines g.sizes.positions g.sizes.steps list ++ judgement_lines g.judgement) (judge_outcome a)
 
 -- the other programs' printouts, in the same lines
-abbrev pub compile_printout : CompileAnswer → List ℕ → List ℕ
+abbrev pub compile_printout : Result Sizes Refusal → List ℕ → List ℕ
 compile_printout a list = printout (λ s. compiled_lines s.positions s.steps list) (compile_outcome a)
 
-abbrev pub least_printout : LeastAnswer → List ℕ
+abbrev pub least_printout : Result (Option ℕ) Refusal → List ℕ
 least_printout a = printout least_lines (least_outcome a)
 
-abbrev pub check_printout : CheckAnswer → List ℕ
+abbrev pub check_printout : Result V.Verdict Refusal → List ℕ
 check_printout a = printout verdict_lines (check_outcome a)
 
-abbrev pub read_printout : ReadAnswer → List ℕ
+abbrev pub read_printout : Result Counts Refusal → List ℕ
 read_printout a = printout count_lines (read_outcome a)
 
 -- the output is the buffer that the sheet was written into
-abbrev pub sheet_printout : SheetAnswer → List ℕ → List ℕ
+abbrev pub sheet_printout : Result SheetAnswer Refusal → List ℕ → List ℕ
 sheet_printout a output = printout (written_lines output) (sheet_outcome a)

@@ -9,21 +9,22 @@ ghost use Rattle.report.specs.Printout.{judge_printout, least_printout, compile_
 
 use crate::lines;
 use crate::room::Printout;
-use jesmovit::{
-    CheckAnswer, CompileAnswer, JudgeAnswer, Judgement, LeastAnswer, ReadAnswer, SheetAnswer,
-};
+use compile::sizes::Sizes;
+use jesmovit::{Judged, Judgement, SheetAnswer};
 use job::head::Counts;
+use job::refusal::Refusal;
+use validate::verdict::Verdict;
 
 #[tactic(auto, unfolding(text::specs::Bytes::bytes))]
-fn compiled(out: &mut Printout, positions: u16, steps: u16, list: &[u16])
+fn compiled(out: &mut Printout, sizes: Sizes, list: &[u16])
     requires room { array_string_len out.old + 88192 ≤ room }
     requires few { length list.now ≤ most_steps * 4 }
-    ensures text { out.new.bytes ≡ out.old.bytes ++ compiled_lines positions steps list.now }
+    ensures text { out.new.bytes ≡ out.old.bytes ++ compiled_lines sizes.positions sizes.steps list.now }
     ensures short { array_string_len out.new ≤ array_string_len out.old + 88192 }
 {
-    lines::line(out, "positions", &[positions as u64]);
-    lines::line(out, "steps", &[steps as u64]);
-    let numbers = &list[..list.len().min((steps as usize) * 4)];
+    lines::line(out, "positions", &[sizes.positions as u64]);
+    lines::line(out, "steps", &[sizes.steps as u64]);
+    let numbers = &list[..list.len().min((sizes.steps as usize) * 4)];
     lines::steps(out, numbers);
 }
 
@@ -56,56 +57,56 @@ fn judgement(out: &mut Printout, j: Judgement)
 }
 
 // What judging prints.
-pub fn judge(answer: JudgeAnswer, list: &[u16]) -> Printout
+pub fn judge(answer: Result<Judged, Refusal>, list: &[u16]) -> Printout
     requires { length list.now ≤ most_steps * 4 }
     ensures { result.bytes ≡ judge_printout answer list.now }
 {
     let mut out = Printout::new();
     match answer {
-        JudgeAnswer::Judged(positions, steps, j) => {
-            compiled(&mut out, positions, steps, list);
-            judgement(&mut out, j);
+        Ok(judged) => {
+            compiled(&mut out, judged.sizes, list);
+            judgement(&mut out, judged.judgement);
         }
-        JudgeAnswer::Refused(r) => lines::refusal(&mut out, r),
+        Err(r) => lines::refusal(&mut out, r),
     }
     out
 }
 
 // What the least cost prints.
 #[tactic(auto, unfolding(text::specs::Bytes::bytes))]
-pub fn least_cost(answer: LeastAnswer) -> Printout
+pub fn least_cost(answer: Result<Option<u64>, Refusal>) -> Printout
     ensures { result.bytes ≡ least_printout answer }
 {
     let mut out = Printout::new();
     match answer {
-        LeastAnswer::Costs(cost) => lines::line(&mut out, "least", &[cost]),
-        LeastAnswer::NoPlan => out.push_str("answer=none\n"),
-        LeastAnswer::Refused(r) => lines::refusal(&mut out, r),
+        Ok(Some(cost)) => lines::line(&mut out, "least", &[cost]),
+        Ok(None) => out.push_str("answer=none\n"),
+        Err(r) => lines::refusal(&mut out, r),
     }
     out
 }
 
 // What compiling prints.
-pub fn compile(answer: CompileAnswer, list: &[u16]) -> Printout
+pub fn compile(answer: Result<Sizes, Refusal>, list: &[u16]) -> Printout
     requires { length list.now ≤ most_steps * 4 }
     ensures { result.bytes ≡ compile_printout answer list.now }
 {
     let mut out = Printout::new();
     match answer {
-        CompileAnswer::Compiled(positions, steps) => compiled(&mut out, positions, steps, list),
-        CompileAnswer::Refused(r) => lines::refusal(&mut out, r),
+        Ok(sizes) => compiled(&mut out, sizes, list),
+        Err(r) => lines::refusal(&mut out, r),
     }
     out
 }
 
 // What a check prints.
-pub fn check(answer: CheckAnswer) -> Printout
+pub fn check(answer: Result<Verdict, Refusal>) -> Printout
     ensures { result.bytes ≡ check_printout answer }
 {
     let mut out = Printout::new();
     match answer {
-        CheckAnswer::Said(v) => lines::verdict(&mut out, v),
-        CheckAnswer::Refused(r) => lines::refusal(&mut out, r),
+        Ok(v) => lines::verdict(&mut out, v),
+        Err(r) => lines::refusal(&mut out, r),
     }
     out
 }
@@ -124,26 +125,30 @@ fn counts(out: &mut Printout, c: Counts)
 }
 
 // What reading a job prints.
-pub fn read(answer: ReadAnswer) -> Printout
+pub fn read(answer: Result<Counts, Refusal>) -> Printout
     ensures { result.bytes ≡ read_printout answer }
 {
     let mut out = Printout::new();
     match answer {
-        ReadAnswer::Read(c) => counts(&mut out, c),
-        ReadAnswer::Refused(r) => lines::refusal(&mut out, r),
+        Ok(c) => counts(&mut out, c),
+        Err(r) => lines::refusal(&mut out, r),
     }
     out
 }
 
 // What laying out prints: the sheet that stands in the output already, or what is said instead.
-pub fn sheet<'a>(answer: SheetAnswer, output: &'a [u8], said: &'a mut Printout) -> &'a [u8]
+pub fn sheet<'a>(
+    answer: Result<SheetAnswer, Refusal>,
+    output: &'a [u8],
+    said: &'a mut Printout,
+) -> &'a [u8]
     ensures { result.now ≡ sheet_printout answer output.now }
 {
     said.clear();
     match answer {
-        SheetAnswer::Laid(bytes) => return &output[..bytes.min(output.len())],
-        SheetAnswer::Said(v) => lines::verdict(said, v),
-        SheetAnswer::Refused(r) => lines::refusal(said, r),
+        Ok(SheetAnswer::Laid(bytes)) => return &output[..bytes.min(output.len())],
+        Ok(SheetAnswer::Said(v)) => lines::verdict(said, v),
+        Err(r) => lines::refusal(said, r),
     }
     said.as_str().as_bytes()
 }

@@ -19,7 +19,7 @@ use Rattle.job.specs.WellFormed.{WellFormed}
 use Rattle.job.proofs.CostLaws.{house_within}
 use Rattle.reader.proofs.ReadLaws.{read_well_formed, read_lines_lem}
 use Rattle.compile.proofs.FitLaws.{few_positions, few_steps}
-use Rattle.std.specs.Prelude.{Ok}
+use Rattle.std.specs.Prelude.{Ok, Option, Some, None, []}
 use Rattle.lists.specs.PlanText.{read_plan}
 use Rattle.load.specs.Refusals.{Handed, Checked, passed, next, compilable, job_in, with_costs, costs_in, task_in}
 use Rattle.load.specs.Refusals.{Offer, offered, key_for, bound_for, plan_in, texts_in}
@@ -29,7 +29,7 @@ use Rattle.load.specs.declared.request.Sort.{Sort}
 use Rattle.load.specs.declared.request.Sort.TheVariants.{Moves, Steps}
 use Rattle.load.proofs.JobLaws.{passed_read, fit}
 use Rattle.load.proofs.TaskLaws.{costs_job, costs_taken, costs_house, task_taken}
-use Rattle.load.proofs.OfferLaws.{plan_taken, plan_alone}
+use Rattle.load.proofs.OfferLaws.{plan_taken}
 use Rattle.load.proofs.LoadingLaws.{texts_taken, loading_iff}
 use Rattle.theorems.specs.JobText.{job_lines, job_text}
 use Rattle.theorems.specs.Accepted.{AcceptedJob, AcceptedTask, AcceptedPlan, AcceptedTexts, Accepted}
@@ -111,13 +111,13 @@ module _ (g : Given) (text costs : List ℕ) (t : Task) where
 -- of what is handed in
 module _ (h : Handed) (o : Offer) where
   abbrev planned : Task → Checked Offer
-  planned t = plan_in h.request h.plan t
+  planned t = plan_in h.request.plan h.plan t
 
   -- what is handed in without a plan text, and with one
-  plan_passes : (b : Bool) → h.request.plan ≡ b → AcceptedTexts h o → planned o.task ≡ passed o
-  plan_passes true e a =
-      rw e (ap (offered o.task) ((plan_iff h.request.sort o.task.job h.plan o.entries h.job a.its_task.its_job).1 (a.its_plan e)))
-  plan_passes false e a = rw e (ap (λ (es : List ℕ). passed (record { task = o.task; entries = es })) (sym (a.alone e)))
+  plan_passes : (p : Option Sort) → h.request.plan ≡ p → AcceptedTexts h o → plan_in p h.plan o.task ≡ passed o
+  plan_passes (Some sort) e a =
+      ap (offered o.task) ((plan_iff sort o.task.job h.plan o.entries h.job a.its_task.its_job).1 (a.its_plan sort e))
+  plan_passes None e a = ap (λ (es : List ℕ). passed (record { task = o.task; entries = es })) (sym (a.alone e))
 
   texts_pass : AcceptedTexts h o → texts_in h ≡ passed o
   unfolding texts_in
@@ -125,22 +125,24 @@ module _ (h : Handed) (o : Offer) where
       ap (λ (c : Checked Task). next c planned) (task_passes h.request.given h.job h.costs o.task a.its_task)
       ∙ plan_passes h.request.plan refl a
 
-  its_task : {t : Task} → planned t ≡ passed o → t ≡ o.task
-  its_task {t} e = by h.request.plan refl
-    where
-      by : (b : Bool) → h.request.plan ≡ b → t ≡ o.task
-      by true f = (plan_taken h.request h.plan t o f e).0
-      by false f = ap (λ (x : Offer). x.task) (plan_alone h.request h.plan t o f e)
+  alone_is : {t : Task} → plan_in None h.plan t ≡ passed o → record { task = t; entries = [] } ≡ o
+  alone_is e = cc
+
+  its_task : {t : Task} (p : Option Sort) → plan_in p h.plan t ≡ passed o → t ≡ o.task
+  its_task {t} (Some sort) e = (plan_taken sort h.plan t o e).0
+  its_task None e = ap (λ (x : Offer). x.task) (alone_is e)
+
+  planned_as : (t : Task) {p : Option Sort} → h.request.plan ≡ p → planned t ≡ passed o → plan_in p h.plan t ≡ passed o
+  planned_as t f e = subst (λ (q : Option Sort). plan_in q h.plan t ≡ passed o) f e
 
   texts_passed : texts_in h ≡ passed o → AcceptedTexts h o
   texts_passed e =
       let (t, f, k) = texts_taken h e in
-      let a = (task_iff h.request.given h.job h.costs o.task).0 (f ∙ ap passed (its_task k)) in
+      let a = (task_iff h.request.given h.job h.costs o.task).0 (f ∙ ap passed (its_task h.request.plan k)) in
       record {
         its_task = a;
-        its_plan = λ p. (plan_iff h.request.sort o.task.job h.plan o.entries h.job a.its_job).0
-            (plan_taken h.request h.plan t o p k).1;
-        alone = λ p. ap (λ (x : Offer). x.entries) (sym (plan_alone h.request h.plan t o p k));
+        its_plan = λ sort p. (plan_iff sort o.task.job h.plan o.entries h.job a.its_job).0 (plan_taken sort h.plan t o (planned_as t p k)).1;
+        alone = λ p. ap (λ (x : Offer). x.entries) (sym (alone_is (planned_as t p k)));
       }
 
   -- its texts: reasons 1 to 4, 8, 7 and 5

@@ -19,7 +19,7 @@ use Rattle.compile.specs.CompiledJob.{steps_of, final_position_of, step_count}
 use Rattle.load.specs.Refusals.{Checked, passed, list_need, loading}
 use Rattle.load.specs.View.{View}
 use Rattle.jesmovit.specs.Compiling.{compiling, list_in, Compiles}
-use Rattle.jesmovit.specs.declared.compiling.CompileAnswer.{CompileAnswer}
+use Rattle.jesmovit.specs.Outcomes.{CompileResult}
 use Rattle.jesmovit.proofs.AnswerLaws.{view_of_lem}
 use Rattle.theorems.specs.Accepted.{AcceptedJob}
 use Rattle.theorems.proofs.Acceptance.{accepted_iff}
@@ -35,13 +35,13 @@ module _ (text : List ℕ) (t : Task) (accepted : AcceptedJob text t.job) where
   accepted_plans_agree = agreement (domain_of t) (program_of j)
 
   -- a list that is long enough, and whatever answer and list meet the promise of compiling
-  module _ (list : List ℕ) (long : list_need t.job ≤ length list) (answer : CompileAnswer) (after : List ℕ)
+  module _ (list : List ℕ) (long : list_need t.job ≤ length list) (answer : CompileResult) (after : List ℕ)
       (promised : Compiles text list answer after) where
     compiles : loading (compiling text (length list)) ≡ passed (record { task = at_house_costs j; entries = [] })
     compiles = (accepted_iff (compiling text (length list)) (record { task = at_house_costs j; entries = [] })).1 (record {
       texts = record {
         its_task = record { its_job = accepted; its_costs = λ f. never (cc); house = λ f. refl };
-        its_plan = λ f. never (cc);
+        its_plan = λ sort f. never (cc);
         alone = λ f. refl;
       };
       list = long;

@@ -18,7 +18,7 @@ use Rattle.jesmovit.specs.Outcomes.{check_outcome}
 use Rattle.jesmovit.specs.Answers.{Answers, does, refuses}
 use Rattle.jesmovit.specs.Compiling.{list_in}
 use Rattle.jesmovit.specs.Checking.{checking, Says, CheckDone, Checks}
-use Rattle.jesmovit.specs.declared.checking.CheckAnswer.{CheckAnswer}
+use Rattle.jesmovit.specs.Outcomes.{CheckResult}
 use Rattle.jesmovit.proofs.AnswerLaws.{one_outcome}
 use Rattle.theorems.specs.CheckEquation.{verdict_for, checked_as, CheckEquals}
 use Rattle.theorems.proofs.OneAnswer.{one_checked}
@@ -32,7 +32,7 @@ answered : (sort : Sort) (list : List ℕ) (c : Checked View) → Answers (Check
 answered sort list (passed v) = does (record { says = verdict_says sort v; list = refl })
 answered sort list (refused number place) = refuses
 
-pub check_equation : (sort : Sort) (t : Texts) (list : List ℕ) (a : CheckAnswer) (after : List ℕ)
+pub check_equation : (sort : Sort) (t : Texts) (list : List ℕ) (a : CheckResult) (after : List ℕ)
     → Checks sort t list a after ↔ CheckEquals sort t list a after
 check_equation sort t list a after =
     let c = view_in (checking sort t (length list)) in (

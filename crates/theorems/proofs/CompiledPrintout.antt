@@ -10,7 +10,7 @@ use Rattle.load.specs.Refusals.{Checked, passed, next, Offer, loading}
 use Rattle.load.specs.View.{View, view_of, view_steps, positions_of}
 use Rattle.load.proofs.LoadingLaws.{loading_iff}
 use Rattle.jesmovit.specs.Compiling.{compiling, list_after, list_in, view_sizes, Compiles}
-use Rattle.jesmovit.specs.declared.compiling.CompileAnswer.{CompileAnswer}
+use Rattle.jesmovit.specs.Outcomes.{CompileResult}
 use Rattle.jesmovit.proofs.AnswerLaws.{view_of_lem}
 use Rattle.jesmovit.proofs.FrontLaws.{front_flat}
 use Rattle.report.specs.Printout.{line, step_line, step_lines, compiled_lines, printout, compile_printout}
@@ -29,7 +29,7 @@ prints_each_step v list h =
     (ap step_lines (front_flat (view_steps v) list refl h refl) ∙ flat_lines (view_steps v))
 
 -- what is printed after compiling a text that nothing refuses
-pub compile_prints : (text list : List ℕ) (answer : CompileAnswer) (after : List ℕ) → Compiles text list answer after
+pub compile_prints : (text list : List ℕ) (answer : CompileResult) (after : List ℕ) → Compiles text list answer after
     → (o : Offer) → loading (compiling text (length list)) ≡ passed o → compile_printout answer after ≡ compiled_job_lines (view_of o)
 compile_prints text list answer after x o e =
     let h = compiling text (length list) in

@@ -23,7 +23,7 @@ use Rattle.jesmovit.specs.Answers.{Answers}
 use Rattle.jesmovit.specs.Compiling.{view_sizes}
 use Rattle.jesmovit.specs.Checking.{checking, CheckDone}
 use Rattle.jesmovit.specs.Judging.{judging, Lent, JudgeDone, Judges}
-use Rattle.jesmovit.specs.declared.judging.JudgeAnswer.{JudgeAnswer}
+use Rattle.jesmovit.specs.Outcomes.{JudgeResult}
 use Rattle.jesmovit.proofs.AnswerLaws.{Answered, answered, view_of_lem}
 use Rattle.theorems.specs.Accepted.{Accepted}
 use Rattle.theorems.specs.Decided.{judged_as, Decided, verdict_in}
@@ -80,7 +80,7 @@ module _ (v : View) where
 
 -- whatever answer, list and table meet the judge's promise
 module _ (t : Texts) (old : Lent) (o : Offer) (accepted : Accepted (judging t (length old.list) (length old.table)) o)
-    (answer : JudgeAnswer) (new : Lent) (promised : Judges t old answer new) where
+    (answer : JudgeResult) (new : Lent) (promised : Judges t old answer new) where
   abbrev h : Handed
   h = judging t (length old.list) (length old.table)
 

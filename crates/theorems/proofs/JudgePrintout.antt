@@ -11,7 +11,7 @@ use Rattle.load.proofs.LoadingLaws.{loading_iff}
 use Rattle.jesmovit.specs.Texts.{Texts}
 use Rattle.jesmovit.specs.Outcomes.{SizedJudgement}
 use Rattle.jesmovit.specs.Judging.{judging, Lent, Judges}
-use Rattle.jesmovit.specs.declared.judging.JudgeAnswer.{JudgeAnswer}
+use Rattle.jesmovit.specs.Outcomes.{JudgeResult}
 use Rattle.jesmovit.proofs.AnswerLaws.{viewed, answered, view_of_lem, refusal_kept}
 use Rattle.report.specs.Printout.{compiled_lines, judgement_lines, refused_line, printout, judge_printout}
 use Rattle.theorems.specs.Printed.{Printed}
@@ -20,7 +20,7 @@ use Rattle.theorems.proofs.CompiledPrintout.{prints_each_step}
 abbrev judged_lines : List ℕ → SizedJudgement → List ℕ
 judged_lines list g = compiled_lines g.sizes.positions g.sizes.steps list ++ judgement_lines g.judgement
 
-module _ (t : Texts) (old : Lent) (answer : JudgeAnswer) (new : Lent) (promised : Judges t old answer new) where
+module _ (t : Texts) (old : Lent) (answer : JudgeResult) (new : Lent) (promised : Judges t old answer new) where
   -- where nothing is refused
   pub judge_prints : (o : Offer) → loading (judging t (length old.list) (length old.table)) ≡ passed o
       → Printed (view_of o) (judge_printout answer new.list)

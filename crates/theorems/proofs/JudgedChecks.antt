@@ -73,7 +73,7 @@ module _ (t : Texts) (old new : Lent) {g : SizedJudgement}
   costed =
       let a = (accepted_iff h offered.offer).0 offered.passes in
       (accepted_iff (costing t (length old.list) (length old.table)) (record { task = offered.offer.task; entries = [] })).1 (record {
-        texts = record { its_task = a.texts.its_task; its_plan = λ f. never (cc); alone = λ f. refl };
+        texts = record { its_task = a.texts.its_task; its_plan = λ sort f. never (cc); alone = λ f. refl };
         list = a.list;
         table = a.table;
       })

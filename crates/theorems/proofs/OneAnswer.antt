@@ -4,6 +4,7 @@
 use Prim.Native.Nat.{ℕ}
 use mathlib.Core.Path.{◌≡◌, refl, sym, ◌∙◌, ap, subst}
 use Rattle.std.specs.Prelude.{Option, Some}
+use Rattle.std.specs.Prelude.{Result, Ok, Err}
 use mathlib.Core.List.{List, [], ◌∷◌}
 use lib.ListN.{get_or}
 use Rattle.laws.proofs.Tests.{never}
@@ -17,26 +18,23 @@ use Rattle.semantics.proofs.CostLaws.{least_unique}
 use Rattle.semantics.proofs.VerdictLaws.{one_move_verdict, one_step_verdict}
 use Rattle.semantics.proofs.FilledLaws.{filled_unique}
 use Rattle.semantics.proofs.JudgementLaws.{one_judgement}
-use Rattle.compile.specs.declared.sizes.Sizes.{Sizes}
 use Rattle.validate.proofs.VerdictLaws.{verdict_injective}
 use Rattle.load.specs.Refusals.{Handed, Checked, refused}
+use Rattle.load.specs.Loaded.{checked_as}
+use Rattle.validate.specs.Verdict.{verdict_of}
 use Rattle.load.specs.View.{View, view_in, view_steps, final_of, positions_of}
 use Rattle.load.specs.declared.request.Sort.{Sort}
 use Rattle.load.specs.declared.request.Sort.TheVariants.{Moves, Steps}
 use Rattle.jesmovit.specs.Texts.{Texts}
-use Rattle.jesmovit.specs.Outcomes.{read_outcome, compile_outcome, check_outcome, least_outcome, judgement_of, SizedJudgement, judge_outcome}
+use Rattle.jesmovit.specs.Outcomes.{ReadResult, CompileResult, CheckResult, LeastResult, JudgeResult, judgement_of, SizedJudgement}
 use Rattle.jesmovit.specs.Answers.{Answers}
 use Rattle.jesmovit.specs.JobText.{Reads}
 use Rattle.jesmovit.specs.Compiling.{Compiles}
 use Rattle.jesmovit.specs.Checking.{Says, CheckDone, Checks}
 use Rattle.jesmovit.specs.Judging.{Lent, TableOf, LeastIs, costs, no_plan, CostDone, CostsLeast, TableFor, JudgeDone, Judges}
-use Rattle.jesmovit.specs.declared.job_text.ReadAnswer as R
-use Rattle.jesmovit.specs.declared.compiling.CompileAnswer as C
-use Rattle.jesmovit.specs.declared.checking.CheckAnswer as K
-use Rattle.jesmovit.specs.declared.judging.LeastAnswer as L
 use Rattle.jesmovit.specs.declared.judging.Judgement.{Judgement}
 use Rattle.jesmovit.specs.declared.judging.Judgement.TheVariants.{Least, Dearer, Other}
-use Rattle.jesmovit.specs.declared.judging.JudgeAnswer as G
+use Rattle.jesmovit.specs.declared.judging.Judged.{Judged}
 use Rattle.jesmovit.proofs.AnswerLaws.{OneWay, one_outcome}
 
 -- what each operation does, it does in one way
@@ -97,39 +95,11 @@ reason_same r q e = sym (reason_numbered r) ∙ ap reason_of e ∙ reason_number
 pub refusal_same : {B : Type 0} (r q : Refusal) → ◌≡◌ {A = Checked B} (refused (number_of r.reason) r.place) (refused (number_of q.reason) q.place) → r ≡ q
 refusal_same r q e = let f : r.reason ≡ q.reason = reason_same r.reason q.reason (cc) in let g : r.place ≡ q.place = cc in rw (f, g)
 
-read_injective : (a b : R.ReadAnswer) → read_outcome a ≡ read_outcome b → a ≡ b
-read_injective (R.TheVariants.Read c) (R.TheVariants.Read d) e = ap R.TheVariants.Read (cc)
-read_injective (R.TheVariants.Read c) (R.TheVariants.Refused r) e = never (cc)
-read_injective (R.TheVariants.Refused r) (R.TheVariants.Read c) e = never (cc)
-read_injective (R.TheVariants.Refused r) (R.TheVariants.Refused q) e = ap R.TheVariants.Refused (refusal_same r q e)
-
-sizes_same : {A : Type 0} {p n q m : ℕ} → ◌≡◌ {A = Sizes} (record { positions = p; steps = n }) (record { positions = q; steps = m })
-    → (f : ℕ → ℕ → A) → f p n ≡ f q m
-sizes_same e f = ap (λ (s : Sizes). f s.positions s.steps) e
-
-compile_injective : (a b : C.CompileAnswer) → compile_outcome a ≡ compile_outcome b → a ≡ b
-compile_injective (C.TheVariants.Compiled p n) (C.TheVariants.Compiled q m) e =
-    let s : ◌≡◌ {A = Sizes} (record { positions = p; steps = n }) (record { positions = q; steps = m }) = cc in sizes_same s C.TheVariants.Compiled
-compile_injective (C.TheVariants.Compiled p n) (C.TheVariants.Refused r) e = never (cc)
-compile_injective (C.TheVariants.Refused r) (C.TheVariants.Compiled p n) e = never (cc)
-compile_injective (C.TheVariants.Refused r) (C.TheVariants.Refused q) e = ap C.TheVariants.Refused (refusal_same r q e)
-
-check_injective : (a b : K.CheckAnswer) → check_outcome a ≡ check_outcome b → a ≡ b
-check_injective (K.TheVariants.Said v) (K.TheVariants.Said w) e = ap K.TheVariants.Said (verdict_injective v w (cc))
-check_injective (K.TheVariants.Said v) (K.TheVariants.Refused r) e = never (cc)
-check_injective (K.TheVariants.Refused r) (K.TheVariants.Said v) e = never (cc)
-check_injective (K.TheVariants.Refused r) (K.TheVariants.Refused q) e = ap K.TheVariants.Refused (refusal_same r q e)
-
-least_injective : (a b : L.LeastAnswer) → least_outcome a ≡ least_outcome b → a ≡ b
-least_injective (L.TheVariants.Costs c) (L.TheVariants.Costs d) e = ap L.TheVariants.Costs (cc)
-least_injective (L.TheVariants.Costs c) L.TheVariants.NoPlan e = never (cc)
-least_injective (L.TheVariants.Costs c) (L.TheVariants.Refused r) e = never (cc)
-least_injective L.TheVariants.NoPlan (L.TheVariants.Costs d) e = never (cc)
-least_injective L.TheVariants.NoPlan L.TheVariants.NoPlan e = refl
-least_injective L.TheVariants.NoPlan (L.TheVariants.Refused r) e = never (cc)
-least_injective (L.TheVariants.Refused r) (L.TheVariants.Costs d) e = never (cc)
-least_injective (L.TheVariants.Refused r) L.TheVariants.NoPlan e = never (cc)
-least_injective (L.TheVariants.Refused r) (L.TheVariants.Refused q) e = ap L.TheVariants.Refused (refusal_same r q e)
+pub checked_injective : {A B : Type 0} (f : A → B) → ((a b : A) → f a ≡ f b → a ≡ b) → (r q : Result A Refusal) → checked_as f r ≡ checked_as f q → r ≡ q
+checked_injective f one (Ok a) (Ok b) e = ap Ok (one a b (cc))
+checked_injective f one (Ok a) (Err q) e = never (cc)
+checked_injective f one (Err r) (Ok b) e = never (cc)
+checked_injective f one (Err r) (Err q) e = ap Err (refusal_same r q e)
 
 judgement_injective : (g h : Judgement) → judgement_of g ≡ judgement_of h → g ≡ h
 judgement_injective (Least c) (Least d) e = let f : c ≡ d = cc in ap Least f
@@ -142,15 +112,12 @@ judgement_injective (Other v) (Least d) e = never (cc)
 judgement_injective (Other v) (Dearer d b) e = never (cc)
 judgement_injective (Other v) (Other w) e = ap Other (verdict_injective v w (cc))
 
-judge_injective : (a b : G.JudgeAnswer) → judge_outcome a ≡ judge_outcome b → a ≡ b
-judge_injective (G.TheVariants.Judged p n g) (G.TheVariants.Judged q m h) e =
-    let j : ◌≡◌ {A = SizedJudgement} (record { sizes = record { positions = p; steps = n }; judgement = judgement_of g })
-    (record { sizes = record { positions = q; steps = m }; judgement = judgement_of h }) = cc in
-    let f : g ≡ h = judgement_injective g h (ap (λ (x : SizedJudgement). x.judgement) j) in
-    rw f (sizes_same (ap (λ (x : SizedJudgement). x.sizes) j) (λ x y. G.TheVariants.Judged x y h))
-judge_injective (G.TheVariants.Judged p n g) (G.TheVariants.Refused r) e = never (cc)
-judge_injective (G.TheVariants.Refused r) (G.TheVariants.Judged p n g) e = never (cc)
-judge_injective (G.TheVariants.Refused r) (G.TheVariants.Refused q) e = ap G.TheVariants.Refused (refusal_same r q e)
+judged_injective : (j k : Judged) → ◌≡◌ {A = SizedJudgement} (record { sizes = j.sizes; judgement = judgement_of j.judgement })
+    (record { sizes = k.sizes; judgement = judgement_of k.judgement }) → j ≡ k
+judged_injective j k e =
+    let s : j.sizes ≡ k.sizes = ap (λ (x : SizedJudgement). x.sizes) e in
+    let g : j.judgement ≡ k.judgement = judgement_injective j.judgement k.judgement (ap (λ (x : SizedJudgement). x.judgement) e) in
+    rw (s, g)
 
 -- only the view counts: calls that are handed other things, with the same view, have the same
 -- outcome
@@ -159,23 +126,23 @@ pub same_view : {B C : Type 0} {Does : View → B → C → C → Type 0} {old :
 same_view {Does = Does} {old} one h k same {d} {x = x} p q = one_outcome one (subst (λ (c : Checked View). Answers Does old c d x) same p) q
 
 -- of reading
-pub one_read_answer : (text : List ℕ) (a b : R.ReadAnswer) → Reads text a → Reads text b → a ≡ b
-one_read_answer text a b x y = read_injective a b (x ∙ sym y)
+pub one_read_answer : (text : List ℕ) (a b : ReadResult) → Reads text a → Reads text b → a ≡ b
+one_read_answer text a b x y = checked_injective (λ c. c) (λ c d e. e) a b (x ∙ sym y)
 
 -- of compiling
-pub one_compile_answer : (text list : List ℕ) (a b : C.CompileAnswer) (l m : List ℕ) → Compiles text list a l → Compiles text list b m → (a ≡ b) × (l ≡ m)
-one_compile_answer text list a b l m x y = (compile_injective a b (x.outcome ∙ sym y.outcome), x.holds ∙ sym y.holds)
+pub one_compile_answer : (text list : List ℕ) (a b : CompileResult) (l m : List ℕ) → Compiles text list a l → Compiles text list b m → (a ≡ b) × (l ≡ m)
+one_compile_answer text list a b l m x y = (checked_injective (λ c. c) (λ c d e. e) a b (x.outcome ∙ sym y.outcome), x.holds ∙ sym y.holds)
 
 module _ (t : Texts) where
   -- of a check
-  pub one_check_answer : (sort : Sort) (list : List ℕ) (a b : K.CheckAnswer) (l m : List ℕ) → Checks sort t list a l → Checks sort t list b m
+  pub one_check_answer : (sort : Sort) (list : List ℕ) (a b : CheckResult) (l m : List ℕ) → Checks sort t list a l → Checks sort t list b m
       → (a ≡ b) × (l ≡ m)
-  one_check_answer sort list a b l m x y = let z = one_outcome one_checked x y in (check_injective a b z.0, z.1)
+  one_check_answer sort list a b l m x y = let z = one_outcome one_checked x y in (checked_injective verdict_of verdict_injective a b z.0, z.1)
 
   -- of the least cost
-  pub one_cost_answer : (old : Lent) (a b : L.LeastAnswer) (x y : Lent) → CostsLeast t old a x → CostsLeast t old b y → (a ≡ b) × (x ≡ y)
-  one_cost_answer old a b x y p q = let z = one_outcome one_costed p q in (least_injective a b z.0, z.1)
+  pub one_cost_answer : (old : Lent) (a b : LeastResult) (x y : Lent) → CostsLeast t old a x → CostsLeast t old b y → (a ≡ b) × (x ≡ y)
+  one_cost_answer old a b x y p q = let z = one_outcome one_costed p q in (checked_injective (λ c. c) (λ c d e. e) a b z.0, z.1)
 
   -- of the judge
-  pub one_judge_answer : (old : Lent) (a b : G.JudgeAnswer) (x y : Lent) → Judges t old a x → Judges t old b y → (a ≡ b) × (x ≡ y)
-  one_judge_answer old a b x y p q = let z = one_outcome one_judged p q in (judge_injective a b z.0, z.1)
+  pub one_judge_answer : (old : Lent) (a b : JudgeResult) (x y : Lent) → Judges t old a x → Judges t old b y → (a ≡ b) × (x ≡ y)
+  one_judge_answer old a b x y p q = let z = one_outcome one_judged p q in (checked_injective (λ j. record { sizes = j.sizes; judgement = judgement_of j.judgement }) judged_injective a b z.0, z.1)

@@ -14,15 +14,16 @@ use Rattle.load.specs.Refusals.{Handed, Checked, passed, refused}
 use Rattle.load.specs.View.{View, view_in}
 use Rattle.load.specs.declared.request.Sort.TheVariants.{Moves}
 use Rattle.jesmovit.specs.Texts.{Texts}
-use Rattle.jesmovit.specs.Outcomes.{WriteOutcome, wrote, said, sheet_outcome}
+use Rattle.jesmovit.specs.Outcomes.{WriteOutcome, wrote, said, written_as}
 use Rattle.jesmovit.specs.Compiling.{list_after}
 use Rattle.jesmovit.specs.Writing.{LentOutput, Writes, refuses, not_plan, too_short, writes, SheetIs, Sheets}
+use Rattle.jesmovit.specs.Outcomes.{SheetResult}
 use Rattle.jesmovit.specs.declared.laying.SheetAnswer.{SheetAnswer}
-use Rattle.jesmovit.specs.declared.laying.SheetAnswer.TheVariants.{Laid, Said, Refused}
+use Rattle.jesmovit.specs.declared.laying.SheetAnswer.TheVariants.{Laid, Said}
 use Rattle.capi.specs.Numbers.{outcome_numbers, laid_numbers, sheet_numbers}
 use Rattle.capi.specs.Calls.{Gives}
 use Rattle.capi.proofs.GivesLaws.{gives_once}
-use Rattle.theorems.proofs.OneAnswer.{one_says, refusal_same}
+use Rattle.theorems.proofs.OneAnswer.{one_says, checked_injective}
 
 -- what is lent, once this is written
 abbrev filled_with : LentOutput → View → List ℕ → LentOutput
@@ -54,20 +55,15 @@ module _ {Content : View → List ℕ → Type 0} (one : (v : View) (x y : List 
 pub one_sheet : (v : View) (x y : List ℕ) → SheetIs v x → SheetIs v y → x ≡ y
 one_sheet v x y e f = e ∙ sym f
 
-sheet_injective : (a b : SheetAnswer) → sheet_outcome a ≡ sheet_outcome b → a ≡ b
-sheet_injective (Laid n) (Laid m) e = let f : n ≡ m = cc in ap Laid f
-sheet_injective (Laid n) (Said v) e = never (cc)
-sheet_injective (Laid n) (Refused r) e = never (cc)
-sheet_injective (Said v) (Laid n) e = never (cc)
-sheet_injective (Said v) (Said w) e = ap Said (verdict_injective v w (cc))
-sheet_injective (Said v) (Refused r) e = never (cc)
-sheet_injective (Refused r) (Laid n) e = never (cc)
-sheet_injective (Refused r) (Said v) e = never (cc)
-sheet_injective (Refused r) (Refused q) e = ap Refused (refusal_same r q e)
+written_injective : (a b : SheetAnswer) → written_as a ≡ written_as b → a ≡ b
+written_injective (Laid n) (Laid m) e = let f : n ≡ m = cc in ap Laid f
+written_injective (Laid n) (Said v) e = never (cc)
+written_injective (Said v) (Laid n) e = never (cc)
+written_injective (Said v) (Said w) e = ap Said (verdict_injective v w (cc))
 
 module _ (t : Texts) (old x y : LentOutput) where
-  pub one_sheet_answer : (a b : SheetAnswer) → Sheets t old a x → Sheets t old b y → (a ≡ b) × (x ≡ y)
-  one_sheet_answer a b p q = let z = one_written one_sheet p q in (sheet_injective a b z.0, z.1)
+  pub one_sheet_answer : (a b : SheetResult) → Sheets t old a x → Sheets t old b y → (a ≡ b) × (x ≡ y)
+  one_sheet_answer a b p q = let z = one_written one_sheet p q in (checked_injective written_as written_injective a b z.0, z.1)
 
   pub one_sheet_call : (n m : ℕ) (v w : List ℕ) → Gives sheet_numbers (λ a. Sheets t old a x) n v → Gives sheet_numbers (λ a. Sheets t old a y) m w
       → (n ≡ m) × (v ≡ w) × (x ≡ y)

@@ -4,7 +4,8 @@ use Prim.Native.Nat.{ℕ, ◌+◌, ◌≤◌}
 use mathlib.Core.Path.{◌≡◌, refl, subst}
 use mathlib.Core.Bool.{true, cond}
 use mathlib.Core.List.{List, [], ◌∷◌}
-use Rattle.std.specs.Prelude.{Ok, Err}
+use Rattle.std.specs.Prelude.{Ok, Err, Option, Some, None, IsSome}
+use Rattle.load.specs.declared.request.Sort.{Sort}
 use native.Mathlib.Omega.{arith}
 use lib.Dec.{eqb, leb}
 use borrow.Author.Tests.{eqb-false}
@@ -23,7 +24,7 @@ use Rattle.lists.specs.PlanText.{read_plan}
 use Rattle.compile.specs.CompiledJob.{fits, program_scoped}
 use Rattle.load.specs.Refusals.{Handed, Checked, passed, refused, next, compilable, job_in, with_costs, costs_in, task_in}
 use Rattle.load.specs.Refusals.{offered, key_for, bound_for, plan_in, texts_in}
-use Rattle.load.specs.Refusals.{list_need, table_need, loading}
+use Rattle.load.specs.Refusals.{list_need, table_need, cells_in, loading}
 use Rattle.theorems.specs.RefusalNumbers.{UpTo, JobNumber, of_line, of_variable, of_size, TextNumber, of_job, of_costs, of_plan}
 use Rattle.theorems.specs.RefusalNumbers.{LoadNumber, of_text, too_short}
 
@@ -90,14 +91,16 @@ module _ (h : Handed) where
   costs_refuse j =
       cond_has ByText h.request.given.costs _ (passed (at_house_costs j)) (λ z. costed_refuses j z (read_costs h.costs)) (λ z a b e. never (cc))
 
-  offered_refuses : (t : Task) → h.request.plan ≡ true → (o : ListOutcome) → ByText (offered t o)
+  offered_refuses : (t : Task) → IsSome h.request.plan → (o : ListOutcome) → ByText (offered t o)
   offered_refuses t f (Ok es) = λ a b e. never (cc)
   offered_refuses t f (Err line) = λ a b e. let y : 5 ≡ a = cc in subst (TextNumber h) y (of_plan f)
 
-  plan_refuses : (t : Task) → ByText (plan_in h.request h.plan t)
-  plan_refuses t =
-      cond_has ByText h.request.plan _ (passed (record { task = t; entries = [] }))
-      (λ z. offered_refuses t z (read_plan (key_for h.request.sort) (bound_for h.request.sort t.job) h.plan)) (λ z a b e. never (cc))
+  plan_refuses : (t : Task) → ByText (plan_in h.request.plan h.plan t)
+  plan_refuses t = by h.request.plan refl
+    where
+      by : (p : Option Sort) → h.request.plan ≡ p → ByText (plan_in p h.plan t)
+      by (Some sort) e = offered_refuses t (rw e refl) (read_plan (key_for sort) (bound_for sort t.job) h.plan)
+      by None e = λ a b f. never (cc)
 
   -- of the texts alone
   pub texts_number : (number place : ℕ) → texts_in h ≡ refused number place → TextNumber h number
@@ -113,4 +116,4 @@ module _ (h : Handed) where
       next_refuses (LoadNumber h) _ _
       (next_refuses (LoadNumber h) (texts_in h) _ (λ a b e. of_text (texts_number a b e))
       (λ o. length_refuses (LoadNumber h) o (list_need o.task.job) h.request.places too_short))
-      (λ o. length_refuses (LoadNumber h) o (table_need h.request o.task) h.request.cells too_short)
+      (λ o. length_refuses (LoadNumber h) o (table_need h.request o.task) (cells_in h.request) too_short)

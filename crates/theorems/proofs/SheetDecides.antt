@@ -29,7 +29,7 @@ use Rattle.jesmovit.specs.Answers.{Answers}
 use Rattle.jesmovit.specs.Compiling.{list_after}
 use Rattle.jesmovit.specs.Checking.{checking, Says, CheckDone}
 use Rattle.jesmovit.specs.Writing.{LentOutput, Writes, refuses, not_plan, too_short, writes, SheetIs, Sheets}
-use Rattle.jesmovit.specs.declared.laying.SheetAnswer.{SheetAnswer}
+use Rattle.jesmovit.specs.Outcomes.{SheetResult}
 use Rattle.jesmovit.proofs.AnswerLaws.{answer_done, view_of_lem}
 use Rattle.theorems.specs.Accepted.{Accepted}
 use Rattle.theorems.specs.LaysOut.{LaysOut, IsSheet}
@@ -70,7 +70,7 @@ module _ (t : Texts) (old : LentOutput) (o : Offer) (accepted : Accepted (checki
     leads = (plan_leads v.domain v.program says_plan).1
 
     entries : EntriesBelow o.entries D.moves
-    entries = let p = accepted.texts.its_plan refl in record { few = p.few; below = p.each }
+    entries = let p = accepted.texts.its_plan Moves refl in record { few = p.few; below = p.each }
 
     bounded : Bounded D most_cost
     bounded =
@@ -86,7 +86,7 @@ module _ (t : Texts) (old : LentOutput) (o : Offer) (accepted : Accepted (checki
     sheet_right = sheet_is D o.entries leads bounded accepted.texts.its_task.its_job.right.moves entries
 
   -- whatever answer, list and output meet the promise
-  module _ (answer : SheetAnswer) (new : LentOutput) (promised : Sheets t old answer new) where
+  module _ (answer : SheetResult) (new : LentOutput) (promised : Sheets t old answer new) where
     promised_here : Writes SheetIs old (passed (view_of o)) (sheet_outcome answer) new
     promised_here =
         subst (λ (c : Checked View). Writes SheetIs old c (sheet_outcome answer) new) (view_of_lem h ((accepted_iff h o).1 accepted)) promised

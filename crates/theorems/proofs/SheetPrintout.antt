@@ -18,15 +18,15 @@ use Rattle.jesmovit.specs.Texts.{Texts}
 use Rattle.jesmovit.specs.Outcomes.{WriteOutcome}
 use Rattle.jesmovit.specs.Checking.{checking, Checks}
 use Rattle.jesmovit.specs.Writing.{LentOutput, Writes, refuses, not_plan, too_short, writes, SheetIs, Sheets}
-use Rattle.jesmovit.specs.declared.checking.CheckAnswer.{CheckAnswer}
-use Rattle.jesmovit.specs.declared.laying.SheetAnswer.{SheetAnswer}
+use Rattle.jesmovit.specs.Outcomes.{CheckResult}
+use Rattle.jesmovit.specs.Outcomes.{SheetResult}
 use Rattle.jesmovit.proofs.AnswerLaws.{viewed, one_outcome}
 use Rattle.report.specs.Printout.{refused_line, printout, verdict_lines, check_printout, written_lines, sheet_printout}
 use Rattle.theorems.specs.Accepted.{Accepted}
 use Rattle.theorems.proofs.OneAnswer.{one_checked}
 use Rattle.theorems.proofs.SheetDecides.{bytes_needed, sheet_decides, sheet_repeats}
 
-module _ (t : Texts) (old : LentOutput) (o : Offer) (accepted : Accepted (checking Moves t (length old.list)) o) (answer : SheetAnswer)
+module _ (t : Texts) (old : LentOutput) (o : Offer) (accepted : Accepted (checking Moves t (length old.list)) o) (answer : SheetResult)
     (new : LentOutput) (promised : Sheets t old answer new) where
   -- the whole sheet, and nothing else
   pub sheet_prints : Allowed (view_of o).domain (view_of o).program o.entries → sheet_size (length o.entries) ≤ length old.output
@@ -40,7 +40,7 @@ module _ (t : Texts) (old : LentOutput) (o : Offer) (accepted : Accepted (checki
 
   -- what a check of the same texts prints, with the same list
   pub sheet_prints_verdict : (Allowed (view_of o).domain (view_of o).program o.entries → ⊥)
-      → (checked : CheckAnswer) (list : List ℕ) → Checks Moves t old.list checked list
+      → (checked : CheckResult) (list : List ℕ) → Checks Moves t old.list checked list
       → sheet_printout answer new.output ≡ check_printout checked
   sheet_prints_verdict none checked list c =
       let (w, e, f, a) = sheet_repeats t old o accepted answer new promised none in
@@ -48,7 +48,7 @@ module _ (t : Texts) (old : LentOutput) (o : Offer) (accepted : Accepted (checki
       ap (printout (written_lines new.output)) e ∙ ap (printout verdict_lines) same
 
 -- "A refusal prints only `refused=number,place`."
-pub sheet_prints_refusal : (t : Texts) (old : LentOutput) (answer : SheetAnswer) (new : LentOutput) → Sheets t old answer new → (number place : ℕ)
+pub sheet_prints_refusal : (t : Texts) (old : LentOutput) (answer : SheetResult) (new : LentOutput) → Sheets t old answer new → (number place : ℕ)
     → loading (checking Moves t (length old.list)) ≡ refused number place → sheet_printout answer new.output ≡ refused_line number place
 sheet_prints_refusal t old answer new promised number place e =
     ap (printout (written_lines new.output)) (refused_with promised (ap viewed e))

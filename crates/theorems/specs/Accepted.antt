@@ -1,6 +1,6 @@
 -- What is not refused, said without reading it: "Texts are accepted where no reason but 6 refuses
 -- them."
-use Rattle.std.specs.Prelude.{ℕ, ◌≤◌, ◌≡◌, true, false, List, [], length}
+use Rattle.std.specs.Prelude.{ℕ, ◌≤◌, ◌≡◌, true, false, Some, None, List, [], length}
 use Rattle.limits.specs.Limits.{most_positions, most_steps}
 use Rattle.text.specs.Lines.{lines}
 use Rattle.job.specs.Job.{Job}
@@ -9,7 +9,7 @@ use Rattle.job.specs.WellFormed.{WellFormed}
 use Rattle.compile.specs.CompiledJob.{position_count, step_count, program_scoped}
 use Rattle.lists.specs.PlanText.{IsPlanText}
 use Rattle.lists.specs.CostsText.{IsCostsText}
-use Rattle.load.specs.Refusals.{Handed, Offer, key_for, bound_for, list_need, table_need}
+use Rattle.load.specs.Refusals.{Handed, Offer, key_for, bound_for, list_need, table_need, cells_in}
 use Rattle.load.specs.declared.request.Given.{Given}
 use Rattle.load.specs.declared.request.Sort.{Sort}
 use Rattle.theorems.specs.JobText.{job_text}
@@ -46,11 +46,11 @@ AcceptedPlan sort j plan entries = IsPlanText (key_for sort) (bound_for sort j) 
 -- the texts; where no plan text is handed in there are no entries
 pub record AcceptedTexts (h : Handed) (o : Offer) : Type 0 where
   pub its_task : AcceptedTask h.request.given h.job h.costs o.task
-  pub its_plan : h.request.plan ≡ true → AcceptedPlan h.request.sort o.task.job h.plan o.entries
-  pub alone : h.request.plan ≡ false → o.entries ≡ []
+  pub its_plan : (sort : Sort) → h.request.plan ≡ Some sort → AcceptedPlan sort o.task.job h.plan o.entries
+  pub alone : h.request.plan ≡ None → o.entries ≡ []
 
 -- and a list and a table that are long enough
 pub record Accepted (h : Handed) (o : Offer) : Type 0 where
   pub texts : AcceptedTexts h o
   pub list : list_need o.task.job ≤ h.request.places
-  pub table : table_need h.request o.task ≤ h.request.cells
+  pub table : table_need h.request o.task ≤ cells_in h.request

@@ -11,7 +11,7 @@ use Rattle.jesmovit.specs.Texts.{Texts}
 use Rattle.jesmovit.specs.Outcomes.{check_outcome}
 use Rattle.jesmovit.specs.Compiling.{list_in}
 use Rattle.jesmovit.specs.Checking.{checking}
-use Rattle.jesmovit.specs.declared.checking.CheckAnswer.{CheckAnswer}
+use Rattle.jesmovit.specs.Outcomes.{CheckResult}
 
 -- on moves by sets of positions, on steps by the configuration that they lead to
 abbrev pub verdict_for : Sort → View → Verdict
@@ -23,6 +23,6 @@ abbrev pub checked_as : Sort → Checked View → Checked Verdict
 checked_as sort c = next c (λ v. passed (verdict_for sort v))
 
 -- "each outcome is equated with a definition wherever it can be"
-pub record CheckEquals (sort : Sort) (t : Texts) (list : List ℕ) (answer : CheckAnswer) (after : List ℕ) : Type 0 where
+pub record CheckEquals (sort : Sort) (t : Texts) (list : List ℕ) (answer : CheckResult) (after : List ℕ) : Type 0 where
   pub outcome : check_outcome answer ≡ checked_as sort (view_in (checking sort t (length list)))
   pub holds : after ≡ list_in (view_in (checking sort t (length list))) list

@@ -9,9 +9,7 @@ with_house_text h = record {
   request = record {
     given = costs_given;
     plan = h.request.plan;
-    sort = h.request.sort;
     places = h.request.places;
-    table = h.request.table;
     cells = h.request.cells;
   };
   job = h.job;

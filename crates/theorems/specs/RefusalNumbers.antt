@@ -1,5 +1,5 @@
 -- The numbers by which operations refuse, as documents 01 and 02 have them.
-use Rattle.std.specs.Prelude.{ℕ, ◌≤◌, ◌≡◌, true, ◌↔◌, ◌⊎◌}
+use Rattle.std.specs.Prelude.{ℕ, ◌≤◌, ◌≡◌, true, IsSome, ◌↔◌, ◌⊎◌}
 use Rattle.load.specs.Refusals.{Handed}
 
 -- one of the numbers from 1 to the last
@@ -16,7 +16,7 @@ pub data JobNumber : ℕ → Type 0 where
 pub data TextNumber (h : Handed) : ℕ → Type 0 where
   of_job : {number : ℕ} → JobNumber number → TextNumber h number
   of_costs : h.request.given.costs ≡ true → TextNumber h 7
-  of_plan : h.request.plan ≡ true → TextNumber h 5
+  of_plan : IsSome h.request.plan → TextNumber h 5
 
 -- and 6, of a list or a table; that of an output has the same number
 pub data LoadNumber (h : Handed) : ℕ → Type 0 where

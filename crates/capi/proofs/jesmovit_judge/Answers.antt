@@ -3,4 +3,4 @@ use Rattle.capi.proofs.jesmovit_judge.Goals as goal
 
 pub returns : goal.returns
 returns c =
-    given_by c.judge-a.result (rw c.given_in-g.ensures at c.judge-a.ensures) c.of_judge-n.ensures c.hand_out.ensures
+    given_by c.judge-a.result (rw c.given_in-g.ensures at c.judge-a.ensures) c.from-n.ensures c.hand_out.ensures

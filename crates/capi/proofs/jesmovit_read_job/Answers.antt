@@ -3,4 +3,4 @@ use Rattle.capi.proofs.jesmovit_read_job.Goals as goal
 
 pub returns : goal.returns
 returns c =
-    given_by c.read_job-a.result c.read_job-a.ensures c.of_read-n.ensures c.hand_out.ensures
+    given_by c.read_job-a.result c.read_job-a.ensures c.from-n.ensures c.hand_out.ensures

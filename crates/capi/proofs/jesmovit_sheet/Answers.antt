@@ -3,4 +3,4 @@ use Rattle.capi.proofs.jesmovit_sheet.Goals as goal
 
 pub returns : goal.returns
 returns c =
-    given_by c.sheet-a.result (rw c.given_in-g.ensures at c.sheet-a.ensures) c.of_sheet-n.ensures c.hand_out.ensures
+    given_by c.sheet-a.result (rw c.given_in-g.ensures at c.sheet-a.ensures) c.from-n.ensures c.hand_out.ensures

@@ -1,18 +1,32 @@
 use mathlib.Core.Path.{refl}
-use Rattle.jesmovit.proofs.LoadedLaws.{load_refusal_lem, load_sized, load_listed, load_entries, load_passed}
+use Rattle.jesmovit.proofs.FrontLaws.{own_room, holds_filled}
+use Rattle.jesmovit.proofs.LoadedLaws.{load_refused, load_passed, load_room, load_entries}
+use Rattle.jesmovit.proofs.SaysLaws.{says_moves}
 use Rattle.jesmovit.proofs.WritingLaws.{write_refused, write_passed}
 use Rattle.jesmovit.proofs.laying.sheet.Goals as goal
 
 pub returns-in_default : goal.returns-in_default
-returns-in_default c =
-    write_refused _ (load_refusal_lem c.load-loaded.ensures c.in_default.is c.refusal-r.ensures)
+returns-in_default c = write_refused _ (load_refused c.load-loaded.ensures c.unwrap_err.ensures)
 
-pub lay_out-requires : goal.lay_out-requires
-lay_out-requires c =
-    let g = c.in-Ready.is in
-    let l = c.load-loaded.ensures in
-    record { sized = (load_sized l g, (load_listed l g).1.1); entries_below = load_entries l g refl c.front-offered.ensures }
+pub compile-requires-clause-fits : goal.compile-requires-clause-fits
+compile-requires-clause-fits c =
+    let j = c.in-Ok.offer.job in (j.sized.fit, own_room j.task.stored j.sized)
 
-pub returns : goal.returns
-returns c =
-    write_passed _ (load_passed c.load-loaded.ensures c.in-Ready.is c.front-offered.ensures) c.lay_out.ensures
+pub compiled-job-requires : goal.compiled-job-requires
+compiled-job-requires c =
+    let j = c.in-Ok.offer.job in holds_filled _ _ (own_room j.task.stored j.sized) c.compile.ensures
+
+pub check_moves-verdict-requires : goal.check_moves-verdict-requires
+check_moves-verdict-requires c =
+    rw (c.compiled-job.ensures.0, c.as_slice-plan.ensures.value) (load_entries c.load-loaded.ensures c.in-Ok.is refl)
+
+pub lay_out-requires-clause-says : goal.lay_out-requires-clause-says
+lay_out-requires-clause-says c =
+    let j = c.compiled-job.result in
+    rw c.compiled-job.ensures.0 at (says_moves j.task.head j.task.rows.now c.as_slice-plan.result.now refl j.ready c.check_moves-verdict.ensures)
+
+pub lay_out-requires-clause-room : goal.lay_out-requires-clause-room
+lay_out-requires-clause-room c = load_room c.load-loaded.ensures c.in-Ok.is
+
+pub lay_out-requires-clause-entries_below : goal.lay_out-requires-clause-entries_below
+lay_out-requires-clause-entries_below c = rw c.as_slice-plan.ensures.value (load_entries c.load-loaded.ensures c.in-Ok.is refl)

@@ -1,15 +1,8 @@
-use Rattle.jesmovit.proofs.LoadedLaws.{load_listed, prepare_kept, prepare_filled}
+use Rattle.jesmovit.proofs.LoadedLaws.{load_room}
+use Rattle.std.proofs.Common.{Ok, refl}
 use Rattle.jesmovit.proofs.preparing.prepare.Goals as goal
 
-pub returns-in_default : goal.returns-in_default
-returns-in_default c =
-    prepare_kept c.load-loaded.ensures c.in_default.is
-
-pub compile-requires : goal.compile-requires
-compile-requires c =
-    let listed = rw c.requires.2 at (load_listed c.load-loaded.ensures c.in-Ready.is) in
-    record { scoped = listed.0.1; fits = listed.1 }
-
-pub returns : goal.returns
-returns c =
-    prepare_filled c.load-loaded.ensures c.in-Ready.is c.compile.ensures
+pub compile-requires-clause-fits : goal.compile-requires-clause-fits
+compile-requires-clause-fits c =
+    let o = c.in_ok-offer.offer in
+    (o.job.sized.fit, rw c.requires.1 at (load_room {a = Ok o} c.in_ok-offer.ensures refl))

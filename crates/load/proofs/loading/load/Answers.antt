@@ -1,42 +1,42 @@
-use mathlib.Core.Path.{subst}
-use Rattle.load.specs.Loaded.{Measured}
-use Rattle.load.specs.declared.loaded.Loaded.{Loaded}
-use Rattle.load.proofs.LoadingLaws.{task_refused, plan_refused, list_refused, table_refused, all_ready}
+use mathlib.Core.Path.{◌∙◌}
+use Rattle.std.proofs.lemmas.Result.{err_from_is_err_and}
+use Rattle.job.specs.StoredTask.{stored_task}
+use Rattle.load.specs.Refusals.{Handed}
+use Rattle.load.proofs.LoadingLaws.{texts_of, chain, list_short, table_short, all_long, cells_few, cells_enough}
 use Rattle.load.proofs.loading.load.Goals as goal
 
-pub returns-in_default : goal.returns-in_default
-returns-in_default c =
-    task_refused _ _ _ _ c.load_task-read.ensures.0 c.in_default.is
+pub returns-in_err-job : goal.returns-in_err-job
+returns-in_err-job c =
+    let h : Handed = record { request = c.args.request; job = c.args.text.now; plan = c.args.plan.now; costs = c.args.costs.now } in
+    let p = err_from_is_err_and c.from_residual.result c.from_residual.ensures.1 in
+    record { is = rw (p.1, p.2) (chain h (texts_of h c.in_err-job.ensures)) }
 
-pub load_plan-offered-requires : goal.load_plan-offered-requires
-load_plan-offered-requires c =
-    let t = c.load_task-read in
-    (subst (λ (x : Loaded). Measured x t.new.rows) c.in-Ready.is t.ensures.1, c.requires.1)
-
-pub returns-in_default-offered : goal.returns-in_default-offered
-returns-in_default-offered c =
-    plan_refused _ _ _ _ c.load_task-read.ensures.0 c.in-Ready.is _ c.load_plan-offered.ensures c.in_default-offered.is
+pub returns-in_err-entries : goal.returns-in_err-entries
+returns-in_err-entries c =
+    let h : Handed = record { request = c.args.request; job = c.args.text.now; plan = c.args.plan.now; costs = c.args.costs.now } in
+    let p = err_from_is_err_and c.from_residual-in_err-entries.result c.from_residual-in_err-entries.ensures.1 in
+    record { is = rw (p.1, p.2) (chain h (c.in_err-entries.ensures ∙ texts_of h c.in_ok-job.ensures)) }
 
 pub returns-then-request-places : goal.returns-then-request-places
 returns-then-request-places c =
-    list_refused _ _ _ _ c.load_task-read.ensures.0 c.in-Ready.is _ c.load_plan-offered.ensures c.in-Ready-offered.is
-    c.list_need-places.ensures
-    c.if-request-places.true c.too_short-short.ensures
+    let h : Handed = record { request = c.args.request; job = c.args.text.now; plan = c.args.plan.now; costs = c.args.costs.now } in
+    let texts = c.in_ok-entries.ensures ∙ texts_of h c.in_ok-job.ensures in
+    let need = c.list_need-places.ensures in
+    record { is = rw (c.too_short.ensures, need) (list_short h texts (rw need at c.if-request-places.true)) }
 
-pub shape_of-rows-then-request-cells : goal.shape_of-rows-then-request-cells
-shape_of-rows-then-request-cells c =
-    c.load_task-read.auto.rows
-
-pub returns-then-request-cells : goal.returns-then-request-cells
-returns-then-request-cells c =
-    table_refused _ _ _ _ c.load_task-read.ensures.0 c.in-Ready.is _ c.load_plan-offered.ensures c.in-Ready-offered.is c.list_need-places.ensures
-    c.if-request-places.false c.table_need-cells.ensures c.if-request-cells.true c.too_short-short-then-request-cells.ensures
-
-pub shape_of-rows : goal.shape_of-rows
-shape_of-rows c =
-    c.load_task-read.auto.rows
+pub returns-then-cells-need : goal.returns-then-cells-need
+returns-then-cells-need c =
+    let h : Handed = record { request = c.args.request; job = c.args.text.now; plan = c.args.plan.now; costs = c.args.costs.now } in
+    let texts = c.in_ok-entries.ensures ∙ texts_of h c.in_ok-job.ensures in
+    let few = cells_few c.args.request (stored_task c.in_ok-job.job.task) c.table_need-need.ensures c.unwrap_or-cells.ensures c.if-cells-need.true in
+    record {
+      is = rw (c.too_short-then-cells-need.ensures, few.0)
+          (table_short h texts (rw c.list_need-places.ensures at c.if-request-places.false) few.1);
+    }
 
 pub returns : goal.returns
 returns c =
-    all_ready _ _ _ _ c.load_task-read.ensures.0 c.in-Ready.is _ c.load_plan-offered.ensures c.in-Ready-offered.is c.list_need-places.ensures
-    c.if-request-places.false c.table_need-cells.ensures c.if-request-cells.false
+    let h : Handed = record { request = c.args.request; job = c.args.text.now; plan = c.args.plan.now; costs = c.args.costs.now } in
+    let texts = c.in_ok-entries.ensures ∙ texts_of h c.in_ok-job.ensures in
+    let enough = cells_enough c.args.request (stored_task c.in_ok-job.job.task) c.table_need-need.ensures c.unwrap_or-cells.ensures c.if-cells-need.false in
+    record { is = all_long h texts (rw c.list_need-places.ensures at c.if-request-places.false) enough }

@@ -1,10 +1,13 @@
+use mathlib.Core.Path.{sym, ◌∙◌}
 use Rattle.text.specs.Bytes.{bytes}
 use Rattle.load.proofs.offer.read_plan.Goals as goal
 
-pub returns-in-Moves-clause-is : goal.returns-in-Moves-clause-is
+pub returns-in-Moves : goal.returns-in-Moves
 unfolding bytes
-returns-in-Moves-clause-is c = rw c.in-Moves.is c.read_plan.ensures.is
+returns-in-Moves c =
+    rw (c.in-Moves.is, ← c.move_count-moves.ensures) c.read_plan.ensures.is
 
-pub returns-in-Steps-clause-is : goal.returns-in-Steps-clause-is
+pub returns-in-Steps : goal.returns-in-Steps
 unfolding bytes
-returns-in-Steps-clause-is c = rw c.in-Steps.is c.read_plan-in-Steps.ensures.is
+returns-in-Steps c =
+    rw (c.in-Steps.is, ← c.args.job.now.sized.steps) c.read_plan-in-Steps.ensures.is
