@@ -25,6 +25,7 @@ pub struct Arrival {
 pub struct Explored<'t> {
     pub world: World<'t>,
     kept: [Option<Option<u16>>; MOVES],
+    pub ghost inside: { world.state < (domain_at world.task).states },
     ghost keeps: { KeepsSuccessors (domain_at world.task) world.state kept } by { Prim.hlevel props },
 }
 

@@ -14,13 +14,11 @@ pub struct World<'t> {
     pub task: Task<'t>,
     pub state: u16,
     pub values: [bool; VALUES],
-    pub ghost inside: { state < (domain_at task).states },
     pub ghost told: { Tells (domain_at task) state values },
 }
 
 impl<'t> World<'t> {
     pub fn at(task: &Task<'t>, state: u16) -> World<'t>
-        requires { state < (domain_at task.now).states }
         ensures { (result.task ≡ task.now) × (result.state ≡ state) }
     {
         World {
@@ -54,7 +52,7 @@ impl<'t> World<'t> {
     // clear and set one fact.
     #[tactic(auto, using(crate::proofs::SuccessorLaws::as_made))]
     pub fn successor(&self, m: u16) -> Option<u16>
-        requires { m < (domain_at self.now.task).moves }
+        requires { (m < (domain_at self.now.task).moves) × (self.now.state < (domain_at self.now.task).states) }
         ensures after { result ≡ (domain_at self.now.task).successor m self.now.state }
         ensures within { IfSome result (λ t. t < (domain_at self.now.task).states) }
     {

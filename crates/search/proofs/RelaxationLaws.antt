@@ -48,8 +48,8 @@ target_inside job w inside step target e h =
 
 -- a world of the job's task
 module _ (job : CompiledJob) (world : World) (same : world.task ≡ job.task) where
-  pub world_inside : world.state < (graph_of job).domain.states
-  world_inside = subst (λ (t : Task). world.state < (domain_at t).states) same world.inside
+  pub world_inside : world.state < (domain_at world.task).states → world.state < (graph_of job).domain.states
+  world_inside inside = subst (λ (t : Task). world.state < (domain_at t).states) same inside
 
   pub world_arrives : (l : Label) (q : ℕ) (o : Option Arrival) → arrival_of o ≡ arrives (domain_at world.task) l world.state q
       → arrival_of o ≡ arrives (graph_of job).domain l world.state q

@@ -13,13 +13,13 @@ returns-in_default-clause-steps c =
 pub relax-requires-clause-state_inside : goal.relax-requires-clause-state_inside
 relax-requires-clause-state_inside c =
     let led = world_arrives c.args.table.now.job c.args.self.now.explored.world c.requires.same_task _ _ _ c.arrive.ensures.leads in
-    let inside = world_inside c.args.table.now.job c.args.self.now.explored.world c.requires.same_task in
+    let inside = world_inside c.args.table.now.job c.args.self.now.explored.world c.requires.same_task c.args.self.now.explored.inside in
     (target_inside c.args.table.now.job _ inside c.args.step c.in-Some.target (rw c.in-Some.is at led) c.requires.inside).0
 
 pub relax-requires-clause-position_inside : goal.relax-requires-clause-position_inside
 relax-requires-clause-position_inside c =
     let led = world_arrives c.args.table.now.job c.args.self.now.explored.world c.requires.same_task _ _ _ c.arrive.ensures.leads in
-    let inside = world_inside c.args.table.now.job c.args.self.now.explored.world c.requires.same_task in
+    let inside = world_inside c.args.table.now.job c.args.self.now.explored.world c.requires.same_task c.args.self.now.explored.inside in
     (target_inside c.args.table.now.job _ inside c.args.step c.in-Some.target (rw c.in-Some.is at led) c.requires.inside).1
 
 pub returns-clause-steps : goal.returns-clause-steps

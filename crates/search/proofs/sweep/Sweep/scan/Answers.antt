@@ -13,7 +13,7 @@ returns-then-not-is_due-clause-scans c =
     let s = c.args.self.now in
     let t = c.args.table.now in
     let here = ap (λ (i : ℕ). get_or t.costs.now i 0) c.cell-i.ensures.0 in
-    scanned_none t.job s.explored.world.state s.key c.args.p (world_inside t.job s.explored.world c.requires.same_task) c.requires.inside t.cells
+    scanned_none t.job s.explored.world.state s.key c.args.p (world_inside t.job s.explored.world c.requires.same_task s.explored.inside) c.requires.inside t.cells
     s.marks (omega arith) c.requires.followed here (λ y. let h : IsTrue c.is_due.result = c.is_due.ensures.1 y in absurd (cc))
 
 pub bounds-self-p : goal.bounds-self-p
@@ -31,7 +31,7 @@ loop-left-init c =
     record {
       keeps = record { job = refl; same_reference = refl };
       same = record { world = refl; key = refl };
-      scanning = scanning_start t.job s.explored.world.state s.key c.args.p (world_inside t.job s.explored.world c.requires.same_task)
+      scanning = scanning_start t.job s.explored.world.state s.key c.args.p (world_inside t.job s.explored.world c.requires.same_task s.explored.inside)
           c.requires.inside t.cells s.marks (omega arith) c.requires.followed here (c.is_due.ensures.0 on).1 c.last_from-left.ensures;
     }
 
@@ -48,12 +48,12 @@ loop-left-preserved c =
     let s = c.args.self.now in
     let t = c.args.table.now in
     scan_goes_on c.loop-left.invariant c.in-Some.is _ c.step-step.ensures c.follow-next.ensures.keeps c.before-left.ensures
-    (world_inside t.job s.explored.world c.requires.same_task) c.requires.inside
+    (world_inside t.job s.explored.world c.requires.same_task s.explored.inside) c.requires.inside
     c.follow-next.ensures.steps c.follow-next.ensures.same_state
 
 pub returns-clause-scans : goal.returns-clause-scans
 returns-clause-scans c =
     let s = c.args.self.now in
     let t = c.args.table.now in
-    scanning_end t.job s.explored.world.state s.key c.args.p (world_inside t.job s.explored.world c.requires.same_task) c.requires.inside t.cells
+    scanning_end t.job s.explored.world.state s.key c.args.p (world_inside t.job s.explored.world c.requires.same_task s.explored.inside) c.requires.inside t.cells
     c.loop-left.invariant.scanning c.in_default.is
