@@ -167,7 +167,13 @@ impl From<Result<Judged, Refusal>> for Numbers {
                 let o = Coded::from(j.judgement);
                 Numbers {
                     number: 0,
-                    values: [s.positions as u64, s.steps as u64, o.number, o.first, o.second],
+                    values: [
+                        s.positions as u64,
+                        s.steps as u64,
+                        o.number,
+                        o.first,
+                        o.second,
+                    ],
                 }
             }
             Err(r) => Numbers::from(r),

@@ -16,7 +16,7 @@ pub returns-in_err-costs : goal.returns-in_err-costs
 returns-in_err-costs c =
     let p = err_from_is_err_and c.from_residual-in_err-costs.result c.from_residual-in_err-costs.ensures.1 in
     rw (p.1, p.2)
-        (c.in_err-costs.ensures.value _ ∙ task_of_lem c.args.given c.args.text.now c.args.costs.now c.in_ok-measured.ensures.value)
+    (c.in_err-costs.ensures.value _ ∙ task_of_lem c.args.given c.args.text.now c.args.costs.now c.in_ok-measured.ensures.value)
 
 pub invariant_of-task : goal.invariant_of-task
 invariant_of-task c =
