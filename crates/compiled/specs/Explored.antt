@@ -1,7 +1,13 @@
--- What is kept of the moves' successors in a state, as far as they are worked out.
-use Rattle.std.specs.Prelude.{ℕ, ◌≡◌, List, Option, None, Some, get_or}
+-- What is kept of what the moves give in a state, as far as they are worked out.
+use Rattle.std.specs.Prelude.{ℕ, ◌≡◌, List, Option, None, Some, IfSome, option_map, get_or}
 use Rattle.semantics.specs.Domain.{Domain}
+use Rattle.compiled.specs.declared.explored.Made.{Made}
 
--- each that is kept is the move's own
-pub record KeepsSuccessors (D : Domain) (s : ℕ) (kept : List (Option (Option ℕ))) : Type 0 where
-  pub own : (m : ℕ) (after : Option ℕ) → get_or kept m None ≡ Some after → after ≡ D.successor m s
+-- the state after move m and its cost in state s, or none where it can't be made
+pub record Gives (D : Domain) (s m : ℕ) (made : Option Made) : Type 0 where
+  pub after : option_map (λ x. x.state) made ≡ D.successor m s
+  pub cost : IfSome made (λ x. x.cost ≡ D.cost m s)
+
+-- what is kept of a move is its own
+pub record KeepsMade (D : Domain) (s : ℕ) (kept : List (Option (Option Made))) : Type 0 where
+  pub own : (m : ℕ) (made : Option Made) → get_or kept m None ≡ Some made → Gives D s m made

@@ -1,8 +1,8 @@
-// A world, and its moves' successors as far as they are worked out.
+// A world, and what its moves give as far as they are worked out.
 ghost use Rattle.std.proofs.Props.{props};
 ghost use Rattle.std.specs.Prelude.{◌≡◌, ◌<◌};
 ghost use Rattle.domain.specs.Domain.{domain_at};
-ghost use Rattle.compiled.specs.Explored.{KeepsSuccessors};
+ghost use Rattle.compiled.specs.Explored.{Gives, KeepsMade};
 
 use crate::steps::OutStep;
 use compile::label::Label;
@@ -20,13 +20,20 @@ pub struct Arrival {
     pub cost: u64,
 }
 
-// A world, and for each move whose successor is worked out that successor.
+// What making a move gives: the state after it, and its cost. A cost is kept in four bytes.
+#[derive(Clone, Copy)]
+pub struct Made {
+    pub state: u16,
+    pub cost: u32,
+}
+
+// A world, and for each move that was worked out in it what it gives, if it can be made.
 #[derive(Drop)]
 pub struct Explored<'t> {
     pub world: World<'t>,
-    kept: [Option<Option<u16>>; MOVES],
+    kept: [Option<Option<Made>>; MOVES],
     pub ghost inside: { world.state < (domain_at world.task).states },
-    ghost keeps: { KeepsSuccessors (domain_at world.task) world.state kept } by { Prim.hlevel props },
+    ghost keeps: { KeepsMade (domain_at world.task) world.state kept } by { Prim.hlevel props },
 }
 
 impl<'t> Explored<'t> {
@@ -44,19 +51,31 @@ impl<'t> Explored<'t> {
         }
     }
 
-    // The state after move m.
-    pub fn successor(&mut self, m: u16) -> Option<u16>
+    // What move m gives, worked out.
+    fn make(&self, m: u16) -> Option<Made>
+        requires { m < (domain_at self.now.world.task).moves }
+        ensures { Gives (domain_at self.now.world.task) self.now.world.state m result }
+    {
+        let state = self.world.successor(m)?;
+        Some(Made {
+            state: state,
+            cost: self.world.cost(m) as u32,
+        })
+    }
+
+    // What move m gives, as it is kept, or worked out and then kept.
+    pub fn made(&mut self, m: u16) -> Option<Made>
         requires { m < (domain_at self.old.world.task).moves }
-        ensures after { result ≡ (domain_at self.old.world.task).successor m self.old.world.state }
+        ensures gives { Gives (domain_at self.old.world.task) self.old.world.state m result }
         ensures world { self.new.world ≡ self.old.world }
     {
         let i = m as usize;
-        if let Some(after) = self.kept[i] {
-            return after;
+        if let Some(made) = self.kept[i] {
+            return made;
         }
-        let after = self.world.successor(m);
-        self.kept[i] = Some(after);
-        after
+        let made = self.make(m);
+        self.kept[i] = Some(made);
+        made
     }
 
     // Where a step leads, if it can be made.
@@ -75,11 +94,11 @@ impl<'t> Explored<'t> {
         if domain::moves::move_count(&self.world.task) <= m {
             return None;
         }
-        let state = self.successor(m)?;
+        let made = self.made(m)?;
         Some(Arrival {
-            state: state,
+            state: made.state,
             position: step.to,
-            cost: self.world.cost(m),
+            cost: u64::from(made.cost),
         })
     }
 }

@@ -1,4 +1,4 @@
-use Rattle.std.proofs.Common.{refl, arith}
+use Rattle.std.proofs.Common.{refl, ◌∙◌, arith}
 use Rattle.job.specs.Store.{task_of}
 use Rattle.domain.proofs.SuccessorLaws.{successor_past}
 use Rattle.compiled.proofs.ArrivalLaws.{arrives_after, arrives_nowhere}
@@ -17,11 +17,11 @@ returns-then-move_count-m-clause-leads c =
     rw c.in-Make.is (arrives_nowhere _ _ _ _
     (successor_past (task_of w.task.head w.task.rows.now) c.in-Make.m w.state (omega (arith, c.if-move_count-m.true, c.move_count.ensures))))
 
-pub returns-in_err-state-clause-leads : goal.returns-in_err-state-clause-leads
-returns-in_err-state-clause-leads c =
-    rw (c.from_residual.ensures, c.in-Make.is) (arrives_nowhere _ _ _ _ c.in_err-state.ensures.after)
+pub returns-in_err-made-clause-leads : goal.returns-in_err-made-clause-leads
+returns-in_err-made-clause-leads c =
+    rw (c.from_residual.ensures, c.in-Make.is) (arrives_nowhere _ _ _ _ c.in_err-made.ensures.gives.after)
 
 pub returns-clause-leads : goal.returns-clause-leads
 returns-clause-leads c =
-    let there = c.in_ok-state.ensures in
-    rw c.in-Make.is (arrives_after _ _ _ _ there.after (rw there.world at c.cost.ensures.0))
+    let made = c.in_ok-made.ensures in
+    rw c.in-Make.is (arrives_after _ _ _ _ made.gives.after (c.from.ensures ∙ made.gives.cost))
