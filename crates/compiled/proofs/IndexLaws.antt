@@ -1,14 +1,18 @@
 -- Links to the steps from each position, as they are made.
 -- Assumes nothing.
-use Rattle.std.proofs.Common.{◌≡◌, ℕ, ◌+◌, ◌<◌, Bool, true, false, cond, List, Option, None}
-use Rattle.std.proofs.Common.{Some, eqb, get_or, set, replicate, refl, sym, ◌∙◌, ap, add-one, arith}
+use Rattle.std.proofs.Common.{◌≡◌, ℕ, ◌+◌, ◌/◌, ◌<◌, Bool, true, false, cond, List, Option, None}
+use Rattle.std.proofs.Common.{Some, eqb, length, get_or, set, replicate, refl, sym, ◌∙◌, ap, add-one, arith}
 use Rattle.std.proofs.Math.ListN.{length-set, length-replicate}
 use Rattle.std.proofs.Math.Seq.{get_or-set_same, get_or-set_other}
 use borrow.Author.Tests.{eqb-true, eqb-false}
 use Rattle.limits.specs.Limits.{most_positions, most_steps}
 use Rattle.laws.proofs.Lists.{replicate_default}
 use Rattle.compiled.specs.StepList.{start_in}
-use Rattle.compiled.specs.StepIndex.{last_step_from, step_before, link_of, Linked}
+use Rattle.semantics.proofs.FlatLaws.{steps_at, steps_only}
+use Rattle.compiled.specs.declared.steps.OutStep.{OutStep}
+use Rattle.compiled.specs.Steps.{IsStep}
+use Rattle.compiled.specs.StepIndex.{last_step_from, step_before, link_of, Linked, unread, StepsRead}
+use native.Mathlib.Decide.{ℕ_discrete}
 
 pub same_link : (a b : Option ℕ) → link_of a ≡ link_of b → a ≡ b
 same_link None None e = refl
@@ -53,3 +57,32 @@ module _ (list last before : List ℕ) (k q : ℕ) (x : Linked list k last befor
     last_from = λ p h. last_by p h (eqb q p) refl ∙ ap link_of (sym (last_more p));
     before_each = λ i h. before_by i h (eqb i k) refl;
   }
+
+-- steps as they are read
+pub read_none : (list : List ℕ) → StepsRead list 0 (replicate most_steps unread)
+read_none list = record {
+  size = length-replicate {A = OutStep} most_steps unread;
+  label = λ k h. absurd (omega arith);
+  to = λ k h. absurd (omega arith);
+}
+
+pub read_more : (list : List ℕ) (steps : List OutStep) (n : ℕ) (step : OutStep) → StepsRead list n steps → n < most_steps → IsStep list n step
+    → StepsRead list (n + 1) (set steps n step)
+read_more list steps n step x room is =
+    let at = steps_only (length list / 4) list is in
+    let same : get_or (set steps n step) n unread ≡ step = get_or-set_same steps n step unread (rw x.size room) in
+    record {
+      size = length-set steps n step ∙ x.size;
+      label = λ k h. elim (ℕ_discrete k n) [
+        | yes z ↦ rw (z, same) at.label
+        | no z ↦ rw (get_or-set_other steps n k step unread z) (x.label k (omega arith))
+      ];
+      to = λ k h. elim (ℕ_discrete k n) [
+        | yes z ↦ rw (z, same) at.to
+        | no z ↦ rw (get_or-set_other steps n k step unread z) (x.to k (omega arith))
+      ];
+    }
+
+pub read_step : {list : List ℕ} {steps : List OutStep} → StepsRead list (length list / 4) steps → (k : ℕ) → k < length list / 4
+    → IsStep list k (get_or steps k unread)
+read_step {list} x k h = rw (x.label k h, x.to k h) (steps_at (length list / 4) list k h)

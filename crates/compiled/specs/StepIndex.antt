@@ -1,6 +1,10 @@
 -- The steps of a list by the positions that they start from.
-use Rattle.std.specs.Prelude.{ℕ, zero, suc, ◌/◌, ◌<◌, ◌≡◌, cond, List, Option, None, Some, eqb, length, get_or}
+use Rattle.std.specs.Prelude.{ℕ, zero, suc, ◌+◌, ◌*◌, ◌/◌, ◌<◌, ◌≡◌, cond, List, Option, None, Some, eqb, length, get_or}
 use Rattle.limits.specs.Limits.{most_positions, most_steps}
+use Rattle.semantics.specs.CompilingTable.{label_in}
+use Rattle.compile.specs.declared.label.Label.TheVariants.{Free}
+use Rattle.compiled.specs.declared.steps.OutStep.{OutStep}
+use Rattle.compiled.specs.Steps.{label_of}
 use Rattle.compiled.specs.StepList.{start_in, Listed}
 
 -- the last of the first n steps that starts from position p
@@ -28,3 +32,13 @@ pub record Linked (list : List ℕ) (n : ℕ) (last before : List ℕ) : Type 0 
 pub record StepsIndexed (list last before : List ℕ) : Type 0 where
   pub listed : Listed list
   pub linked : Linked list (length list / 4) last before
+
+-- what stands in place of a step that is not read
+abbrev pub unread : OutStep
+unread = record { label = Free; to = 0 }
+
+-- the first n steps, read from the list
+pub record StepsRead (list : List ℕ) (n : ℕ) (steps : List OutStep) : Type 0 where
+  pub size : length steps ≡ most_steps
+  pub label : (k : ℕ) → k < n → label_of (get_or steps k unread) ≡ label_in (get_or list (k * 4) 0) (get_or list (k * 4 + 3) 0)
+  pub to : (k : ℕ) → k < n → (get_or steps k unread).to ≡ get_or list (k * 4 + 2) 0

@@ -3,18 +3,22 @@ ghost use Rattle.std.proofs.Props.{props};
 ghost use Rattle.std.specs.Prelude.{◌≡◌, ◌/◌, ◌<◌, length};
 ghost use Rattle.limits.specs.Limits.{most_positions};
 ghost use Rattle.compiled.specs.StepList.{Listed};
-ghost use Rattle.compiled.specs.StepIndex.{last_step_from, step_before, link_of, StepsIndexed};
+ghost use Rattle.compiled.specs.StepIndex.{last_step_from, step_before, link_of, StepsIndexed, StepsRead};
+ghost use Rattle.compiled.specs.Props.{read_props};
 
 use crate::steps::OutStep;
 use limits::{POSITIONS, STEPS};
 
-// For each position the last step from it, and for each step the one before it from the same
-// position; counted from 1, and 0 for none, so that a link has two bytes. Nothing is allocated.
+// The steps as they are read from the list, so that each is read once. For each position the last
+// step from it, and for each step the one before it from the same position; counted from 1, and 0
+// for none, so that a link has two bytes. Nothing is allocated.
 #[derive(Drop)]
 pub struct StepIndex<'a> {
     pub list: &'a [u16],
+    steps: [OutStep; STEPS],
     last: [u16; POSITIONS],
     before: [u16; STEPS],
+    ghost read: { StepsRead list.now (length list.now / 4) steps } by { Prim.hlevel read_props },
     pub ghost indexed: { StepsIndexed list.now last before } by { Prim.hlevel props },
 }
 
@@ -32,14 +36,21 @@ impl<'a> StepIndex<'a> {
         requires { Listed list.now }
         ensures { result.list.now ≡ list.now }
     {
+        let mut steps = [OutStep::UNREAD; STEPS];
         let mut last = [0u16; POSITIONS];
         let mut before = [0u16; STEPS];
         for k in 0..list.len() / 4 {
+            steps[k] = crate::steps::step_at(list, k);
             let from = crate::steps::start_at(list, k) as usize;
             before[k] = last[from];
             last[from] = (k + 1) as u16;
         }
-        StepIndex { list, last, before }
+        StepIndex {
+            list,
+            steps,
+            last,
+            before,
+        }
     }
 
     // The last step from position p.
@@ -63,6 +74,6 @@ impl<'a> StepIndex<'a> {
         requires { k < length self.now.list.now / 4 }
         ensures { IsStep self.now.list.now k result }
     {
-        crate::steps::step_at(self.list, k)
+        self.steps[k]
     }
 }

@@ -16,6 +16,12 @@ pub struct OutStep {
 }
 
 impl OutStep {
+    // What stands in place of a step that is not read.
+    pub const UNREAD: OutStep = OutStep {
+        label: Label::Free,
+        to: 0,
+    };
+
     // Whether it can be made silently.
     #[tactic(auto, unfolding(semantics::specs::PositionSets::silent_in))]
     pub fn is_silent(&self, world: &World) -> bool

@@ -1,5 +1,5 @@
-use Rattle.compiled.specs.StepIndex.{Linked}
+use Rattle.compiled.specs.StepIndex.{Linked, StepsRead}
 use Rattle.compiled.proofs.index.StepIndex.of.Given as goal
 
 abbrev pub invariant-loop-k : goal.invariant-loop-k
-invariant-loop-k l = Linked l.list l.k l.last l.before
+invariant-loop-k l = Linked l.list l.k l.last l.before × StepsRead l.list l.k l.steps
