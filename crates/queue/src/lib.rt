@@ -1,7 +1,6 @@
 // A queue of states: their keys, and an order that names a state of least key.
 #![tactic(auto)]
 
-mod order;
 pub mod queue;
 
 // The key of a state that is not in the queue.

@@ -30,18 +30,18 @@ use Rattle.search.proofs.SweepLaws.{keeps_more}
 pub record Settling (t₀ t : Table) : Type 0 where
   pub keeps : Keeps t₀ t
   pub runs : Runs (graph_in t₀) t₀.costs.now t.costs.now
-  pub relaxed : Relaxed (graph_in t₀) (Keyed t.queue) t.costs.now
+  pub relaxed : Relaxed (graph_in t₀) (Keyed t.queue.now) t.costs.now
 
 pub settling_start : {t : Table} → Followed t → Settling t t
 settling_start R = record { keeps = record { job = refl; same_reference = refl }; runs = none; relaxed = R }
 
 pub settling_more : {t₀ t t' : Table} → Settling t₀ t → Improved t t' → Keeps t t' → Settling t₀ t'
 settling_more {t₀} {t} {t'} x y keeps =
-    let z = subst (λ (j : CompiledJob). Better (graph_of j) t.costs.now t.queue t'.costs.now t'.queue) x.keeps.job y in
+    let z = subst (λ (j : CompiledJob). Better (graph_of j) t.costs.now t.queue.now t'.costs.now t'.queue.now) x.keeps.job y in
     record { keeps = keeps_more x.keeps keeps; runs = runs_on x.runs z.runs; relaxed = z.relaxed }
 
 pub settling_followed : {t₀ t : Table} → Settling t₀ t → Followed t
-settling_followed {t₀} {t} x = subst (λ (j : CompiledJob). Relaxed (graph_of j) (Keyed t.queue) t.costs.now) (sym x.keeps.job) x.relaxed
+settling_followed {t₀} {t} x = subst (λ (j : CompiledJob). Relaxed (graph_of j) (Keyed t.queue.now) t.costs.now) (sym x.keeps.job) x.relaxed
 
 pub chosen_some : {queue : List ℕ} {o : Option ℕ} {s : ℕ} → Chosen queue o → o ≡ Some s → (s < length queue) × (get_or queue s 0 < unreached)
 chosen_some {queue} {s = s} (due {s = r} h k) e =
@@ -49,7 +49,7 @@ chosen_some {queue} {s = s} (due {s = r} h k) e =
 chosen_some (rest f) e = absurd (cc)
 
 -- no state has a key
-pub settling_end : {t₀ t : Table} → Settling t₀ t → {o : Option ℕ} → Chosen t.queue o → o ≡ None → Exhausted (graph_in t₀) t₀.costs.now t.costs.now
+pub settling_end : {t₀ t : Table} → Settling t₀ t → {o : Option ℕ} → Chosen t.queue.now o → o ≡ None → Exhausted (graph_in t₀) t₀.costs.now t.costs.now
 settling_end x (due h k) e = absurd (cc)
 settling_end {t₀} {t} x (rest f) e = record {
   runs = x.runs;
@@ -97,9 +97,9 @@ module _ (job : CompiledJob) (T : List ℕ) (room : (graph_of job).domain.states
         (omega (arith, done.size)) done.clear x.runs x.relaxed)
 
     -- a table of the job, and the same with its start reached
-    module _ {t₀ t₁ : Table} (same : t₀.job ≡ job) (cells : t₀.costs.now ≡ T₁) (keys : t₀.queue ≡ replicate (graph_of job).domain.states unreached)
+    module _ {t₀ t₁ : Table} (same : t₀.job ≡ job) (cells : t₀.costs.now ≡ T₁) (keys : t₀.queue.now ≡ replicate (graph_of job).domain.states unreached)
         (costs : t₁.costs.now ≡ set t₀.costs.now (cell t₀.job.positions (graph_in t₀).domain.start 0) 0)
-        (queue : Lowered (graph_in t₀).domain.start 0 t₀.queue t₁.queue) (keeps : Keeps t₀ t₁) where
+        (queue : Lowered (graph_in t₀).domain.start 0 t₀.queue.now t₁.queue.now) (keeps : Keeps t₀ t₁) where
       same_job : t₁.job ≡ job
       same_job = keeps.job ∙ same
 
@@ -108,15 +108,15 @@ module _ (job : CompiledJob) (T : List ℕ) (room : (graph_of job).domain.states
           let a = subst (λ (U : List ℕ). t₁.costs.now ≡ set U (cell t₀.job.positions (graph_in t₀).domain.start 0) 0) cells costs in
           subst (λ (j : CompiledJob). t₁.costs.now ≡ set T₁ (cell j.positions (graph_of j).domain.start 0) 0) same a
 
-      low : Lowered (graph_of job).domain.start 0 (replicate (graph_of job).domain.states unreached) t₁.queue
+      low : Lowered (graph_of job).domain.start 0 (replicate (graph_of job).domain.states unreached) t₁.queue.now
       low =
-          let a = subst (λ (j : CompiledJob). Lowered (graph_of j).domain.start 0 t₀.queue t₁.queue) same queue in
-          subst (λ (q : List ℕ). Lowered (graph_of job).domain.start 0 q t₁.queue) keys a
+          let a = subst (λ (j : CompiledJob). Lowered (graph_of j).domain.start 0 t₀.queue.now t₁.queue.now) same queue in
+          subst (λ (q : List ℕ). Lowered (graph_of job).domain.start 0 q t₁.queue.now) keys a
 
       pub table_starts : Followed t₁
       table_starts =
-          let a = subst (λ (U : List ℕ). Relaxed (graph_of job) (Keyed t₁.queue) U) (sym reached) (start_relaxed low) in
-          subst (λ (j : CompiledJob). Relaxed (graph_of j) (Keyed t₁.queue) t₁.costs.now) (sym same_job) a
+          let a = subst (λ (U : List ℕ). Relaxed (graph_of job) (Keyed t₁.queue.now) U) (sym reached) (start_relaxed low) in
+          subst (λ (j : CompiledJob). Relaxed (graph_of j) (Keyed t₁.queue.now) t₁.costs.now) (sym same_job) a
 
       pub table_fills : {U : List ℕ} → Exhausted (graph_in t₁) t₁.costs.now U
           → Filled (graph_of job).domain (steps_of (stored_job job.task)) job.positions T U

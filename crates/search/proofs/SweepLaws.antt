@@ -100,7 +100,7 @@ same_more a b = record { world = b.world ∙ a.world; key = b.key ∙ a.key }
 pub record SweepGoes (t₀ : Table) (s₀ : Sweep) (t : Table) (s : Sweep) (p : ℕ) : Type 0 where
   pub keeps : Keeps t₀ t
   pub same : SameState s₀ s
-  pub sweeping : Sweeping (graph_in t₀) (swept s₀) s₀.key t₀.costs.now t₀.queue t.costs.now t.queue s.marks p
+  pub sweeping : Sweeping (graph_in t₀) (swept s₀) s₀.key t₀.costs.now t₀.queue.now t.costs.now t.queue.now s.marks p
 
 module _ {t₀ t : Table} {s₀ s : Sweep} {p : ℕ} (x : SweepGoes t₀ s₀ t s p) where
   onto : (P : World → ℕ → CompiledJob → Type 0) → P s.explored.world s.key t.job → P s₀.explored.world s₀.key t₀.job
@@ -117,21 +117,21 @@ module _ {t₀ t : Table} {s₀ s : Sweep} {p : ℕ} (x : SweepGoes t₀ s₀ t 
 
   pub sweep_followed : FollowedTo t s p
   sweep_followed =
-      back (λ w k j. Relaxed (graph_of j) (Only t.queue w.state (Processed k p s.marks)) t.costs.now) x.sweeping.relaxed
+      back (λ w k j. Relaxed (graph_of j) (Only t.queue.now w.state (Processed k p s.marks)) t.costs.now) x.sweeping.relaxed
 
   pub sweep_goes_on : {t' : Table} {s' : Sweep} {r : ℕ} → Scans t s p t' s' r → SameState s s' → Keeps t t' → SweepGoes t₀ s₀ t' s' r
   sweep_goes_on {t'} {s'} {r} scans same keeps = record {
     keeps = keeps_more x.keeps keeps;
     same = same_more x.same same;
     sweeping = sweeping_more x.sweeping
-        (onto (λ w k j. Scanned (graph_of j) w.state k p t.costs.now t.queue t'.costs.now t'.queue s'.marks r) scans);
+        (onto (λ w k j. Scanned (graph_of j) w.state k p t.costs.now t.queue.now t'.costs.now t'.queue.now s'.marks r) scans);
   }
 
 -- the same while the steps from position p are followed
 pub record ScanGoes (t₀ : Table) (s₀ : Sweep) (t : Table) (s : Sweep) (x p next : ℕ) (left : Option ℕ) : Type 0 where
   pub keeps : Keeps t₀ t
   pub same : SameState s₀ s
-  pub scanning : Scanning t₀.job (swept s₀) s₀.key x p t₀.costs.now t₀.queue t.costs.now t.queue s.marks next left
+  pub scanning : Scanning t₀.job (swept s₀) s₀.key x p t₀.costs.now t₀.queue.now t.costs.now t.queue.now s.marks next left
 
 module _ {t₀ t : Table} {s₀ s : Sweep} {x p next : ℕ} {left : Option ℕ} (X : ScanGoes t₀ s₀ t s x p next left) {j : ℕ} (on : left ≡ Some j)
     (step : OutStep) (is : IsStep t.job.list.now j step) {t' : Table} (keeps : Keeps t t') {then : Option ℕ}
@@ -148,9 +148,9 @@ module _ {t₀ t : Table} {s₀ s : Sweep} {x p next : ℕ} {left : Option ℕ} 
   pub scan_goes_on : swept s₀ < (graph_in t₀).domain.states → p < t₀.job.positions → {s' : Sweep} {r : ℕ} → Steps t s x step next t' s' r
       → SameState s s' → ScanGoes t₀ s₀ t' s' x p r then
   scan_goes_on inside-w inside-p {s'} {r} steps same =
-      let a = subst (λ (w : World). Stepped (graph_of t.job) w.state x step next t.costs.now t.queue s.marks t'.costs.now t'.queue s'.marks r)
+      let a = subst (λ (w : World). Stepped (graph_of t.job) w.state x step next t.costs.now t.queue.now s.marks t'.costs.now t'.queue.now s'.marks r)
       X.same.world steps in
-      let b = subst (λ (k : CompiledJob). Stepped (graph_of k) (swept s₀) x step next t.costs.now t.queue s.marks t'.costs.now t'.queue s'.marks r)
+      let b = subst (λ (k : CompiledJob). Stepped (graph_of k) (swept s₀) x step next t.costs.now t.queue.now s.marks t'.costs.now t'.queue.now s'.marks r)
       X.keeps.job a in
       record {
         keeps = keeps_more X.keeps keeps;

@@ -19,14 +19,14 @@ pub record SameState (old new : Sweep) : Type 0 where
   pub key : new.key ≡ old.key
 
 abbrev pub Relaxes : Table → Sweep → ℕ → Arrival → ℕ → Table → Sweep → ℕ → Type 0
-Relaxes t s x target next t' s' r = Relaxing (graph_in t) (swept s) x target next t.costs.now t.queue s.marks t'.costs.now t'.queue s'.marks r
+Relaxes t s x target next t' s' r = Relaxing (graph_in t) (swept s) x target next t.costs.now t.queue.now s.marks t'.costs.now t'.queue.now s'.marks r
 
 abbrev pub Steps : Table → Sweep → ℕ → OutStep → ℕ → Table → Sweep → ℕ → Type 0
-Steps t s x step next t' s' r = Stepped (graph_in t) (swept s) x step next t.costs.now t.queue s.marks t'.costs.now t'.queue s'.marks r
+Steps t s x step next t' s' r = Stepped (graph_in t) (swept s) x step next t.costs.now t.queue.now s.marks t'.costs.now t'.queue.now s'.marks r
 
 abbrev pub Scans : Table → Sweep → ℕ → Table → Sweep → ℕ → Type 0
-Scans t s p t' s' r = Scanned (graph_in t) (swept s) s.key p t.costs.now t.queue t'.costs.now t'.queue s'.marks r
+Scans t s p t' s' r = Scanned (graph_in t) (swept s) s.key p t.costs.now t.queue.now t'.costs.now t'.queue.now s'.marks r
 
 -- the steps are followed from the cells before position p
 abbrev pub FollowedTo : Table → Sweep → ℕ → Type 0
-FollowedTo t s p = Relaxed (graph_in t) (Only t.queue (swept s) (Processed s.key p s.marks)) t.costs.now
+FollowedTo t s p = Relaxed (graph_in t) (Only t.queue.now (swept s) (Processed s.key p s.marks)) t.costs.now

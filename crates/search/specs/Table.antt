@@ -16,7 +16,7 @@ pub record Keeps (old new : Table) : Type 0 where
 
 -- the steps are followed from all cells with an entry below their state's key
 abbrev pub Followed : Table → Type 0
-Followed t = Relaxed (graph_in t) (Keyed t.queue) t.costs.now
+Followed t = Relaxed (graph_in t) (Keyed t.queue.now) t.costs.now
 
 abbrev pub Improved : Table → Table → Type 0
-Improved t t' = Better (graph_in t) t.costs.now t.queue t'.costs.now t'.queue
+Improved t t' = Better (graph_in t) t.costs.now t.queue.now t'.costs.now t'.queue.now

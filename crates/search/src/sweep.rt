@@ -101,7 +101,7 @@ impl<'a> Sweep<'a> {
 // those that fall meanwhile. Its key is taken back.
 pub(crate) fn sweep_state(table: &mut Table, state: usize)
     requires inside { state < (graph_in table.old).domain.states }
-    requires due { get_or table.old.queue state 0 < unreached }
+    requires due { get_or table.old.queue.now state 0 < unreached }
     requires followed { Followed table.old }
     ensures improved { Improved table.old table.new }
     ensures keeps { Keeps table.old table.new }

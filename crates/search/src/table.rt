@@ -1,11 +1,10 @@
 // The cost table of a compiled job while it is filled.
-ghost use Rattle.std.specs.Prelude.{◌≡◌, ◌*◌, ◌/◌, ◌≤◌, ◌<◌, length, replicate, set};
+ghost use Rattle.std.specs.Prelude.{◌≡◌, ◌*◌, ◌/◌, ◌≤◌, ◌<◌, length, set};
 ghost use Rattle.limits.specs.Limits.{most_positions};
 ghost use Rattle.domain.specs.Domain.{domain_at};
 ghost use Rattle.compiled.specs.Steps.{IsStep};
 ghost use Rattle.compiled.specs.StepIndex.{last_step_from, step_before};
 ghost use Rattle.queue.specs.Queue.{Lowered};
-ghost use Rattle.semantics.specs.CostTable.{unreached};
 ghost use Rattle.semantics.specs.Cells.{cell as cell_of};
 
 use compiled::CompiledJob;
@@ -15,39 +14,39 @@ use queue::queue::Queue;
 
 // A cell for each state and position, the keys of the states, and the steps between the cells.
 #[derive(Drop)]
-pub(crate) struct Table<'j, 'c> {
+pub(crate) struct Table<'j, 'c, 'q, 'k> {
     pub job: CompiledJob<'j>,
     pub index: StepIndex<'j>,
     pub costs: &'c mut [u64],
-    pub queue: Queue,
+    pub queue: &'q mut Queue<'k>,
     pub ghost indexed: { index.list.now ≡ job.list.now },
     pub ghost cells: { (domain_at job.task).states * job.positions ≤ length costs.now },
-    pub ghost keys: { length queue ≡ (domain_at job.task).states },
+    pub ghost keys: { length queue.now ≡ (domain_at job.task).states },
 }
 
-impl<'j, 'c> Table<'j, 'c> {
+impl<'j, 'c, 'q, 'k> Table<'j, 'c, 'q, 'k> {
     ghost use Rattle.search.specs.Table.{Keeps};
 
-    pub fn of(costs: &'c mut [u64], job: CompiledJob<'j>) -> Table<'j, 'c>
-        requires { (domain_at job.task).states * job.positions ≤ length costs.old }
+    pub fn of(costs: &'c mut [u64], queue: &'q mut Queue<'k>, job: CompiledJob<'j>) -> Table<'j, 'c, 'q, 'k>
+        requires keys { length queue.old ≡ (domain_at job.task).states }
+        requires cells { (domain_at job.task).states * job.positions ≤ length costs.old }
         ensures job { result.job ≡ job.entry }
         ensures costs { result.costs.now ≡ costs.old }
         ensures same_reference { result.costs.ghost_name ≡ costs.entry.ghost_name }
-        ensures queue { result.queue ≡ replicate (domain_at job.entry.task).states unreached }
+        ensures queue { result.queue.now ≡ queue.old }
     {
-        let states = domain::states::state_count(&job.task) as usize;
         Table {
             job,
             index: StepIndex::of(job.list),
             costs,
-            queue: Queue::new(states),
+            queue,
         }
     }
 
     // Reaches the first position in the start at no cost.
     pub fn start(&mut self)
         ensures costs { self.new.costs.now ≡ set self.old.costs.now (cell_of self.old.job.positions (domain_at self.old.job.task).start 0) 0 }
-        ensures queue { Lowered (domain_at self.old.job.task).start 0 self.old.queue self.new.queue }
+        ensures queue { Lowered (domain_at self.old.job.task).start 0 self.old.queue.now self.new.queue.now }
         ensures keeps { Keeps self.old self.new }
     {
         let task = self.job.task;

@@ -1,19 +1,6 @@
-use Rattle.std.proofs.Common.{sym, ◌∙◌, rules}
-use Rattle.search.proofs.FillLaws.{table_starts, table_fills, filled_as}
+use Rattle.std.proofs.Common.{arith}
+use Rattle.domain.proofs.DomainLaws.{states_few}
 use Rattle.search.proofs.fill.fill.Goals as goal
 
-pub settle-requires : goal.settle-requires
-settle-requires c =
-    let t = c.of-table.ensures in
-    let s = c.start.ensures in
-    table_starts c.args.job.now c.args.costs.now c.requires (rw c.state_count-states.ensures at c.clear.ensures) t.job t.costs t.queue s.costs s.queue s.keeps
-
-pub returns : goal.returns
-returns c =
-    let t = c.of-table.ensures in
-    let s = c.start.ensures in
-    let x = c.settle.ensures in
-    let filled = table_fills c.args.job.now c.args.costs.now c.requires (rw c.state_count-states.ensures at c.clear.ensures) t.job t.costs t.queue s.costs
-    s.queue s.keeps x.exhausted in
-    let same = sym (x.keeps.same_reference ∙ s.keeps.same_reference ∙ t.same_reference) in
-    filled_as filled _ (search (rules, same))
+pub of-queue-requires-clause-few : goal.of-queue-requires-clause-few
+of-queue-requires-clause-few c = omega (arith, c.state_count-states.ensures, states_few c.args.job.now.task.stored)

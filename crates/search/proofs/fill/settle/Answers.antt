@@ -17,7 +17,9 @@ sweep_state-requires-clause-followed c = settling_followed c.loop-state.invarian
 
 pub loop-state-preserved : goal.loop-state-preserved
 loop-state-preserved c =
-    settling_more c.loop-state.invariant c.sweep_state.ensures.improved c.sweep_state.ensures.keeps
+    let x = c.sweep_state.ensures in
+    settling_more {t' = c.sweep_state.new.table} c.loop-state.invariant x.improved
+    (record { job = x.keeps.job; same_reference = x.keeps.same_reference })
 
 pub returns-clause-exhausted : goal.returns-clause-exhausted
 returns-clause-exhausted c =

@@ -7,4 +7,4 @@ abbrev pub invariant-loop-state : goal.invariant-loop-state
 invariant-loop-state l = Settling l.initial.table l.table
 
 abbrev pub decreases-loop-state : goal.decreases-loop-state
-decreases-loop-state l = potential (graph_in l.initial.table).domain.states l.table.costs.now l.table.queue
+decreases-loop-state l = potential (graph_in l.initial.table).domain.states l.table.costs.now l.table.queue.now

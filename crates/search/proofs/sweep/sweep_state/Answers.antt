@@ -9,7 +9,7 @@ loop-p-init c =
     record {
       keeps = record { job = refl; same_reference = refl };
       same = record { world = refl; key = refl };
-      sweeping = sweep_begins t.queue c.at.ensures.1 c.take.ensures.key c.take.ensures.taken (omega (arith, c.requires.inside, t.keys)) c.requires.followed;
+      sweeping = sweep_begins t.queue.now c.at.ensures.1 c.take.ensures.key c.take.ensures.taken (omega (arith, c.requires.inside, t.keys)) c.requires.followed;
     }
 
 pub scan-p-requires-clause-followed : goal.scan-p-requires-clause-followed
@@ -22,5 +22,5 @@ loop-p-preserved c =
 pub returns-clause-improved : goal.returns-clause-improved
 returns-clause-improved c =
     let t = c.args.table.now in
-    sweep_ends t.queue c.at.ensures.1 c.take.ensures.key c.take.ensures.taken (omega (arith, c.requires.inside, t.keys)) (graph_closed t.job)
+    sweep_ends t.queue.now c.at.ensures.1 c.take.ensures.key c.take.ensures.taken (omega (arith, c.requires.inside, t.keys)) (graph_closed t.job)
     c.requires.inside c.requires.due c.loop-p.invariant.sweeping c.loop-p-test.false

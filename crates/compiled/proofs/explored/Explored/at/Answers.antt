@@ -1,4 +1,4 @@
-use Rattle.std.proofs.Common.{arith, ap, ◌≡◌}
+use Rattle.std.proofs.Common.{arith, ap}
 use Rattle.job.specs.declared.task.Task.{Task}
 use Rattle.domain.specs.Domain.{domain_at}
 use Rattle.compiled.proofs.ExploredLaws.{keeps_none}

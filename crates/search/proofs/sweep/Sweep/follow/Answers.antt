@@ -29,5 +29,5 @@ returns-clause-steps c =
     let t = c.args.table.now in
     let after = c.relax.new in
     leads c.in-Some.target (rw c.in-Some.is at led)
-    (subst (λ (w : World). Relaxing (graph_in t) w.state c.args.x c.in-Some.target c.args.next t.costs.now t.queue s.marks
-    after.table.costs.now after.table.queue after.self.marks c.relax.result) c.arrive.ensures.world c.relax.ensures.relaxes)
+    (subst (λ (w : World). Relaxing (graph_in t) w.state c.args.x c.in-Some.target c.args.next t.costs.now t.queue.now s.marks
+    after.table.costs.now after.table.queue.now after.self.marks c.relax.result) c.arrive.ensures.world c.relax.ensures.relaxes)
