@@ -27,7 +27,11 @@ pub(crate) struct Table<'j, 'c, 'q, 'k> {
 impl<'j, 'c, 'q, 'k> Table<'j, 'c, 'q, 'k> {
     ghost use Rattle.search.specs.Table.{Keeps};
 
-    pub fn of(costs: &'c mut [u64], queue: &'q mut Queue<'k>, job: CompiledJob<'j>) -> Table<'j, 'c, 'q, 'k>
+    pub fn of(
+        costs: &'c mut [u64],
+        queue: &'q mut Queue<'k>,
+        job: CompiledJob<'j>,
+    ) -> Table<'j, 'c, 'q, 'k>
         requires keys { length queue.old ≡ (domain_at job.task).states }
         requires cells { (domain_at job.task).states * job.positions ≤ length costs.old }
         ensures job { result.job ≡ job.entry }
