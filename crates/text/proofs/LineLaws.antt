@@ -1,6 +1,6 @@
 -- Laws of the lines of a text and of a line's key.
 -- Assumes nothing.
-use Rattle.std.proofs.Common.{◌≡◌, ℕ, zero, suc, ◌+◌, ◌-◌, ◌≤◌, ◌<◌, min, Bool, true, false, cond, ◌&&◌, Option, Some, None, MatchOption, unwrap_or, Bor, List, [], ◌∷◌, length, get_or, take, drop, refl, sym, ◌∙◌, ap, arith}
+use Rattle.std.proofs.Common.{◌≡◌, ℕ, zero, suc, ◌+◌, ◌-◌, ◌≤◌, ◌<◌, min, Bool, true, false, cond, ◌&&◌, Some, None, List, [], ◌∷◌, length, get_or, take, drop, refl, sym, ◌∙◌, ap, arith}
 use mathlib.Core.List.{flatten}
 use native.Mathlib.Nat.{not-suc-le-zero}
 use lib.Dec.{eqb, ltb}
@@ -11,7 +11,7 @@ use Rattle.std.proofs.lemmas.Bool.{ltb-false}
 use Rattle.std.specs.List.{position, position_or_len}
 use Rattle.std.specs.Cmp.Lexicographic.{pointwise}
 use Rattle.laws.proofs.Tests.{cond_some}
-use Rattle.text.specs.Lines.{line_length, lines, onto, has_key, value_of}
+use Rattle.text.specs.Lines.{line_length, lines, onto, has_key}
 
 -- the first line ends with the first line feed, or with the text
 length_by : (b : ℕ) (t : List ℕ) (z : Bool) → eqb b 10 ≡ z → line_length t ≡ min (position_or_len (λ x. eqb x 10) t + 1) (length t)
@@ -60,19 +60,31 @@ key_is [] (b ∷ l) = both_true (eqb b 61)
 key_is (k ∷ ks) [] = refl
 key_is (k ∷ ks) (b ∷ l) = key_by (eqb b k) (has_key ks l) _ _ (key_is ks l)
 
--- what follows a key, and then an equals sign
-pub stripped : (k l rest : List ℕ) (r : Option (Bor (List ℕ))) → pointwise eqb (take (length k) l) k ≡ true → rest ≡ drop (length k) l
-    → MatchOption r (pointwise eqb (take 1 rest) (61 ∷ []) ≡ false)
-    (λ x. (pointwise eqb (take 1 rest) (61 ∷ []) ≡ true) × (x.now ≡ drop 1 rest) × (length x.now + 1 ≡ length rest))
-    → MatchOption r (has_key k l ≡ false) (λ x. (has_key k l ≡ true) × (x.now ≡ drop (length k + 1) l))
-stripped k l rest None h e g = key_is k l ∙ rw (h, ← e) g
-stripped k l rest (Some x) h e g = (key_is k l ∙ rw (h, ← e) g.0, g.1 ∙ rw e (drop-drop 1 (length k) l))
+-- what follows a key begins with the equals sign, or the line doesn't have the key
+pub stripped : (k l rest : List ℕ) → pointwise eqb (take (length k) l) k ≡ true → rest ≡ drop (length k) l
+    → has_key k l ≡ pointwise eqb (take 1 rest) (61 ∷ [])
+stripped k l rest h e = key_is k l ∙ rw (h, ← e) refl
 
-pub value_is : (k l : List ℕ) (r : Option (Bor (List ℕ))) (none : Bor (List ℕ)) → none.now ≡ []
-    → MatchOption r (has_key k l ≡ false) (λ x. (has_key k l ≡ true) × (x.now ≡ drop (length k + 1) l)) → (unwrap_or r none).now ≡ value_of k l
-unfolding value_of
-value_is k l None none e g = rw g e
-value_is k l (Some x) none e g = rw g.0 g.1
+pub equals_first : (rest : List ℕ) → 1 ≤ length rest → eqb (get_or rest 0 0) 61 ≡ pointwise eqb (take 1 rest) (61 ∷ [])
+equals_first [] h = absurd (not-suc-le-zero h)
+equals_first (b ∷ t) h = both_true (eqb b 61)
+
+pub equals_none : (rest : List ℕ) → length rest < 1 → false ≡ pointwise eqb (take 1 rest) (61 ∷ [])
+equals_none [] h = refl
+equals_none (b ∷ t) h = absurd (omega (arith, h))
+
+key_step : (k : ℕ) (ks l : List ℕ) (b : ℕ) (same : Bool) → cond same (has_key ks l) false ≡ true → (has_key ks l ≡ true → length ks + 1 ≤ length l)
+    → length ks + 1 ≤ length l
+key_step k ks l b true e f = f e
+key_step k ks l b false e f = let z : ◌≡◌ {A = ℕ} 0 1 = cc in absurd (omega arith)
+
+-- a line that has a key is long enough for it
+pub key_within : (k l : List ℕ) → has_key k l ≡ true → length k + 1 ≤ length l
+unfolding has_key
+key_within [] [] e = let z : ◌≡◌ {A = ℕ} 0 1 = cc in absurd (omega arith)
+key_within [] (b ∷ l) e = omega arith
+key_within (k ∷ ks) [] e = let z : ◌≡◌ {A = ℕ} 0 1 = cc in absurd (omega arith)
+key_within (k ∷ ks) (b ∷ l) e = omega (arith, key_step k ks l b (eqb b k) e (key_within ks l))
 
 -- one step of `lines` and of `line_length`, by the test
 line_step : (b : ℕ) (t : List ℕ) (z : Bool) → eqb b 10 ≡ z → onto b (lines t) ≡ (b ∷ take (line_length t) t) ∷ lines (drop (line_length t) t)

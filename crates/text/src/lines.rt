@@ -1,5 +1,5 @@
 // Lines of a text, a line's key, and the value after it.
-ghost use Rattle.std.specs.Prelude.{◌≡◌, ◌+◌, ◌≤◌, ◌==◌, true, false, drop, length, position, MatchOption};
+ghost use Rattle.std.specs.Prelude.{◌≡◌, ◌+◌, ◌≤◌, ◌==◌, drop, length, position};
 ghost use Rattle.text.specs.Lines.{line_length, has_key, value_of};
 
 // How many bytes stand before a text's first line feed.
@@ -30,24 +30,25 @@ pub fn line_end(text: &[u8], at: usize) -> usize
     }
 }
 
-// What follows `key=`, as a part of the caller's line; the key is compared byte for byte.
-fn after_key<'a>(line: &'a [u8], key: &[u8]) -> Option<&'a [u8]>
-    ensures { MatchOption result (has_key key.now line.now ≡ false)
-        (λ value. (has_key key.now line.now ≡ true) × (value.now ≡ drop (length key.now + 1) line.now)) }
-{
-    line.strip_prefix(key)?.strip_prefix(b"=")
-}
-
-// Whether a line begins with a key and an equals sign.
+// Whether a line begins with a key and an equals sign; the key is compared byte for byte.
 pub fn has_key(line: &[u8], key: &[u8]) -> bool
     ensures { result ≡ has_key key.now line.now }
 {
-    after_key(line, key).is_some()
+    let Some(rest) = line.strip_prefix(key) else {
+        return false;
+    };
+    match rest {
+        [b, ..] => *b == b'=',
+        [] => false,
+    }
 }
 
 // The value after `key=`, as a part of the caller's line; nothing where the line doesn't begin so.
 pub fn value<'a, 'k>(line: &'a [u8], key: &'k [u8]) -> &'a [u8]
     ensures { result.now ≡ value_of key.now line.now }
 {
-    after_key(line, key).unwrap_or(&[])
+    if !has_key(line, key) {
+        return &[];
+    }
+    &line[key.len() + 1..]
 }
