@@ -1,7 +1,7 @@
 -- What a move costs: its class, and where its formula holds the second one too; at most what two classes
 -- may cost.
 -- Assumes nothing.
-use Rattle.std.proofs.Common.{ℕ, ◌+◌, ◌≤◌, ◌≡◌, true, false, List, arith}
+use Rattle.std.proofs.Common.{ℕ, ◌+◌, ◌≤◌, ◌≡◌, Bool, true, false, cond, List, sym, ap, ◌∙◌, arith}
 use Rattle.laws.proofs.Tests.{cond_has}
 use Rattle.limits.specs.Limits.{most_cost}
 use Rattle.job.specs.Job.{Move, move_at}
@@ -15,13 +15,18 @@ use Rattle.domain.specs.Domain.{holds_in, cost_in, domain_in}
 -- by the move's classes, whether or not the formula of the second holds
 module _ (a : Task) (m w : ℕ) {x : Move} (is : x ≡ move_at a.job m) {own second : ℕ} (own_is : own ≡ class_cost a.costs x.class)
     (second_is : second ≡ class_cost a.costs x.second) where
-  pub cost_both : holds_in a.job x.when w ≡ true → own + second ≡ cost_in a m w
+  pub cost_told : own + cond (holds_in a.job x.when w) second 0 ≡ cost_in a m w
   unfolding cost_in
-  cost_both e = rw (← is, e, own_is, second_is)
+  cost_told = rw (← is, own_is, second_is)
+
+  cost_by : (on : Bool) → holds_in a.job x.when w ≡ on → own + cond on second 0 ≡ cost_in a m w
+  cost_by on e = ap (λ b. own + cond b second 0) (sym e) ∙ cost_told
+
+  pub cost_both : holds_in a.job x.when w ≡ true → own + second ≡ cost_in a m w
+  cost_both e = cost_by true e
 
   pub cost_first : holds_in a.job x.when w ≡ false → own ≡ cost_in a m w
-  unfolding cost_in
-  cost_first e = rw (← is, e, own_is) (omega arith)
+  cost_first e = omega (arith, cost_by false e)
 
   pub cost_plain : second ≡ 0 → own ≡ cost_in a m w
   unfolding cost_in

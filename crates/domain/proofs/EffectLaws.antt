@@ -59,6 +59,19 @@ module _ (n : ℕ) (vs : List Bool) (es : List Effect) (first : ℕ) where
           → y ≡ cond (on && eqb e.value 1) (2 ^ e.fact) 0 → ChangesAre n vs (up_to (k + 1)) (bit_or c x) (bit_or s y)
       changed_more c s x y g f d = record { cleared = facts_more 0 c x g.cleared f; set = facts_more 1 s y g.set d }
 
+-- by values that tell the same, effects change the same facts
+module _ (vs us : List Bool) (same : (a : ℕ) → get_or vs a false ≡ get_or us a false) where
+  pub gets_same : (es : List Effect) (v i : ℕ) → gets vs es v i ≡ gets us es v i
+  unfolding gets gives
+  gets_same [] v i = refl
+  gets_same (e ∷ es) v i = rw (same e.cond, gets_same es v i) refl
+
+  has_same : (n : ℕ) (es : List Effect) (v : ℕ) {x : ℕ} → HasFacts n (gets vs es v) x → HasFacts n (gets us es v) x
+  has_same n es v x = record { below = x.below; facts = λ i. x.facts i ∙ gets_same es v i }
+
+  pub changes_same : (n : ℕ) (es : List Effect) {c s : ℕ} → ChangesAre n vs es c s → ChangesAre n us es c s
+  changes_same n es x = record { cleared = has_same n es 0 x.cleared; set = has_same n es 1 x.set }
+
 -- the set of facts that are cleared, and that of those that are set
 module _ (vs : List Bool) (es : List Effect) (n : ℕ) {c s : ℕ} (g : ChangesAre n vs es c s) where
   common : (i : ℕ) → fact (bit_and c s) i ≡ gets vs es 0 i && gets vs es 1 i

@@ -1,6 +1,6 @@
 -- A successor as the code makes it, from its move and the facts that the move clears and sets.
 -- Assumes nothing.
-use Rattle.std.proofs.Common.{ℕ, ◌≡◌, ◌≤◌, ◌<◌, true, false, not, ◌&&◌, None, Some, bit_and, bit_or, length, get_or, ltb, ap}
+use Rattle.std.proofs.Common.{ℕ, ◌≡◌, ◌≤◌, ◌<◌, Bool, true, false, not, List, ◌&&◌, None, Some, bit_and, bit_or, length, get_or, ltb, ap}
 use borrow.Author.Tests.{lt-ltb, le-ltb}
 use Rattle.std.specs.Int.{w16, bit_not}
 use Rattle.limits.specs.Limits.{most_facts}
@@ -12,7 +12,7 @@ use Rattle.job.proofs.StoredLaws.{move_count, move_effects}
 use Rattle.domain.specs.State.{values}
 use Rattle.domain.specs.Effects.{conflicts, affected, ChangesAre}
 use Rattle.domain.specs.Domain.{effects_of, holds_in, successor_of, domain_of}
-use Rattle.domain.proofs.EffectLaws.{no_conflict, some_conflict, affected_by}
+use Rattle.domain.proofs.EffectLaws.{changes_same, no_conflict, some_conflict, affected_by}
 
 module _ (j : Job) (m w : ℕ) (g : m < length j.moves) {x : Move} (e : x ≡ move_at j m) where
   is_move_lem : ltb m (length j.moves) ≡ true
@@ -22,8 +22,13 @@ module _ (j : Job) (m w : ℕ) (g : m < length j.moves) {x : Move} (e : x ≡ mo
   unfolding successor_of holds_in
   successor_none p = rw (is_move_lem, ← e, p)
 
-  -- the set of facts that are cleared, and that of those that are set
-  module _ (p : holds_in j x.pre w ≡ true) {c s : ℕ} (h : ChangesAre j.scalars.facts (values w j.formulas) (effects_of j x) c s) where
+  -- the set of facts that are cleared, and that of those that are set, by values that tell the formulas'
+  module _ (p : holds_in j x.pre w ≡ true) {vs : List Bool} (told : (a : ℕ) → get_or vs a false ≡ holds_in j a w)
+      {c s : ℕ} (g₀ : ChangesAre j.scalars.facts vs (effects_of j x) c s) where
+    h : ChangesAre j.scalars.facts (values w j.formulas) (effects_of j x) c s
+    unfolding holds_in
+    h = changes_same vs (values w j.formulas) told j.scalars.facts (effects_of j x) g₀
+
     pub successor_conflict : (bit_and c s ≡ 0 → ⊥) → None ≡ successor_of j m w
     unfolding successor_of holds_in
     successor_conflict common = rw (is_move_lem, ← e, p, some_conflict (values w j.formulas) (effects_of j x) j.scalars.facts h common)

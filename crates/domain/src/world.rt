@@ -60,7 +60,7 @@ impl<'t> World<'t> {
         if !self.holds(made.pre) {
             return None;
         }
-        let Changes { cleared, set } = changes_of(self, made);
+        let Changes { cleared, set } = changes_of(&self.task, &self.values, made);
         if cleared & set != 0 {
             return None;
         }
