@@ -99,10 +99,10 @@ unfolding read_list
 list_told title key r text es e = subst (λ t. IsListText title key r t es) (flatten_lines text) (told title key r es (lines text) e)
 
 -- as many numbers as there may be
-pub list_few : (title key : List ℕ) (r : Ranges) (text : List ℕ) (a : Result (ArrayVec ℕ) ℕ) → listed_as a ≡ read_list title key r text
-    → IfOk a (λ list. array_vec_len list ≤ r.most)
-list_few title key r text (Ok list) e = (list_told title key r text list.items (sym e)).few
-list_few title key r text (Err line) e = tt
+pub list_few : (title key : List ℕ) (r : Ranges) (text : List ℕ) (a : Result (Unit {0}) ℕ) (list : ArrayVec ℕ) → listed_as a list ≡ read_list title key r text
+    → IfOk a (λ read. array_vec_len list ≤ r.most)
+list_few title key r text (Ok read) list e = (list_told title key r text list.items (sym e)).few
+list_few title key r text (Err line) list e = tt
 
 -- both bounds of a plan are one
 pub plan_bound : (bound i : ℕ) → bound_at (plan_ranges bound) i ≡ bound

@@ -3,6 +3,7 @@ ghost use Rattle.std.specs.Prelude.{◌≡◌};
 ghost use Rattle.lists.specs.CostsText.{read_costs};
 
 use crate::counted::{Ranges, read_list};
+use arrayvec::ArrayVec;
 use limits::CLASSES;
 
 // What classes may cost: "Class 0 must cost 0."
@@ -17,6 +18,7 @@ const RANGES: Ranges = Ranges {
 pub fn read_costs(text: &[u8]) -> Result<[u16; CLASSES], usize>
     ensures { result ≡ read_costs text.now }
 {
-    let costs = read_list::<CLASSES>(text, b"costs", b"c", RANGES)?;
+    let mut costs = ArrayVec::<u16, CLASSES>::new();
+    read_list(text, b"costs", b"c", RANGES, &mut costs)?;
     Ok(costs.into_inner().unwrap())
 }

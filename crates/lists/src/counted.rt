@@ -45,20 +45,21 @@ fn read_count(line: &[u8], title: &[u8], ranges: Ranges) -> Option<u16>
     (ranges.least <= count).then_some(count)
 }
 
-// The lines from a place on, after the first line, which says how many there are. A missing line is
-// read as an empty one, which has no number.
+// The numbers of the lines from a place on, after the first line, which says how many there are, in
+// place of what the list held. A missing line is read as an empty one, which has no number.
 fn read_entries<const N: usize>(
     text: &[u8],
     start: usize,
     key: &[u8],
     ranges: Ranges,
     count: usize,
-) -> Result<ArrayVec<u16, N>, usize>
+    list: &mut ArrayVec<u16, N>,
+) -> Result<(), usize>
     requires room { count ≤ N }
     requires within { start ≤ length text.now }
-    ensures { listed_as result ≡ read_entries key.now (bound_at ranges) [] count (lines (drop start text.now)) }
+    ensures { listed_as result list.new ≡ read_entries key.now (bound_at ranges) [] count (lines (drop start text.now)) }
 {
-    let mut list = ArrayVec::new();
+    list.clear();
     let mut at = start;
     for n in 0..count {
         let end = text::lines::line_end(text, at);
@@ -70,21 +71,23 @@ fn read_entries<const N: usize>(
     if at < text.len() {
         return Err(count + 2);
     }
-    Ok(list)
+    Ok(())
 }
 
-// Reads any bytes as a list; or answers at which line its text is refused.
+// Reads any bytes as a list, in place of what the list held; or answers at which line its text is
+// refused. On a refusal nothing is said of the numbers.
 pub fn read_list<const N: usize>(
     text: &[u8],
     title: &[u8],
     key: &[u8],
     ranges: Ranges,
-) -> Result<ArrayVec<u16, N>, usize>
+    list: &mut ArrayVec<u16, N>,
+) -> Result<(), usize>
     requires { ranges.most ≤ N }
-    ensures is { listed_as result ≡ read_list title.now key.now ranges text.now }
-    ensures few { IfOk result (λ list. array_vec_len list ≤ ranges.most) }
+    ensures is { listed_as result list.new ≡ read_list title.now key.now ranges text.now }
+    ensures few { IfOk result (λ _. array_vec_len list.new ≤ ranges.most) }
 {
     let end = text::lines::line_end(text, 0);
     let count = read_count(&text[..end], title, ranges).ok_or(1usize)?;
-    read_entries(text, end, key, ranges, usize::from(count))
+    read_entries(text, end, key, ranges, usize::from(count), list)
 }

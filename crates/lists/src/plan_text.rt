@@ -9,11 +9,17 @@ use crate::counted::{Ranges, read_list};
 use arrayvec::ArrayVec;
 use limits::ENTRIES;
 
-// Reads any bytes as a plan text whose entries come under this key and are below the bound; or
-// answers at which line it is refused.
-pub fn read_plan(text: &[u8], key: &[u8], bound: u16) -> Result<ArrayVec<u16, ENTRIES>, usize>
-    ensures is { listed_as result ≡ read_plan key.now bound text.now }
-    ensures few { IfOk result (λ entries. array_vec_len entries ≤ most_entries) }
+// Reads any bytes as a plan text whose entries come under this key and are below the bound, in place
+// of what the entries held; or answers at which line it is refused. On a refusal nothing is said of
+// the entries.
+pub fn read_plan(
+    text: &[u8],
+    key: &[u8],
+    bound: u16,
+    entries: &mut ArrayVec<u16, ENTRIES>,
+) -> Result<(), usize>
+    ensures is { listed_as result entries.new ≡ read_plan key.now bound text.now }
+    ensures few { IfOk result (λ _. array_vec_len entries.new ≤ most_entries) }
 {
     let ranges = Ranges {
         least: 0,
@@ -21,5 +27,5 @@ pub fn read_plan(text: &[u8], key: &[u8], bound: u16) -> Result<ArrayVec<u16, EN
         first: u32::from(bound),
         rest: u32::from(bound),
     };
-    read_list(text, b"plan", key, ranges)
+    read_list(text, b"plan", key, ranges, entries)
 }

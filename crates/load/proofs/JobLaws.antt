@@ -65,6 +65,10 @@ module _ (text rows : List ℕ) (n : ℕ) (h : Head) (e : R.read n (job_of h row
   load_told =
       ap (λ (j : Job). compilable (R.read n j)) (ap (job_of h) put ∙ job_kept rows house_costs refl size h right) ∙ ap compilable (sym reads_before)
 
+-- one with a variable that has too few picks around it
+pub unscoped : (n : ℕ) (j : Job) → program_scoped j ≡ false → refused 8 n ≡ compilable (R.read n j)
+unscoped n j v = rw v refl
+
 -- a job that was read from n lines
 module _ (n : ℕ) (j : Job) (v : program_scoped j ≡ true) (s : Sizes) (m : (s.positions ≡ capped (position_count j)) × (s.steps ≡ capped (step_count j))) where
   limited : {b : Bool} → fits j ≡ b → cond b (passed j) (refused 4 n) ≡ compilable (R.read n j)

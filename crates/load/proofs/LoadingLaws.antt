@@ -1,11 +1,9 @@
 -- The chain of reasons: what it refuses, what passes it, and what a caller of loading knows.
 -- Assumes nothing.
-use Prim.Native.Nat.{ℕ, ◌*◌, ◌≤◌, ◌<◌}
+use Prim.Native.Nat.{ℕ, ◌≤◌, ◌<◌}
 use mathlib.Core.Path.{◌≡◌, refl, sym, ◌∙◌, ap, subst}
 use native.Mathlib.Omega.{arith}
 use Rattle.std.specs.Prelude.{Option, Some, None, unwrap_or}
-use mathlib.Core.Bool.{cond}
-use mathlib.Core.List.{List}
 use mathlib.Core.Logic.{◌↔◌}
 use Rattle.job.specs.Task.{Task}
 use Rattle.load.specs.Refusals.{Handed, Checked, passed, refused, next, task_in, Offer, plan_in, texts_in}

@@ -2,14 +2,14 @@
 -- Assumes nothing.
 use Prim.Native.Nat.{ℕ}
 use mathlib.Core.Path.{◌≡◌, refl, subst}
-use mathlib.Core.List.{List, []}
+use mathlib.Core.List.{List}
 use Rattle.laws.proofs.Tests.{never}
 use Rattle.job.specs.Task.{Task}
 use Rattle.lists.specs.CountedList.{ListOutcome}
 use Rattle.lists.specs.PlanText.{read_plan}
 use Rattle.load.specs.Refusals.{passed, Offer, offered, key_for, bound_for, plan_in}
 use Rattle.load.specs.declared.request.Sort.{Sort}
-use Rattle.std.specs.Prelude.{Option, None, Some, Ok, Err}
+use Rattle.std.specs.Prelude.{Some, Ok, Err}
 
 -- what is offered was read
 module _ (sort : Sort) (plan : List ℕ) (t : Task) (o : Offer) where

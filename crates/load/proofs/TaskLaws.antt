@@ -4,9 +4,8 @@ use Prim.Native.Nat.{ℕ}
 use mathlib.Core.Path.{◌≡◌, refl, sym, ◌∙◌, ap, subst}
 use mathlib.Core.Bool.{Bool, true, false, cond}
 use mathlib.Core.List.{List}
-use native.Mathlib.Omega.{arith}
-use lib.ListN.{length, take, length-take}
-use lib.Seq.{sets, take_all}
+use lib.ListN.{length}
+use lib.Seq.{sets}
 use Rattle.laws.proofs.Tests.{never}
 use Rattle.limits.specs.Limits.{class_count}
 use Rattle.job.specs.Job.{Job}
@@ -23,7 +22,7 @@ use Rattle.job.specs.declared.refusal.Refusal.{Refusal}
 use Rattle.lists.specs.CountedList.{ListOutcome}
 use Rattle.lists.specs.CostsText.{read_costs}
 use Rattle.lists.proofs.ListTold.{costs_told}
-use Rattle.load.specs.Refusals.{Checked, passed, refused, next, job_in, with_costs, costs_in, task_in}
+use Rattle.load.specs.Refusals.{Checked, passed, next, job_in, with_costs, costs_in, task_in}
 use Rattle.load.specs.Sized.{Sized}
 use Rattle.load.specs.declared.request.Given.{Given}
 use Rattle.load.proofs.StageLaws.{passed_next}

@@ -14,7 +14,7 @@ checked_as value (Err r) = refused (number_of r.reason) r.place
 
 -- the task that is stored, and the plan's entries
 abbrev pub offer_in : LoadedOffer → Offer
-offer_in o = record { task = stored_task o.job.task; entries = o.entries.items }
+offer_in o = record { task = stored_task o.job.task; entries = o.entries.now }
 
 abbrev pub loaded_as : Result LoadedOffer Refusal → Checked Offer
 loaded_as answer = checked_as offer_in answer

@@ -6,10 +6,8 @@ ghost use Rattle.domain.specs.Domain.{domain_at};
 ghost use Rattle.load.specs.Sized.{Sized};
 ghost use Rattle.load.specs.Refusals.{list_need, table_size};
 
-use arrayvec::ArrayVec;
 use compile::sizes::Sizes;
 use job::task::Task;
-use limits::ENTRIES;
 
 // A job that nothing refuses so far, the sizes of its compiled job, and how many states it has.
 #[derive(Clone, Copy)]
@@ -38,8 +36,8 @@ impl LoadedJob<'_> {
 }
 
 // A loaded job, and the entries of a plan that is offered for it.
-#[derive(Drop)]
+#[derive(Clone, Copy)]
 pub struct LoadedOffer<'a> {
     pub job: LoadedJob<'a>,
-    pub entries: ArrayVec<u16, ENTRIES>,
+    pub entries: &'a [u16],
 }

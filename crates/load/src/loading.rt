@@ -6,7 +6,9 @@ ghost use Rattle.load.specs.Loaded.{Loads};
 use crate::loaded::LoadedOffer;
 use crate::request::Request;
 use crate::room::too_short;
+use arrayvec::ArrayVec;
 use job::refusal::Refusal;
+use limits::ENTRIES;
 
 // Reasons 1 to 8.
 pub fn load<'a>(
@@ -15,12 +17,13 @@ pub fn load<'a>(
     plan: &[u8],
     costs: &[u8],
     rows: &'a mut [u16],
+    entries: &'a mut ArrayVec<u16, ENTRIES>,
 ) -> Result<LoadedOffer<'a>, Refusal>
     requires { length rows.old ≡ store_size }
     ensures { Loads (record { request = request; job = text.now; plan = plan.now; costs = costs.now }) result }
 {
     let job = crate::task::load_task(request.given, text, costs, rows)?;
-    let entries = crate::offer::load_plan(request.plan, plan, &job)?;
+    crate::offer::load_plan(request.plan, plan, &job, entries)?;
     let places = job.list_need();
     if request.places < places {
         return Err(too_short(places));
@@ -30,5 +33,8 @@ pub fn load<'a>(
     if cells < need {
         return Err(too_short(need));
     }
-    Ok(LoadedOffer { job, entries })
+    Ok(LoadedOffer {
+        job,
+        entries: entries.as_slice(),
+    })
 }

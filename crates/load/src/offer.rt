@@ -13,15 +13,20 @@ use job::refusal::{Reason, Refusal};
 use limits::ENTRIES;
 
 // The entries of a plan for a job; or at which line its text is refused.
-fn read_plan(sort: Sort, plan: &[u8], job: &LoadedJob) -> Result<ArrayVec<u16, ENTRIES>, usize>
-    ensures { listed_as result ≡ read_plan (key_for sort) (bound_for sort (stored_job job.now.task)) plan.now }
+fn read_plan(
+    sort: Sort,
+    plan: &[u8],
+    job: &LoadedJob,
+    entries: &mut ArrayVec<u16, ENTRIES>,
+) -> Result<(), usize>
+    ensures { listed_as result entries.new ≡ read_plan (key_for sort) (bound_for sort (stored_job job.now.task)) plan.now }
 {
     match sort {
         Sort::Moves => {
             let moves = domain::moves::move_count(&job.task);
-            lists::plan_text::read_plan(plan, b"m", moves)
+            lists::plan_text::read_plan(plan, b"m", moves, entries)
         }
-        Sort::Steps => lists::plan_text::read_plan(plan, b"t", job.sizes.steps),
+        Sort::Steps => lists::plan_text::read_plan(plan, b"t", job.sizes.steps, entries),
     }
 }
 
@@ -31,14 +36,16 @@ pub fn load_plan(
     plan: Option<Sort>,
     text: &[u8],
     job: &LoadedJob,
-) -> Result<ArrayVec<u16, ENTRIES>, Refusal>
-    ensures { checked_as (λ read. record { task = stored_task job.now.task; entries = read.items }) result
+    entries: &mut ArrayVec<u16, ENTRIES>,
+) -> Result<(), Refusal>
+    ensures { checked_as (λ _. record { task = stored_task job.now.task; entries = entries.new.items }) result
         ≡ plan_in plan text.now (stored_task job.now.task) }
 {
     let Some(sort) = plan else {
-        return Ok(ArrayVec::new());
+        entries.clear();
+        return Ok(());
     };
-    read_plan(sort, text, job).map_err(|line| Refusal {
+    read_plan(sort, text, job, entries).map_err(|line| Refusal {
         reason: Reason::Plan,
         place: line,
     })

@@ -58,9 +58,12 @@ fn load_job(text: &[u8], rows: &mut [u16]) -> Result<Measured, Refusal>
     ensures stored { IfOk result (λ m. Stored m.head rows.new) }
     ensures sized { IfOk result (λ m. Sized (job_of m.head rows.new) m.sizes) }
 {
-    let read = reader::reading::read_job(text, rows)?;
+    let answer = reader::reading::read_job(text, rows);
+    let Ok(read) = answer else {
+        return Err(answer.unwrap_err());
+    };
     let head = read.head;
-    job::costs::put_costs(rows, HOUSE_COSTS);
+    job::costs::put_house_costs(rows);
     let sizes = measure(&Task { head, rows }, read.lines)?;
     Ok(Measured { head, sizes })
 }

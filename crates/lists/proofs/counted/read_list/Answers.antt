@@ -33,6 +33,6 @@ returns-clause-is g c =
 
 pub returns-clause-few : goal.returns-clause-few
 returns-clause-few g c =
-    list_few _ _ _ _ c.read_entries.result
+    list_few _ _ _ _ c.read_entries.result _
     (first_right _ _ _ _ _ (c.line_end-end.ensures ∙ omega arith) _ (sym c.read_count.ensures ∙ c.in_ok-count.ensures.ok_part)
     (rw c.from.ensures at c.read_entries.ensures))

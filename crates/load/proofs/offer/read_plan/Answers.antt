@@ -1,4 +1,3 @@
-use mathlib.Core.Path.{sym, ◌∙◌}
 use Rattle.text.specs.Bytes.{bytes}
 use Rattle.load.proofs.offer.read_plan.Goals as goal
 

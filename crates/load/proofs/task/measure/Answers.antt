@@ -1,6 +1,9 @@
 use mathlib.Core.Path.{sym, ◌∙◌}
-use Rattle.load.proofs.JobLaws.{many_positions, many_steps, job_passes, job_sized}
+use Rattle.load.proofs.JobLaws.{unscoped, many_positions, many_steps, job_passes, job_sized}
 use Rattle.load.proofs.task.measure.Goals as goal
+
+pub returns-then-not-program_scoped-clause-value : goal.returns-then-not-program_scoped-clause-value
+returns-then-not-program_scoped-clause-value c = unscoped _ _ (sym c.program_scoped.ensures ∙ c.if-not-program_scoped.true)
 
 pub returns-then-sizes-gt-POSITIONS-clause-value : goal.returns-then-sizes-gt-POSITIONS-clause-value
 returns-then-sizes-gt-POSITIONS-clause-value c =
