@@ -6,7 +6,7 @@ use arrayvec::ArrayVec;
 use std::marker::Model;
 
 // Each pick stands in a later row than its body, so there are fewer picks around a row than rows.
-const MOST_PICKS: usize = crate::rows::PROGRAM_ROWS;
+pub const MOST_PICKS: usize = crate::rows::PROGRAM_ROWS;
 
 // A list of objects, the nearest pick's first.
 #[derive(Drop)]

@@ -4,3 +4,4 @@ pub mod IndexLaws
 pub mod StepWalk
 pub mod ReadyLaws
 pub mod ArrivalLaws
+pub mod SilentLaws

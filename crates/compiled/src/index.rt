@@ -9,17 +9,32 @@ ghost use Rattle.compiled.specs.Props.{read_props};
 use crate::steps::OutStep;
 use limits::{POSITIONS, STEPS};
 
+// A step as it was read, with a link to the one before it from the same position. It takes eight
+// bytes.
+#[derive(Clone, Copy)]
+struct LinkedStep {
+    step: OutStep,
+    before: u16,
+}
+
+impl LinkedStep {
+    // What stands in place of a step that is not read.
+    const UNREAD: LinkedStep = LinkedStep {
+        step: OutStep::UNREAD,
+        before: 0,
+    };
+}
+
 // The steps as they are read from the list, so that each is read once. For each position the last
 // step from it, and for each step the one before it from the same position; counted from 1, and 0
 // for none, so that a link has two bytes. Nothing is allocated.
 #[derive(Drop)]
 pub struct StepIndex<'a> {
     pub list: &'a [u16],
-    steps: [OutStep; STEPS],
+    steps: [LinkedStep; STEPS],
     last: [u16; POSITIONS],
-    before: [u16; STEPS],
     ghost read: { StepsRead list.now (length list.now / 4) steps } by { Prim.hlevel read_props },
-    pub ghost indexed: { StepsIndexed list.now last before } by { Prim.hlevel props },
+    pub ghost indexed: { StepsIndexed list.now last steps } by { Prim.hlevel props },
 }
 
 // The step that a link leads to.
@@ -36,21 +51,16 @@ impl<'a> StepIndex<'a> {
         requires { Listed list.now }
         ensures { result.list.now ≡ list.now }
     {
-        let mut steps = [OutStep::UNREAD; STEPS];
+        let mut steps = [LinkedStep::UNREAD; STEPS];
         let mut last = [0u16; POSITIONS];
-        let mut before = [0u16; STEPS];
         for k in 0..list.len() / 4 {
-            steps[k] = crate::steps::step_at(list, k);
+            let step = crate::steps::step_at(list, k);
             let from = crate::steps::start_at(list, k) as usize;
-            before[k] = last[from];
+            let before = last[from];
+            steps[k] = LinkedStep { step, before };
             last[from] = (k + 1) as u16;
         }
-        StepIndex {
-            list,
-            steps,
-            last,
-            before,
-        }
+        StepIndex { list, steps, last }
     }
 
     // The last step from position p.
@@ -66,7 +76,7 @@ impl<'a> StepIndex<'a> {
         requires { k < length self.now.list.now / 4 }
         ensures { result ≡ step_before self.now.list.now k }
     {
-        linked(self.before[k])
+        linked(self.steps[k].before)
     }
 
     // Step k.
@@ -74,6 +84,6 @@ impl<'a> StepIndex<'a> {
         requires { k < length self.now.list.now / 4 }
         ensures { IsStep self.now.list.now k result }
     {
-        self.steps[k]
+        self.steps[k].step
     }
 }

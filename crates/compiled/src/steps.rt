@@ -1,12 +1,10 @@
 // The steps of a list.
 ghost use Rattle.std.specs.Prelude.{◌≡◌, ◌/◌, ◌<◌, length};
-ghost use Rattle.semantics.specs.PositionSets.{silent_in};
-ghost use Rattle.domain.specs.Domain.{domain_at};
 ghost use Rattle.compiled.specs.StepList.{start_in};
-ghost use Rattle.compiled.specs.Steps.{label_of, IsStep};
+ghost use Rattle.compiled.specs.Steps.{label_of, IsStep, silent_by};
 
 use compile::label::Label;
-use domain::world::World;
+use domain::formulas::value_at;
 
 // A step of the list, but for where it starts.
 #[derive(Clone, Copy)]
@@ -22,15 +20,16 @@ impl OutStep {
         to: 0,
     };
 
-    // Whether it can be made silently.
-    #[tactic(auto, unfolding(semantics::specs::PositionSets::silent_in))]
-    pub fn is_silent(&self, world: &World) -> bool
-        ensures { result ≡ silent_in (domain_at world.now.task) world.now.state (label_of self.now) }
+    // Whether it can be made silently, by the formulas' values.
+    #[tactic(auto, unfolding(crate::specs::Steps::silent_by))]
+    pub fn is_silent(&self, values: &[bool]) -> bool
+        ensures { result ≡ silent_by values.now (label_of self.now) }
     {
         match self.label {
             Label::Free => true,
-            Label::Test(a) => world.holds(a),
-            Label::Fails(a) => !world.holds(a),
+            Label::Test(a) | Label::Fails(a) => {
+                value_at(values, a) == matches!(self.label, Label::Test(_))
+            }
             Label::Make(_) => false,
         }
     }

@@ -1,13 +1,14 @@
-use Rattle.std.proofs.Common.{refl, ◌∙◌, arith}
+use Rattle.std.proofs.Common.{refl, arith}
 use Rattle.job.specs.Store.{task_of}
 use Rattle.domain.proofs.SuccessorLaws.{successor_past}
 use Rattle.compiled.proofs.ArrivalLaws.{arrives_after, arrives_nowhere}
 use Rattle.compiled.proofs.LeadLaws.{leads_silently}
+use Rattle.compiled.proofs.SilentLaws.{same_label}
 use Rattle.compiled.proofs.explored.Explored.arrive.Goals as goal
 
 pub returns-in_default : goal.returns-in_default
 returns-in_default c = record {
-  leads = leads_silently _ _ _ _ c.in_default.not-Make c.is_silent.ensures c.then_some.ensures;
+  leads = leads_silently _ _ _ _ c.in_default.not-Make (same_label _ _ _ c.args.self.now.world.told _) c.stays.ensures;
   world = refl;
 }
 
@@ -24,4 +25,4 @@ returns-in_err-made-clause-leads c =
 pub returns-clause-leads : goal.returns-clause-leads
 returns-clause-leads c =
     let made = c.in_ok-made.ensures in
-    rw c.in-Make.is (arrives_after _ _ _ _ made.gives.after (c.from.ensures ∙ made.gives.cost))
+    rw (c.after.ensures, c.in-Make.is) (arrives_after _ _ _ _ made.gives.after made.gives.cost)
