@@ -16,9 +16,16 @@ use Rattle.compile.specs.Program.{program_of}
 use Rattle.compile.specs.CompiledJob.{steps_of, final_position_of}
 use Rattle.compiled.specs.StepList.{steps_on}
 use Rattle.compiled.specs.declared.CompiledJob.{CompiledJob}
+use Rattle.compiled.specs.Steps.{silent_by}
 use Rattle.compiled.proofs.ReadyLaws.{last_final}
+use Rattle.compiled.proofs.SilentLaws.{silent_told}
 use Rattle.validate.specs.declared.position_set.PositionSet.{PositionSet}
 use Rattle.validate.proofs.VerdictLaws.{Left, left_start, left_blocked, left_more, left_end}
+
+-- marks as the code closes them by a world's values
+pub closed_in : (world : World) (L : List Step) (T : List Bool) {S : List Bool} → S ≡ closure (silent_by world.values) L T
+    → S ≡ closure (silent_in (domain_at world.task) world.state) L T
+closed_in world L T f = f ∙ ap (λ on. closure on L T) (silent_told (domain_at world.task) world.state world.values world.told)
 
 module _ (job : CompiledJob) (plan : List ℕ) where
   abbrev D : Domain

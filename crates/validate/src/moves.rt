@@ -22,7 +22,7 @@ pub fn check_moves(job: &CompiledJob, plan: &[u16]) -> Verdict
 {
     let index = StepIndex::of(job.list);
     let mut world = World::at(&job.task, domain::states::start(&job.task));
-    let mut set = PositionSet::start().closed(&index, &world);
+    let mut set = PositionSet::start().closed(&index, &world.values);
     let mut cost: u64 = 0;
     for (i, m) in plan.iter().enumerate() {
         let Some(next) = world.successor(*m) else {
@@ -30,7 +30,7 @@ pub fn check_moves(job: &CompiledJob, plan: &[u16]) -> Verdict
         };
         cost += world.cost(*m);
         world = World::at(&job.task, next);
-        set = set.advanced(&index, *m).closed(&index, &world);
+        set = set.advanced(&index, *m).closed(&index, &world.values);
         if set.count == 0 {
             return Verdict::Blocked(i);
         }

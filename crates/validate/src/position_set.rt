@@ -2,15 +2,15 @@
 ghost use Rattle.std.proofs.Props.{props};
 ghost use Rattle.std.specs.Prelude.{◌≡◌, true, false, ◌<◌, get_or, set, replicate};
 ghost use Rattle.limits.specs.Limits.{most_positions};
-ghost use Rattle.semantics.specs.PositionSets.{closure, spread, silent_in, is_move};
-ghost use Rattle.domain.specs.Domain.{domain_at};
+ghost use Rattle.semantics.specs.PositionSets.{closure, spread, is_move};
 ghost use Rattle.compiled.specs.StepList.{steps_on};
+ghost use Rattle.compiled.specs.Steps.{silent_by};
 ghost use Rattle.validate.specs.Counted.{Counted};
 
 use compile::label::Label;
 use compiled::index::StepIndex;
 use compiled::steps::OutStep;
-use domain::world::World;
+use domain::formulas::value_at;
 use limits::POSITIONS;
 
 // One mark a position, how many are set, and the marked positions in the order in which they were
@@ -21,6 +21,13 @@ pub struct PositionSet {
     pub members: [u16; POSITIONS],
     pub count: usize,
     pub ghost counted: { Counted marks members count } by { Prim.hlevel props },
+}
+
+// Whether a position is marked; one past the last mark is not.
+pub fn is_marked(marks: &[bool], q: u16) -> bool
+    ensures { result ≡ get_or marks.now q false }
+{
+    value_at(marks, q)
 }
 
 impl PositionSet {
@@ -76,17 +83,16 @@ impl PositionSet {
         }
     }
 
-    // All that silent steps lead to, in a world.
-    pub fn closed(self, index: &StepIndex, world: &World) -> PositionSet
-        ensures { result.marks
-            ≡ closure (silent_in (domain_at world.now.task) world.now.state) (steps_on index.now.list.now) self.marks }
+    // All that silent steps lead to, by the formulas' values.
+    pub fn closed(self, index: &StepIndex, values: &[bool]) -> PositionSet
+        ensures { result.marks ≡ closure (silent_by values.now) (steps_on index.now.list.now) self.marks }
     {
         let mut set = self;
         let mut at = 0;
         // A while: the set grows as it is walked.
         while at < set.count {
             let p = set.members[at];
-            set.follow(index, p, |step| step.is_silent(world));
+            set.follow(index, p, |step| step.is_silent(values));
             at += 1;
         }
         set
@@ -111,6 +117,6 @@ impl PositionSet {
     pub fn has(self, q: u16) -> bool
         ensures { result ≡ get_or self.marks q false }
     {
-        self.marks.get(q as usize).copied().unwrap_or(false)
+        is_marked(&self.marks, q)
     }
 }

@@ -11,7 +11,7 @@ ghost use Rattle.validate.specs.Verdict.{verdict_of};
 
 use crate::verdict::Verdict;
 use compiled::CompiledJob;
-use compiled::explored::{Arrival, Explored};
+use compiled::explored::Arrival;
 use domain::world::World;
 
 // Step i of the list, made at a position in a state.
@@ -24,7 +24,8 @@ fn make_step(job: &CompiledJob, i: u16, state: u16, position: u16) -> Option<Arr
     if compiled::steps::start_at(job.list, k) != position {
         return None;
     }
-    Explored::at(&job.task, state).arrive(compiled::steps::step_at(job.list, k))
+    let world = World::at(&job.task, state);
+    compiled::explored::arrive(&world, compiled::steps::step_at(job.list, k))
 }
 
 // The verdict on steps against the compiled job. Each entry is that one step.

@@ -1,8 +1,8 @@
-use Rattle.std.proofs.Common.{Some, ◌∙◌, ap, sym, arith}
+use Rattle.std.proofs.Common.{Some, ◌∙◌, ap, arith}
 use Rattle.job.specs.declared.task.Task.{Task}
 use Rattle.domain.specs.Domain.{domain_at}
 use Rattle.compiled.proofs.ReadyLaws.{ready_listed}
-use Rattle.validate.proofs.MoveLaws.{checking_start, checking_none, checking_stuck, checking_more, checking_end}
+use Rattle.validate.proofs.MoveLaws.{closed_in, checking_start, checking_none, checking_stuck, checking_more, checking_end}
 use Rattle.validate.proofs.moves.check_moves.Goals as goal
 
 pub of-index-requires : goal.of-index-requires
@@ -12,7 +12,7 @@ pub loop-i-init : goal.loop-i-init
 loop-i-init c =
     let at = c.at-world.ensures in (
       checking_start _ _ c.at-world.result at.0 (at.1 ∙ c.start.ensures.start) c.closed-set.result c.start-2.result c.start-2.ensures
-          (rw c.of-index.ensures at c.closed-set.ensures),
+          (rw c.of-index.ensures at (closed_in c.at-world.result _ _ c.closed-set.ensures)),
       omega (arith, at.1, c.start.ensures.inside, ap (λ (t : Task). (domain_at t).states) at.0),
     )
 
@@ -25,7 +25,7 @@ returns-then-set-eq0 c =
     let at = c.at-world-in-loop-i.ensures in
     let list = c.of-index.ensures in
     checking_stuck _ _ c.loop-i.invariant.0 c.loop-i-test.true next (ap Some at.1 ∙ c.in-Some.ensures.after) at.0 c.advanced.result c.closed-set-in-loop-i.result
-    (rw list at c.advanced.ensures) (rw list at c.closed-set-in-loop-i.ensures) c.if-set-eq0.true
+    (rw list at c.advanced.ensures) (rw list at (closed_in next _ _ c.closed-set-in-loop-i.ensures)) c.if-set-eq0.true
 
 pub loop-i-preserved : goal.loop-i-preserved
 loop-i-preserved c =
@@ -34,7 +34,7 @@ loop-i-preserved c =
     let list = c.of-index.ensures in
     let cost = c.cost-cost.ensures in (
       checking_more _ _ c.loop-i.invariant.0 c.loop-i-test.true next (ap Some at.1 ∙ c.in-Some.ensures.after) at.0 c.advanced.result c.closed-set-in-loop-i.result
-          (rw list at c.advanced.ensures) (rw list at c.closed-set-in-loop-i.ensures) c.if-set-eq0.false cost.0 cost.1,
+          (rw list at c.advanced.ensures) (rw list at (closed_in next _ _ c.closed-set-in-loop-i.ensures)) c.if-set-eq0.false cost.0 cost.1,
       omega (arith, at.1, c.in-Some.ensures.within, ap (λ (t : Task). (domain_at t).states) at.0, ap (λ (t : Task). (domain_at t).states) c.loop-i.invariant.0.here),
     )
 

@@ -10,5 +10,5 @@ returns-then-start_at-position c =
 
 pub returns : goal.returns
 returns c =
-    let here = rw (c.at.ensures.0, c.at.ensures.1) at c.arrive.ensures.leads in
+    let here = rw (c.at-world.ensures.0, c.at-world.ensures.1) at c.arrive.ensures in
     made_here (domain_at c.args.job.now.task) c.args.state c.args.position c.step_at.ensures (sym c.start_at.ensures ∙ c.if-start_at-position.false) here
