@@ -42,8 +42,7 @@ fn fill_by(costs: &mut [u64], queue: &mut Queue, job: &CompiledJob)
     ensures { Filled (domain_at job.now.task) (steps_of (stored_job job.now.task)) job.now.positions
         costs.old costs.new }
 {
-    let states = domain::states::state_count(&job.task) as usize;
-    clear(costs, states * job.positions as usize);
+    clear(costs, job.states as usize * job.positions as usize);
     let mut table = Table::of(costs, queue, *job);
     table.start();
     settle(&mut table);
@@ -55,9 +54,8 @@ pub fn fill(costs: &mut [u64], job: &CompiledJob)
     ensures { Filled (domain_at job.now.task) (steps_of (stored_job job.now.task)) job.now.positions
         costs.old costs.new }
 {
-    let states = domain::states::state_count(&job.task) as usize;
     let mut keys = [NO_KEY; STATES];
     let mut nodes = [0u16; STATES];
-    let mut queue = Queue::of(&mut keys, &mut nodes, states);
+    let mut queue = Queue::of(&mut keys, &mut nodes, job.states as usize);
     fill_by(costs, &mut queue, job);
 }

@@ -19,7 +19,7 @@ fn least_entry(costs: &[u64], job: &CompiledJob) -> u64
 {
     let positions = job.positions as usize;
     let mut least = UNREACHED;
-    for state in 0..domain::states::state_count(&job.task) {
+    for state in 0..job.states {
         let x = costs[state as usize * positions + (positions - 1)];
         if x < least && World::at(&job.task, state).goal_holds() {
             least = x;

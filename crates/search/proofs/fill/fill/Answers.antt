@@ -3,4 +3,4 @@ use Rattle.domain.proofs.DomainLaws.{states_few}
 use Rattle.search.proofs.fill.fill.Goals as goal
 
 pub of-queue-requires-clause-few : goal.of-queue-requires-clause-few
-of-queue-requires-clause-few c = omega (arith, c.state_count-states.ensures, states_few c.args.job.now.task.stored)
+of-queue-requires-clause-few c = omega (arith, c.args.job.now.counted, states_few c.args.job.now.task.stored)

@@ -10,7 +10,7 @@ pub settle-requires : goal.settle-requires
 settle-requires c =
     let t = c.of-table.ensures in
     let s = c.start.ensures in
-    table_starts c.args.job.now c.args.costs.now c.requires.room (rw c.state_count-states.ensures at c.clear.ensures) t.job t.costs (t.queue ∙ c.requires.keys)
+    table_starts c.args.job.now c.args.costs.now c.requires.room (rw c.args.job.now.counted at c.clear.ensures) t.job t.costs (t.queue ∙ c.requires.keys)
     s.costs s.queue s.keeps
 
 pub returns : goal.returns
@@ -18,7 +18,7 @@ returns c =
     let t = c.of-table.ensures in
     let s = c.start.ensures in
     let x = c.settle.ensures in
-    let filled = table_fills c.args.job.now c.args.costs.now c.requires.room (rw c.state_count-states.ensures at c.clear.ensures) t.job t.costs
+    let filled = table_fills c.args.job.now c.args.costs.now c.requires.room (rw c.args.job.now.counted at c.clear.ensures) t.job t.costs
     (t.queue ∙ c.requires.keys) s.costs s.queue s.keeps x.exhausted in
     let same = sym (x.keeps.same_reference ∙ s.keeps.same_reference ∙ t.same_reference) in
     filled_as filled _ (search (rules, same))

@@ -1,5 +1,7 @@
-use Rattle.std.proofs.Common.{sym, ◌∙◌, arith}
+use Rattle.std.proofs.Common.{◌≡◌, sym, ◌∙◌, arith}
 use Rattle.laws.proofs.Tests.{never}
+use Rattle.domain.specs.Domain.{domain_at}
+use Rattle.compiled.proofs.ReadyLaws.{last_final}
 use Rattle.search.specs.Filling.{kept, lower}
 use Rattle.search.proofs.LowestLaws.{lowest_more, goal_of}
 use Rattle.search.proofs.least.least_entry.Goals as goal
@@ -16,3 +18,9 @@ loop-state-preserved c =
         | else-x-least-via-else-x-least u ↦ rw w.least-is (lowest_more _ c.loop-state.invariant (kept (λ g. omega (arith, u.if-x-least.false))))
       ]
     ]
+
+pub returns : goal.returns
+returns c =
+    let j = c.args.job.now in
+    let all : c.loop-state.state ≡ (domain_at j.task).states = omega (arith, j.counted) in
+    rw (last_final j.ready, all) at c.loop-state.invariant
