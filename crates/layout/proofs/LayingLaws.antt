@@ -1,12 +1,11 @@
 -- Lines laid over an output, one behind another, as the code writes them.
 -- Assumes nothing.
-use Rattle.std.proofs.Common.{◌≡◌, ℕ, suc, ◌+◌, ◌-◌, ◌*◌, ◌≤◌, ◌<◌, None, Some, List, [], ◌∷◌, ◌++◌, length, get_or, take, drop, replicate, map, refl, sym, ap, subst, ◌∙◌, arith, add-one, append_assoc, drop-cons}
+use Rattle.std.proofs.Common.{◌≡◌, ℕ, suc, ◌+◌, ◌-◌, ◌*◌, ◌≤◌, ◌<◌, None, Some, List, [], ◌∷◌, ◌++◌, length, get_or, drop, replicate, map, refl, sym, ap, subst, ◌∙◌, arith, add-one, drop-cons}
 use mathlib.Core.List.{flatten}
-use borrow.Rule.Slice.PartMut.{put_mid}
 use Rattle.std.proofs.Math.ListN.{drop_of_length-le}
 use Rattle.std.proofs.Math.Seq.{length-sets}
-use Rattle.std.proofs.lemmas.List.{drop-drop, length-map}
-use Rattle.std.proofs.lemmas.List.Edits.{sets, sets-eq}
+use Rattle.std.proofs.lemmas.List.{length-map}
+use Rattle.std.proofs.lemmas.List.Edits.{sets}
 use Rattle.laws.proofs.Lists.{sets_on}
 use Rattle.laws.proofs.Each.{flatten_append}
 use Rattle.limits.specs.Limits.{most_cost}
@@ -21,14 +20,6 @@ use Rattle.layout.specs.declared.line.SheetLine.{SheetLine}
 use Rattle.layout.proofs.LineLaws.{WholeLine, line_length_lem, blank_length}
 use Rattle.layout.proofs.PlanLines.{lines_after, line_fits, lines_length}
 
--- a line that is written in its place
-line_placed : (i : ℕ) (out l : List ℕ) → WholeLine l → i * line_size + line_size ≤ length out
-    → put_mid (i * line_size) (i * line_size + line_size - i * line_size) out l ≡ sets out (i * line_size) l
-line_placed i out l w h =
-    let k : i * line_size + line_size - i * line_size ≡ length l = omega (arith, w) in
-    rw (k, drop-drop (length l) (i * line_size) out) (sym (append_assoc (take (i * line_size) out) l (drop (i * line_size + length l) out)))
-    ∙ sym (sets-eq l out (i * line_size) (omega (arith, w)))
-
 -- what is to be written from line i on is what was to be written from the first line on
 pub record Laying (first : ℕ) (all rest : List (List ℕ)) (old out : List ℕ) (i : ℕ) : Type 0 where
   pub size : length out ≡ length old
@@ -40,12 +31,11 @@ laying_start first all old = record { size = refl; laid = refl; count = refl }
 
 -- one line
 laying_more : (first i : ℕ) (all : List (List ℕ)) (old out l v : List ℕ) (rest : List (List ℕ)) → Laying first all (l ∷ rest) old out i
-    → WholeLine l → i * line_size + line_size ≤ length old → v ≡ l
-    → Laying first all rest old (put_mid (i * line_size) (i * line_size + line_size - i * line_size) out v) (i + 1)
+    → WholeLine l → i * line_size + line_size ≤ length old → v ≡ sets out (i * line_size) l → Laying first all rest old v (i + 1)
 unfolding flatten
 laying_more first i all old out l v rest x w h e =
     let at : (i + 1) * line_size ≡ i * line_size + length l = omega (arith, w) in
-    rw (e, line_placed i out l w (omega (arith, x.size))) (record {
+    rw e (record {
       size = length-sets out (i * line_size) l ∙ x.size;
       laid = sets_on out l (flatten rest) (i * line_size) ((i + 1) * line_size) refl at refl ∙ x.laid;
       count = omega (arith, x.count);
@@ -62,9 +52,8 @@ module _ (first end : ℕ) where
   blanks k = replicate k blank_line
 
   module _ {old out : List ℕ} {i : ℕ} (x : Laying first (replicate (end - first) blank_line) (replicate (end - i) blank_line) old out i) where
-    pub filling_more : i < end → end * line_size ≤ length old → {v : List ℕ} → v ≡ blank_line
-        → Laying first (replicate (end - first) blank_line) (replicate (end - (i + 1)) blank_line) old
-        (put_mid (i * line_size) (i * line_size + line_size - i * line_size) out v) (i + 1)
+    pub filling_more : i < end → end * line_size ≤ length old → {v : List ℕ} → v ≡ sets out (i * line_size) blank_line
+        → Laying first (replicate (end - first) blank_line) (replicate (end - (i + 1)) blank_line) old v (i + 1)
     filling_more h room {v} e =
         let one : end - i ≡ suc (end - (i + 1)) = omega arith in
         laying_more first i _ old out blank_line v (blanks (end - (i + 1)))
@@ -114,25 +103,22 @@ module _ (t : Task) (plan : List ℕ) where
       unfolding plan_lines_from
       unfolded = ap (plan_lines_from E state i total) (drop-cons plan i 0 h) ∙ ap (λ (l : SheetLine). l ∷ left) is_line
 
-      module _ (room : length plan * line_size ≤ length old) {v : List ℕ} (e : v ≡ line_bytes line) where
-        abbrev new : List ℕ
-        new = put_mid (i * line_size) (i * line_size + line_size - i * line_size) out v
-
-        put : Laying 0 (map line_bytes (plan_lines E plan)) (map line_bytes left) old new (i + 1)
+      module _ (room : length plan * line_size ≤ length old) {v : List ℕ} (e : v ≡ sets out (i * line_size) (line_bytes line)) where
+        put : Laying 0 (map line_bytes (plan_lines E plan)) (map line_bytes left) old v (i + 1)
         put =
             let here = subst (λ (ls : List SheetLine). Laying 0 (map line_bytes (plan_lines E plan)) (map line_bytes ls) old out i) unfolded x.laying in
             laying_more 0 i _ old out (line_bytes line) v (map line_bytes left) here (line_length_lem line lining_fits) (omega arith) e
 
         -- the move is not applicable, and its line the last
         pub lining_stop : E.successor m state ≡ None
-            → (put_mid (i * line_size) (i * line_size + line_size - i * line_size) out v ≡ sets old 0 (flatten (map line_bytes (plan_lines E plan))))
+            → (v ≡ sets old 0 (flatten (map line_bytes (plan_lines E plan))))
             × (i + 1 ≡ length (plan_lines E plan))
         lining_stop none_left =
             let z = laying_end (rw none_left at put) in
             (z.0, omega (arith, z.1, length-map (plan_lines E plan) line_bytes))
 
         pub lining_more : (next : ℕ) → E.successor m state ≡ Some next
-            → Lining old (put_mid (i * line_size) (i * line_size + line_size - i * line_size) out v) next (total + spent) (i + 1)
+            → Lining old v next (total + spent) (i + 1)
         lining_more next goes = record {
           laying = rw (c, add-one i) (rw (goes, add-one i) at put);
           state_below = b.successors m state next x.state_below goes;

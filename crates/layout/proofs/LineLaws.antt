@@ -1,6 +1,8 @@
 -- Lines of a sheet, column by column.
 -- Assumes nothing.
-use Rattle.std.proofs.Common.{◌≡◌, ℕ, ◌+◌, ◌*◌, ◌≤◌, ◌<◌, List, [], ◌∷◌, ◌++◌, length, take, drop, set, get_or, sym, refl, ap, ◌∙◌, arith, append_assoc, length-append, drop-cons, suc, replicate, length-drop, length-take-le}
+use Rattle.std.proofs.Common.{◌≡◌, ℕ, ◌+◌, ◌-◌, ◌*◌, ◌≤◌, ◌<◌, List, [], ◌∷◌, ◌++◌, length, take, drop, set, get_or, sym, refl, ap, ◌∙◌, arith, append_assoc, length-append}
+use Rattle.std.proofs.Common.{drop-cons, suc, replicate, length-drop, length-take-le}
+use Rattle.std.proofs.lemmas.List.Edits.{sets, sets-eq}
 use borrow.Rule.Slice.PartMut.{put_mid}
 use Rattle.std.proofs.lemmas.List.{take_at, drop_at, drop-drop, drop_all, set_at}
 use Rattle.limits.specs.Limits.{most_moves, most_cost, most_entries}
@@ -14,6 +16,12 @@ use Rattle.layout.proofs.ColumnLaws.{column_length, column_wider}
 -- a line's bytes, its line feed among them
 abbrev pub WholeLine : List ℕ → Type 0
 WholeLine l = length l ≡ line_size
+
+-- a line that is written in its place
+pub line_placed : (p : ℕ) (out l : List ℕ) → WholeLine l → p + line_size ≤ length out → put_mid p (p + line_size - p) out l ≡ sets out p l
+line_placed p out l w h =
+    let k : p + line_size - p ≡ length l = omega (arith, w) in
+    rw (k, drop-drop (length l) p out) (sym (append_assoc (take p out) l (drop (p + length l) out))) ∙ sym (sets-eq l out p (omega (arith, w)))
 
 -- each number fits its column, by the limits of plans, moves and costs
 pub within_fits : {l : SheetLine} → l.row ≤ most_entries → l.action < most_moves → l.cost ≤ most_cost → l.total ≤ most_entries * most_cost → FitsColumns l

@@ -55,8 +55,7 @@ fn put_lines(task: &Task, plan: &[u16], out: &mut [u8]) -> usize
             total,
         };
         // No chunks_exact_mut: what is written through a chunk is lost to the proof.
-        let at = i * LINE;
-        put_line(&mut out[at..at + LINE], line);
+        put_line(out, i * LINE, line);
         let Some(next) = world.successor(m) else {
             return i + 1;
         };
@@ -72,8 +71,7 @@ fn fill_page(out: &mut [u8], count: usize)
     ensures { out.new ≡ sets out.old (count * line_size) (flatten (replicate (page_lines count - count) blank_line)) }
 {
     for i in count..page_lines(count) {
-        let at = i * LINE;
-        put_blank(&mut out[at..at + LINE]);
+        put_blank(out, i * LINE);
     }
 }
 

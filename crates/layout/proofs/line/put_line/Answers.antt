@@ -1,5 +1,5 @@
-use Rattle.layout.proofs.LineLaws.{line_put}
+use Rattle.layout.proofs.LineLaws.{line_length_lem, line_placed}
 use Rattle.layout.proofs.line.put_line.Goals as goal
 
 pub returns : goal.returns
-returns c = line_put c.args.line c.requires.fits _ _ _ _ _ c.requires.size c.column.ensures c.column-2.ensures c.column-3.ensures c.column-4.ensures
+returns c = rw c.lay_line.ensures (line_placed _ _ _ (line_length_lem _ c.requires.fits) c.requires.room)
