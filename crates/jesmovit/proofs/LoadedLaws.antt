@@ -46,11 +46,11 @@ module _ {h : Handed} {a : Result LoadedOffer Refusal} (e : Loads h a) where
     load_cells f = subst (λ (c : Option ℕ). cond (is_some c) (table_size (stored_task o.job.task)) 0 ≤ unwrap_or c 0) f long.2
 
     -- the entries are a plan's
-    pub load_entries : {sort : Sort} → h.request.plan ≡ Some sort → EntriesBelow o.entries.items (bound_for sort (stored_job o.job.task))
+    pub load_entries : {sort : Sort} → h.request.plan ≡ Some sort → EntriesBelow o.entries.now (bound_for sort (stored_job o.job.task))
     load_entries {sort} f =
         let t = texts_taken h long.0 in
         let p = plan_taken sort h.plan t.0 (offer_in o) (subst (λ (p : Option Sort). plan_in p h.plan t.0 ≡ passed (offer_in o)) f t.2) in
-        let r = plan_told (key_for sort) (bound_for sort (stored_job o.job.task)) h.plan o.entries.items p.1 in
+        let r = plan_told (key_for sort) (bound_for sort (stored_job o.job.task)) h.plan o.entries.now p.1 in
         record { few = r.few; below = r.each }
 
 -- what the list then holds

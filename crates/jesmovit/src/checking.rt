@@ -7,6 +7,7 @@ ghost use Rattle.load.specs.View.{view_of};
 ghost use Rattle.jesmovit.specs.Checking.{Says, Checks};
 
 use crate::preparing::{compiled, prepare};
+use arrayvec::ArrayVec;
 use compiled::CompiledJob;
 use job::refusal::Refusal;
 use job::rows::STORE;
@@ -37,18 +38,19 @@ fn check(
         list.old result list.new }
 {
     let mut rows = [0u16; STORE];
+    let mut entries = ArrayVec::new();
     let request = Request {
         given,
         plan: Some(sort),
         places: list.len(),
         cells: None,
     };
-    let prepared = prepare(request, text, plan, costs, &mut rows, list);
+    let prepared = prepare(request, text, plan, costs, &mut rows, &mut entries, list);
     let Ok(offer) = prepared else {
         return Err(prepared.unwrap_err());
     };
     let job = compiled(&offer.job, list);
-    Ok(verdict(sort, &job, offer.entries.as_slice()))
+    Ok(verdict(sort, &job, offer.entries))
 }
 
 // The verdict on a list of moves against the job's program. Unless the texts or the list are

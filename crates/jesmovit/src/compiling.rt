@@ -2,6 +2,7 @@
 ghost use Rattle.jesmovit.specs.Compiling.{Compiles};
 
 use crate::preparing::prepare;
+use arrayvec::ArrayVec;
 use compile::sizes::Sizes;
 use job::refusal::Refusal;
 use job::rows::STORE;
@@ -13,13 +14,14 @@ pub fn compile(text: &[u8], list: &mut [u16]) -> Result<Sizes, Refusal>
     ensures { Compiles text.now list.old result list.new }
 {
     let mut rows = [0u16; STORE];
+    let mut entries = ArrayVec::new();
     let request = Request {
         given: Given { costs: false },
         plan: None,
         places: list.len(),
         cells: None,
     };
-    let prepared = prepare(request, text, &[], &[], &mut rows, list);
+    let prepared = prepare(request, text, &[], &[], &mut rows, &mut entries, list);
     let Ok(offer) = prepared else {
         return Err(prepared.unwrap_err());
     };

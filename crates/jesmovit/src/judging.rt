@@ -9,6 +9,7 @@ ghost use Rattle.jesmovit.specs.Outcomes.{judgement_of};
 ghost use Rattle.jesmovit.specs.Judging.{CostsLeast, compared, Found, Judges};
 
 use crate::preparing::{compiled, prepare};
+use arrayvec::ArrayVec;
 use compile::sizes::Sizes;
 use compiled::CompiledJob;
 use job::refusal::Refusal;
@@ -47,13 +48,14 @@ pub fn least_cost(
         (record { list = list.old; table = table.old }) result (record { list = list.new; table = table.new }) }
 {
     let mut rows = [0u16; STORE];
+    let mut entries = ArrayVec::new();
     let request = Request {
         given,
         plan: None,
         places: list.len(),
         cells: Some(table.len()),
     };
-    let prepared = prepare(request, text, &[], costs, &mut rows, list);
+    let prepared = prepare(request, text, &[], costs, &mut rows, &mut entries, list);
     let Ok(offer) = prepared else {
         return Err(prepared.unwrap_err());
     };
@@ -101,19 +103,20 @@ pub fn judge(
         (record { list = list.old; table = table.old }) result (record { list = list.new; table = table.new }) }
 {
     let mut rows = [0u16; STORE];
+    let mut entries = ArrayVec::new();
     let request = Request {
         given,
         plan: Some(Sort::Moves),
         places: list.len(),
         cells: Some(table.len()),
     };
-    let prepared = prepare(request, text, plan, costs, &mut rows, list);
+    let prepared = prepare(request, text, plan, costs, &mut rows, &mut entries, list);
     let Ok(offer) = prepared else {
         return Err(prepared.unwrap_err());
     };
     let job = compiled(&offer.job, list);
     Ok(Judged {
         sizes: offer.job.sizes,
-        judgement: judge_entries(table, &job, offer.entries.as_slice()),
+        judgement: judge_entries(table, &job, offer.entries),
     })
 }

@@ -12,6 +12,7 @@ ghost use Rattle.jesmovit.specs.Checking.{Says};
 ghost use Rattle.jesmovit.specs.Writing.{Writes, bytes_for, SheetIs, Sheets};
 
 use crate::preparing::compiled;
+use arrayvec::ArrayVec;
 use job::refusal::Refusal;
 use job::rows::STORE;
 use limits::LIST;
@@ -81,13 +82,14 @@ pub fn sheet(
         (record { list = list.old; output = out.old }) result (record { list = list.new; output = out.new }) }
 {
     let mut rows = [0u16; STORE];
+    let mut entries = ArrayVec::new();
     let request = Request {
         given,
         plan: Some(Sort::Moves),
         places: list.len(),
         cells: None,
     };
-    let loaded = load::loading::load(request, text, plan, costs, &mut rows);
+    let loaded = load::loading::load(request, text, plan, costs, &mut rows, &mut entries);
     let Ok(offer) = loaded else {
         return Err(loaded.unwrap_err());
     };
@@ -95,7 +97,6 @@ pub fn sheet(
     let mut steps = [0u16; LIST];
     compile::program::compile(&offer.job.task, &mut steps);
     let job = compiled(&offer.job, &steps);
-    let plan = offer.entries.as_slice();
-    let verdict = validate::moves::check_moves(&job, plan);
-    lay_out(&offer.job, verdict, plan, list, out)
+    let verdict = validate::moves::check_moves(&job, offer.entries);
+    lay_out(&offer.job, verdict, offer.entries, list, out)
 }

@@ -4,8 +4,10 @@ ghost use Rattle.job.specs.Store.{store_size};
 ghost use Rattle.job.specs.StoredTask.{stored_job};
 ghost use Rattle.jesmovit.specs.Compiling.{Prepares, FrontHolds};
 
+use arrayvec::ArrayVec;
 use compiled::CompiledJob;
 use job::refusal::Refusal;
+use limits::ENTRIES;
 use load::loaded::{LoadedJob, LoadedOffer};
 use load::request::Request;
 
@@ -17,13 +19,14 @@ pub(crate) fn prepare<'a>(
     plan: &[u8],
     costs: &[u8],
     rows: &'a mut [u16],
+    entries: &'a mut ArrayVec<u16, ENTRIES>,
     list: &mut [u16],
 ) -> Result<LoadedOffer<'a>, Refusal>
     requires { (length rows.old ≡ store_size) × (request.places ≡ length list.old) }
     ensures { Prepares (record { request = request; job = text.now; plan = plan.now; costs = costs.now }) result
         list.old list.new }
 {
-    let offer = load::loading::load(request, text, plan, costs, rows)?;
+    let offer = load::loading::load(request, text, plan, costs, rows, entries)?;
     compile::program::compile(&offer.job.task, list);
     Ok(offer)
 }
@@ -37,5 +40,6 @@ pub(crate) fn compiled<'a>(job: &LoadedJob<'a>, list: &'a [u16]) -> CompiledJob<
         task: job.task,
         list: &list[..job.list_need()],
         positions: job.sizes.positions,
+        states: job.states,
     }
 }

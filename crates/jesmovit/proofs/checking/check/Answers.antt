@@ -11,12 +11,12 @@ compiled-job-requires c = prepared_front c.prepare-prepared.ensures c.in-Ok.is r
 
 pub verdict-requires : goal.verdict-requires
 verdict-requires c =
-    rw (c.compiled-job.ensures.0, c.as_slice.ensures.value) (load_entries c.prepare-prepared.ensures.loads c.in-Ok.is refl)
+    rw c.compiled-job.ensures.0 (load_entries c.prepare-prepared.ensures.loads c.in-Ok.is refl)
 
 pub returns : goal.returns
 returns c =
     let p = c.prepare-prepared.ensures in
     answer_done _ (load_passed p.loads c.in-Ok.is) (record {
-      says = rw (c.compiled-job.ensures.0, c.as_slice.ensures.value) at c.verdict.ensures;
+      says = rw c.compiled-job.ensures.0 at c.verdict.ensures;
       list = prepared_list p c.in-Ok.is;
     })

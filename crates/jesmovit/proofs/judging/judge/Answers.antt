@@ -12,7 +12,7 @@ compiled-job-requires c = prepared_front c.prepare-prepared.ensures c.in-Ok.is r
 
 pub judge_entries-requires-clause-entries_below : goal.judge_entries-requires-clause-entries_below
 judge_entries-requires-clause-entries_below c =
-    rw (c.compiled-job.ensures.0, c.as_slice.ensures.value) (load_entries c.prepare-prepared.ensures.loads c.in-Ok.is refl)
+    rw c.compiled-job.ensures.0 (load_entries c.prepare-prepared.ensures.loads c.in-Ok.is refl)
 
 pub judge_entries-requires-clause-room : goal.judge_entries-requires-clause-room
 judge_entries-requires-clause-room c =
@@ -26,5 +26,5 @@ returns c =
     answer_done _ (load_passed p.loads c.in-Ok.is) (record {
       sized = rw (s.positions, s.steps) refl;
       list = prepared_list p c.in-Ok.is;
-      found = rw (c.compiled-job.ensures.0, c.as_slice.ensures.value) at c.judge_entries.ensures;
+      found = rw c.compiled-job.ensures.0 at c.judge_entries.ensures;
     })

@@ -18,15 +18,15 @@ compiled-job-requires c =
 
 pub check_moves-verdict-requires : goal.check_moves-verdict-requires
 check_moves-verdict-requires c =
-    rw (c.compiled-job.ensures.0, c.as_slice-plan.ensures.value) (load_entries c.load-loaded.ensures c.in-Ok.is refl)
+    rw c.compiled-job.ensures.0 (load_entries c.load-loaded.ensures c.in-Ok.is refl)
 
 pub lay_out-requires-clause-says : goal.lay_out-requires-clause-says
 lay_out-requires-clause-says c =
     let j = c.compiled-job.result in
-    rw c.compiled-job.ensures.0 at (says_moves j.task.head j.task.rows.now c.as_slice-plan.result.now refl j.ready c.check_moves-verdict.ensures)
+    rw c.compiled-job.ensures.0 at (says_moves j.task.head j.task.rows.now c.in-Ok.offer.entries.now refl j.ready c.check_moves-verdict.ensures)
 
 pub lay_out-requires-clause-room : goal.lay_out-requires-clause-room
 lay_out-requires-clause-room c = load_room c.load-loaded.ensures c.in-Ok.is
 
 pub lay_out-requires-clause-entries_below : goal.lay_out-requires-clause-entries_below
-lay_out-requires-clause-entries_below c = rw c.as_slice-plan.ensures.value (load_entries c.load-loaded.ensures c.in-Ok.is refl)
+lay_out-requires-clause-entries_below c = load_entries c.load-loaded.ensures c.in-Ok.is refl
