@@ -19,7 +19,8 @@ fn main(rt: HostRuntime) {
         };
         let costs = texts.costs.unwrap_or(&[]);
         let answer = jesmovit::check_steps(texts.job, texts.plan, costs, given, &mut list);
-        let printed = report::check(answer);
+        let mut printed = report::Printout::new();
+        report::check(answer, &mut printed);
         console::print::text(&rt, printed.as_str().as_bytes());
     }
 }

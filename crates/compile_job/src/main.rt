@@ -10,7 +10,8 @@ fn main(rt: HostRuntime) {
     let mut list = [0u16; LIST];
     if let Some(job) = console::arguments::read_argument(&rt, 1, "job.txt", &mut text) {
         let answer = jesmovit::compile(job, &mut list);
-        let printed = report::compile(answer, &list);
+        let mut printed = report::Printout::new();
+        report::compile(answer, &list, &mut printed);
         console::print::text(&rt, printed.as_str().as_bytes());
     }
 }

@@ -20,7 +20,8 @@ fn main(rt: HostRuntime) {
         };
         let costs = texts.costs.unwrap_or(&[]);
         let answer = jesmovit::judge(texts.job, texts.plan, costs, given, &mut list, &mut table);
-        let printed = report::judge(answer, &list);
+        let mut printed = report::Printout::new();
+        report::judge(answer, &list, &mut printed);
         console::print::text(&rt, printed.as_str().as_bytes());
     }
 }

@@ -13,7 +13,8 @@ const TABLE: usize = limits::STATES * 128;
 fn print_cost(rt: &HostRuntime, text: &[u8], costs: &[u8], given: Given, table: &mut [u64]) {
     let mut list = [0u16; LIST];
     let answer = jesmovit::least_cost(text, costs, given, &mut list, table);
-    let printed = report::least_cost(answer);
+    let mut printed = report::Printout::new();
+    report::least_cost(answer, &mut printed);
     console::print::text(rt, printed.as_str().as_bytes());
 }
 

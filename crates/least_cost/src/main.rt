@@ -19,7 +19,8 @@ fn main(rt: HostRuntime) {
         };
         let costs = texts.costs.unwrap_or(&[]);
         let answer = jesmovit::least_cost(texts.job, costs, given, &mut list, &mut table);
-        let printed = report::least_cost(answer);
+        let mut printed = report::Printout::new();
+        report::least_cost(answer, &mut printed);
         console::print::text(&rt, printed.as_str().as_bytes());
     }
 }

@@ -8,7 +8,8 @@ fn main(rt: HostRuntime) {
     let mut text = [0u8; TEXT];
     if let Some(job) = console::arguments::read_argument(&rt, 1, "job.txt", &mut text) {
         let answer = jesmovit::read_job(job);
-        let printed = report::read(answer);
+        let mut printed = report::Printout::new();
+        report::read(answer, &mut printed);
         console::print::text(&rt, printed.as_str().as_bytes());
     }
 }

@@ -59,8 +59,12 @@ pub(crate) fn refusal(out: &mut Printout, r: Refusal)
     requires { array_string_len out.old + 64 ≤ room }
     ensures { out.new.bytes ≡ out.old.bytes ++ refused_line (number_of r.reason) r.place }
 {
-    let number = u8::from(r.reason);
-    line(out, "refused", &[number as u64, r.place as u64]);
+    let reason = u8::from(r.reason);
+    out.push_str("refused=");
+    number(out, reason as u64);
+    out.push_str(","); // then the place
+    number(out, r.place as u64);
+    out.push_str("\n");
 }
 
 #[tactic(auto, unfolding(text::specs::Bytes::bytes, text::specs::Written::written))]

@@ -57,58 +57,54 @@ fn judgement(out: &mut Printout, j: Judgement)
 }
 
 // What judging prints.
-pub fn judge(answer: Result<Judged, Refusal>, list: &[u16]) -> Printout
+pub fn judge(answer: Result<Judged, Refusal>, list: &[u16], out: &mut Printout)
     requires { length list.now ≤ most_steps * 4 }
-    ensures { result.bytes ≡ judge_printout answer list.now }
+    ensures { out.new.bytes ≡ judge_printout answer list.now }
 {
-    let mut out = Printout::new();
+    out.clear();
     match answer {
         Ok(judged) => {
-            compiled(&mut out, judged.sizes, list);
-            judgement(&mut out, judged.judgement);
+            compiled(out, judged.sizes, list);
+            judgement(out, judged.judgement);
         }
-        Err(r) => lines::refusal(&mut out, r),
+        Err(r) => lines::refusal(out, r),
     }
-    out
 }
 
 // What the least cost prints.
 #[tactic(auto, unfolding(text::specs::Bytes::bytes))]
-pub fn least_cost(answer: Result<Option<u64>, Refusal>) -> Printout
-    ensures { result.bytes ≡ least_printout answer }
+pub fn least_cost(answer: Result<Option<u64>, Refusal>, out: &mut Printout)
+    ensures { out.new.bytes ≡ least_printout answer }
 {
-    let mut out = Printout::new();
+    out.clear();
     match answer {
-        Ok(Some(cost)) => lines::line(&mut out, "least", &[cost]),
+        Ok(Some(cost)) => lines::line(out, "least", &[cost]),
         Ok(None) => out.push_str("answer=none\n"),
-        Err(r) => lines::refusal(&mut out, r),
+        Err(r) => lines::refusal(out, r),
     }
-    out
 }
 
 // What compiling prints.
-pub fn compile(answer: Result<Sizes, Refusal>, list: &[u16]) -> Printout
+pub fn compile(answer: Result<Sizes, Refusal>, list: &[u16], out: &mut Printout)
     requires { length list.now ≤ most_steps * 4 }
-    ensures { result.bytes ≡ compile_printout answer list.now }
+    ensures { out.new.bytes ≡ compile_printout answer list.now }
 {
-    let mut out = Printout::new();
+    out.clear();
     match answer {
-        Ok(sizes) => compiled(&mut out, sizes, list),
-        Err(r) => lines::refusal(&mut out, r),
+        Ok(sizes) => compiled(out, sizes, list),
+        Err(r) => lines::refusal(out, r),
     }
-    out
 }
 
 // What a check prints.
-pub fn check(answer: Result<Verdict, Refusal>) -> Printout
-    ensures { result.bytes ≡ check_printout answer }
+pub fn check(answer: Result<Verdict, Refusal>, out: &mut Printout)
+    ensures { out.new.bytes ≡ check_printout answer }
 {
-    let mut out = Printout::new();
+    out.clear();
     match answer {
-        Ok(v) => lines::verdict(&mut out, v),
-        Err(r) => lines::refusal(&mut out, r),
+        Ok(v) => lines::verdict(out, v),
+        Err(r) => lines::refusal(out, r),
     }
-    out
 }
 
 #[tactic(auto, unfolding(text::specs::Bytes::bytes))]
@@ -125,15 +121,14 @@ fn counts(out: &mut Printout, c: Counts)
 }
 
 // What reading a job prints.
-pub fn read(answer: Result<Counts, Refusal>) -> Printout
-    ensures { result.bytes ≡ read_printout answer }
+pub fn read(answer: Result<Counts, Refusal>, out: &mut Printout)
+    ensures { out.new.bytes ≡ read_printout answer }
 {
-    let mut out = Printout::new();
+    out.clear();
     match answer {
-        Ok(c) => counts(&mut out, c),
-        Err(r) => lines::refusal(&mut out, r),
+        Ok(c) => counts(out, c),
+        Err(r) => lines::refusal(out, r),
     }
-    out
 }
 
 // What laying out prints: the sheet that stands in the output already, or what is said instead.
