@@ -36,7 +36,7 @@ impl<'q> Queue<'q> {
         requires few { n ≤ most_states }
         ensures { result ≡ replicate n no_key }
     {
-        keys.fill(NO_KEY);
+        keys[..n].fill(NO_KEY);
         let mut queue = Queue {
             keys,
             nodes,
