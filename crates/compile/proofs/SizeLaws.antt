@@ -1,11 +1,12 @@
 -- Sizes of programs by their shape, and a row's sizes from those of earlier rows.
 -- Assumes nothing.
-use Prim.Native.Nat.{ℕ, zero, suc, ◌+◌, ◌*◌}
+use Prim.Native.Nat.{ℕ, zero, suc, ◌+◌, ◌*◌, ◌≤◌}
 use mathlib.Core.Path.{◌≡◌, refl, sym, ◌∙◌, ap}
 use mathlib.Core.Bool.{true, ◌&&◌}
 use mathlib.Core.List.{List, [], ◌∷◌}
 use native.Mathlib.Omega.{arith}
 use native.Mathlib.Decide.{dec_lt}
+use native.Mathlib.Nat.{mul-le-mul_right}
 use lib.ListN.{length, length-append}
 use Rattle.laws.proofs.Tests.{and_left, and_right}
 use Rattle.limits.specs.Limits.{most_steps}
@@ -44,6 +45,10 @@ unfolding pick_steps
 pick_count O n starts ends =
     simp length-append
     (omega (arith, copies_count O 1 (λ o. arc noop n (starts o) ∷ []) (λ o. refl), copies_count O 1 (λ o. arc noop (ends o) (starts O) ∷ []) (λ o. refl)))
+
+-- a product of two numbers of 16 bits, or two more
+pub product_low : (a b : ℕ) → a ≤ 65535 → b ≤ 65537 → a * b ≤ 4294967295
+product_low a b h g = omega (arith, mul-le-mul_right b h, g)
 
 -- the copy of a pick's body for object o, where the pick is compiled from n
 abbrev pub copy_of : Counts → List ℕ → Program → ℕ → ℕ → List Step

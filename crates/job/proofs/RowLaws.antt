@@ -1,16 +1,16 @@
 -- Laws of right rows: their fields, and the effects of a move.
 -- Assumes nothing.
 use Prim.Native.Nat.{ℕ, zero, suc, ◌+◌, ◌≤◌, ◌<◌}
-use mathlib.Core.Path.{◌≡◌, refl, ap}
-use mathlib.Core.Bool.{true, false, ◌&&◌, and-false}
+use mathlib.Core.Path.{◌≡◌, refl, ap, ◌∙◌}
+use mathlib.Core.Bool.{Bool, true, false, ◌&&◌, and-false}
 use mathlib.Core.List.{List, [], ◌∷◌}
 use mathlib.Core.Logic.{◌↔◌}
 use native.Mathlib.Omega.{arith}
 use native.Mathlib.Decide.{dec_lt}
 use lib.Dec.{ltb}
 use lib.ListN.{length, get_or, get_or-eq_default}
-use borrow.Author.Tests.{ltb-true}
-use Rattle.std.specs.List.{list_all, zip}
+use borrow.Author.Tests.{ltb-true, lt-ltb}
+use Rattle.std.specs.List.{list_all, zip, enumerate_from}
 use Rattle.laws.proofs.Tests.{never, and_left, and_right}
 use Rattle.laws.proofs.Tables.{pair_at}
 use Rattle.job.specs.Job as J
@@ -34,6 +34,24 @@ within_zip c [] [] e = refl
 within_zip c [] (x ∷ xs) e = absurd (omega arith)
 within_zip c (f ∷ fs) [] e = absurd (omega arith)
 within_zip c (f ∷ fs) (x ∷ xs) e = ap (λ b. ltb x (bound c f) && b) (within_zip c fs xs (omega arith))
+
+-- the number at a field's place is there, and below the field's bound
+abbrev pub right_at : Counts → List ℕ → ℕ × Field → Bool
+right_at c xs p = ltb p.0 (length xs) && ltb (get_or xs p.0 0) (bound c p.1)
+
+placed : (c : Counts) (all : List ℕ) (k : ℕ) (fs : List Field) (xs : List ℕ) → length all ≡ k + length xs → ((i : ℕ) → get_or all (k + i) 0 ≡ get_or xs i 0)
+    → length fs ≡ length xs → list_all (right_at c all) (enumerate_from k fs) ≡ list_all (λ (p : Field × ℕ). ltb p.1 (bound c p.0)) (zip fs xs)
+placed c all k [] xs m g e = refl
+placed c all k (f ∷ fs) [] m g e = absurd (omega arith)
+placed c all k (f ∷ fs) (x ∷ xs) m g e =
+    let h : get_or all k 0 ≡ x = ap (λ (j : ℕ). get_or all j 0) (omega arith) ∙ g 0 in
+    let t : ltb k (length all) ≡ true = lt-ltb k (length all) (omega arith) in
+    let more : (i : ℕ) → get_or all (k + 1 + i) 0 ≡ get_or xs i 0 = λ i. ap (λ (j : ℕ). get_or all j 0) (omega arith) ∙ g (suc i) in
+    rw (h, t, placed c all (k + 1) fs xs (omega arith) more (omega arith))
+
+-- and so takes each field with the number at its place
+pub within_placed : (c : Counts) (fs : List Field) (xs : List ℕ) → length fs ≡ length xs → list_all (right_at c xs) (enumerate_from 0 fs) ≡ within c fs xs
+within_placed c fs xs e = placed c xs 0 fs xs (omega arith) (λ i. ap (λ (j : ℕ). get_or xs j 0) (omega arith)) e ∙ within_zip c fs xs e
 
 -- and is false where there are more of either
 pub within_uneven : (c : Counts) (fs : List Field) (xs : List ℕ) → (length fs ≡ length xs → ⊥) → within c fs xs ≡ false

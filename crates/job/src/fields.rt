@@ -93,10 +93,11 @@ fn within(fields: &[Field], numbers: &[u16], counts: Counts) -> bool
     ensures { result ≡ within counts fields.now numbers.now }
 {
     fields.len() == numbers.len()
-        && fields
-            .iter()
-            .zip(numbers)
-            .all(|(f, n)| u32::from(*n) < bound(*f, counts))
+        && fields.iter().enumerate().all(|(i, f)| {
+            numbers
+                .get(i)
+                .is_some_and(|n| u32::from(*n) < bound(*f, counts))
+        })
 }
 
 // Whether a formula refers to facts and earlier formulas alone: its numbers are kind, a and b.

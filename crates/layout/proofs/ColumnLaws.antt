@@ -4,7 +4,9 @@ use Rattle.std.proofs.Common.{◌≡◌, ℕ, ◌+◌, ◌-◌, ◌≤◌, ◌<�
 use Rattle.std.specs.Fmt as printed
 use Rattle.std.proofs.Math.ListN.{length-replicate, replicate-append-replicate}
 use Rattle.std.proofs.lemmas.List.{drop_all}
+use native.Mathlib.Decide.{dec_lt}
 use Rattle.text.specs.Written.{decimal}
+use Rattle.text.proofs.DecimalLaws.{digit_length, tens_length}
 use Rattle.text.proofs.PrintedDecimal.{printed_decimal}
 use Rattle.layout.specs.Column.{spaces, column}
 
@@ -22,6 +24,9 @@ column_wider width n h =
 pub column_length : (width n : ℕ) → length (decimal n) ≤ width → length (column width n) ≡ width
 unfolding column
 column_length width n h = length-append (spaces (width - length (decimal n))) (decimal n) ∙ omega (arith, spaces_length (width - length (decimal n)))
+
+pub decimal_some : (n : ℕ) → 1 ≤ length (decimal n)
+decimal_some n = elim (dec_lt n 10) [ yes h ↦ omega (arith, digit_length n h) | no h ↦ omega (arith, tens_length n (omega arith)) ]
 
 -- the digits at the end, and spaces in front
 pub column_set : (n start : ℕ) (old mid : List ℕ) {front : List ℕ} → n < 2 ^ 64 → length mid ≡ length old → start + length (printed.decimal n) ≡ length old
