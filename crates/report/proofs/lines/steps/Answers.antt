@@ -1,9 +1,12 @@
 use Rattle.std.proofs.Common.{arith}
+use Rattle.std.proofs.lemmas.List.{length-take}
 use Rattle.report.proofs.StepLaws.{step_put, steps_put}
 use Rattle.report.proofs.lines.steps.Goals as goal
 
 pub returns-clause-text : goal.returns-clause-text
-returns-clause-text c = steps_put c.args.list.now c.as_chunks.result.0.now c.loop-kind.kind-index _ _ c.loop-kind.invariant.text (omega (arith, c.as_chunks.ensures.front_len))
+returns-clause-text c =
+    let all = c.as_chunks in
+    steps_put c.args.list.now all.result.0.now c.loop-kind.kind-index _ _ c.loop-kind.invariant.text (grind (arith, length-take, all.ensures.front_len))
 
 pub loop-kind-preserved : goal.loop-kind-preserved
 loop-kind-preserved c =
