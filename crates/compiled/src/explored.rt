@@ -32,8 +32,8 @@ pub struct Made {
 }
 
 // What is known of what a move gives: that it can't be made, the state after it and its cost, or
-// nothing yet. It takes eight bytes. The first variant is told by the first test: in the bench's
-// `improving` most moves that a sweep meets can't be made.
+// nothing yet. It takes eight bytes. The first variant is told by the first test, and most moves that
+// a sweep meets in the bench's `improving` can't be made.
 #[derive(Clone, Copy)]
 enum Kept {
     Stuck,

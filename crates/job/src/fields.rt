@@ -88,7 +88,7 @@ fn bound(field: Field, counts: Counts) -> u32
     }
 }
 
-// Whether there are as many numbers as fields, each below the bound of its own.
+// Whether there are as many numbers as fields, and at each field's place one below its bound.
 fn within(fields: &[Field], numbers: &[u16], counts: Counts) -> bool
     ensures { result ≡ within counts fields.now numbers.now }
 {

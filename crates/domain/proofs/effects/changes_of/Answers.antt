@@ -1,4 +1,4 @@
-use Rattle.std.proofs.Common.{◌+◌, arith, ap}
+use Rattle.std.proofs.Common.{◌+◌, rules, tests, arith, ap}
 use Rattle.job.specs.Job.{Effect}
 use Rattle.job.specs.StoredTask.{stored_job}
 use Rattle.job.proofs.StoredLaws.{effect_count_lem, effect_fact}
@@ -17,5 +17,5 @@ loop-k-preserved c =
     let k = c.args.made.first + c.loop-k.k in
     let small = effect_fact t.stored k (omega arith) in
     changed_more t.head.counts.facts c.args.values.now (stored_job t).effects c.args.made.first c.loop-k.k (omega arith)
-    c.effect_at-effect.ensures (rw (ap (λ (e : Effect). e.fact) c.effect_at-effect.ensures) small) c.value_at-on.ensures _ _ _ _ c.loop-k.invariant
+    c.effect_at-effect.ensures (rw (ap (λ (e : Effect). e.fact) c.effect_at-effect.ensures) small) (search (rules, tests)) _ _ _ _ c.loop-k.invariant
     c.fact_where-cleared.ensures c.fact_where-set.ensures
