@@ -13,15 +13,15 @@ use load::request::Request;
 
 // Loads the texts and, unless they, the list or the table are refused, writes the steps of the
 // compiled job over the front of the list, four numbers each.
-pub(crate) fn prepare<'a>(
+pub(crate) fn prepare<'a, 'e>(
     request: Request,
     text: &[u8],
     plan: &[u8],
     costs: &[u8],
     rows: &'a mut [u16],
-    entries: &'a mut ArrayVec<u16, ENTRIES>,
+    entries: &'e mut ArrayVec<u16, ENTRIES>,
     list: &mut [u16],
-) -> Result<LoadedOffer<'a>, Refusal>
+) -> Result<LoadedOffer<'a, 'e>, Refusal>
     requires { (length rows.old ≡ store_size) × (request.places ≡ length list.old) }
     ensures { Prepares (record { request = request; job = text.now; plan = plan.now; costs = costs.now }) result
         list.old list.new }

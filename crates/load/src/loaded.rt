@@ -35,9 +35,10 @@ impl LoadedJob<'_> {
     }
 }
 
-// A loaded job, and the entries of a plan that is offered for it.
+// A loaded job, and the entries of a plan that is offered for it. Rows and entries are lent each for
+// a time of their own, so the job may outlive the entries.
 #[derive(Clone, Copy)]
-pub struct LoadedOffer<'a> {
+pub struct LoadedOffer<'a, 'e> {
     pub job: LoadedJob<'a>,
-    pub entries: &'a [u16],
+    pub entries: &'e [u16],
 }

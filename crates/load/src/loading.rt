@@ -11,14 +11,14 @@ use job::refusal::Refusal;
 use limits::ENTRIES;
 
 // Reasons 1 to 8.
-pub fn load<'a>(
+pub fn load<'a, 'e>(
     request: Request,
     text: &[u8],
     plan: &[u8],
     costs: &[u8],
     rows: &'a mut [u16],
-    entries: &'a mut ArrayVec<u16, ENTRIES>,
-) -> Result<LoadedOffer<'a>, Refusal>
+    entries: &'e mut ArrayVec<u16, ENTRIES>,
+) -> Result<LoadedOffer<'a, 'e>, Refusal>
     requires { length rows.old ≡ store_size }
     ensures { Loads (record { request = request; job = text.now; plan = plan.now; costs = costs.now }) result }
 {
